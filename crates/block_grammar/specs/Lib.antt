@@ -1,0 +1,5 @@
+pub mod CompactSize
+pub mod Transaction
+pub mod Header
+pub mod Block
+pub mod NotBuilt
