@@ -1,0 +1,5 @@
+pub mod Lists
+pub mod Splitting
+pub mod Runs
+pub mod Refusals
+pub mod Streaming

@@ -1,0 +1,47 @@
+-- The chain of blocks that an index follows.
+use Rattle.std.specs.Prelude.{◌≡◌, ℕ, ◌+◌, ◌≤◌, List, [], ◌∷◌, ◌++◌, length, replicate}
+use Rattle.block_grammar.specs.Header.{block_hash}
+
+-- where the index starts: the height and the hash of the block before the first one that it is given
+pub record Base : Type 0 where
+  pub height : ℕ
+  pub hash : List ℕ
+
+-- a base, and the blocks on it, the newest first
+pub record Chain : Type 0 where
+  pub base : Base
+  pub blocks : List (List ℕ)
+
+-- no chain is higher
+abbrev pub highest : ℕ
+highest = 2000000000
+
+-- no block is longer
+abbrev pub longest_block : ℕ
+longest_block = 8388608
+
+abbrev pub height_of : Chain → ℕ
+height_of chain = chain.base.height + length chain.blocks
+
+-- the hash of the newest block, or the base's
+abbrev pub newest_hash : Base → List (List ℕ) → List ℕ
+newest_hash base [] = base.hash
+newest_hash base (block ∷ blocks) = block_hash block
+
+abbrev pub tip_hash : Chain → List ℕ
+tip_hash chain = newest_hash chain.base chain.blocks
+
+abbrev pub on_base : Base → Chain
+on_base base = record { base = base; blocks = [] }
+
+abbrev pub with_block : Chain → List ℕ → Chain
+with_block chain block = record { base = chain.base; blocks = block ∷ chain.blocks }
+
+-- the hashes of the blocks, the oldest first
+abbrev pub hashes_of : List (List ℕ) → List (List ℕ)
+hashes_of [] = []
+hashes_of (block ∷ blocks) = hashes_of blocks ++ block_hash block ∷ []
+
+-- a regression-test chain from its very beginning: what a replay starts from while there are no files
+abbrev pub regtest_base : Base
+regtest_base = record { height = 0; hash = replicate 32 0 }
