@@ -1,0 +1,5 @@
+pub mod Readers
+pub mod Sizes
+pub mod Transactions
+pub mod Fronts
+pub mod Blocks

@@ -3,3 +3,5 @@ pub mod Transaction
 pub mod Header
 pub mod Block
 pub mod NotBuilt
+pub mod Reading
+pub mod Examples

@@ -1,9 +1,9 @@
 -- The forms of a block that aren't built yet: merge-mining parts, transactions with a witness, names.
-use Rattle.std.specs.Prelude.{◌≡◌, ℕ, ◌<◌, ◌≤◌, ◌^◌, Bool, true, false, ◌||◌, ◌&&◌, ◌==◌, nat_le, List, [], ◌∷◌, ◌++◌, length, take, IsTrue, ◌⊎◌}
+use Rattle.std.specs.Prelude.{◌≡◌, ℕ, ◌<◌, ◌≤◌, ◌^◌, Bool, false, ◌||◌, ◌&&◌, ◌==◌, nat_le, List, [], ◌∷◌, ◌++◌, length, take, IsTrue}
 use Rattle.std.specs.List.{flat_map, list_any, AllByRecursion}
 use Rattle.std.specs.Int.{w32, from_le_bytes}
 use Rattle.block_grammar.specs.CompactSize.{compact_size}
-use Rattle.block_grammar.specs.Transaction.{TxOutput, Transaction, FitsTransaction, transaction_text}
+use Rattle.block_grammar.specs.Transaction.{Transaction, FitsTransaction, transaction_text}
 use Rattle.block_grammar.specs.Header.{Header, FitsHeader, IsMerged, header_text}
 use Rattle.block_grammar.specs.Block.{Block, IsPlainBlock}
 

@@ -2,4 +2,3 @@ pub mod Lists
 pub mod Splitting
 pub mod Runs
 pub mod Refusals
-pub mod Streaming

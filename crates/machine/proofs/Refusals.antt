@@ -16,7 +16,7 @@ one_refusal chain bytes r s hr hs =
     elim (cases_lt (order_of r) (order_of s)) [
       | inl below ↦ absurd (hs.first r below hr.holds)
       | inr above ↦ elim (cases_lt (order_of s) (order_of r)) [
-          | inl below ↦ absurd (hr.first s below hs.holds)
-          | inr same ↦ same_order chain bytes r s hr.holds hs.holds (omega arith)
-        ]
+        | inl below ↦ absurd (hr.first s below hs.holds)
+        | inr same ↦ same_order chain bytes r s hr.holds hs.holds (omega arith)
+      ]
     ]

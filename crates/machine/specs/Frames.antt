@@ -29,14 +29,14 @@ IsFramed (Connect block) = IsLength connect_kind (length block)
 pub data IsBadFrame (bytes : List ℕ) : Type 0 where
   unknown_kind : (kind : ℕ) (rest : List ℕ) → bytes ≡ kind ∷ rest → ¬ (IsKind kind) → IsBadFrame bytes
   wrong_length : (kind n : ℕ) (rest : List ℕ) → bytes ≡ kind ∷ (to_le_bytes w32 n ++ rest) → n < 2 ^ 32
-    → IsKind kind → ¬ (IsLength kind n) → IsBadFrame bytes
+      → IsKind kind → ¬ (IsLength kind n) → IsBadFrame bytes
 
 -- less than a whole frame: nothing, a kind with a part of the length, or a part of the payload
 pub data IsPartialFrame (bytes : List ℕ) : Type 0 where
   nothing : bytes ≡ [] → IsPartialFrame bytes
   header_cut : (kind : ℕ) (rest : List ℕ) → bytes ≡ kind ∷ rest → IsKind kind → length rest < 4 → IsPartialFrame bytes
   payload_cut : (kind n : ℕ) (payload : List ℕ) → bytes ≡ kind ∷ (to_le_bytes w32 n ++ payload)
-    → IsKind kind → IsLength kind n → length payload < n → IsPartialFrame bytes
+      → IsKind kind → IsLength kind n → length payload < n → IsPartialFrame bytes
 
 abbrev pub frames : List Event → List ℕ
 frames events = flat_map frame events

@@ -4,4 +4,3 @@ pub mod Refusal
 pub mod Reply
 pub mod Step
 pub mod Frames
-pub mod Streams

@@ -14,19 +14,16 @@ pub fn one_splitting()
     ensures { (bytes : List ℕ) (events others : List Event) (rest left : List ℕ)
         → Splits bytes events rest → IsRest rest → Splits bytes others left → IsRest left
         → (events ≡ others) × (rest ≡ left) }
-{
-}
+{}
 
 /// What a run leaves is the surviving chain of the events that weren't answered with want of memory.
 pub fn surviving_chain()
     ensures { (old new : Chain) (events : List Event) (replies : List Reply)
         → Run old events replies new → Surviving old (answered events replies) new }
-{
-}
+{}
 
 /// A connect has one refusal at most on a chain: the order of the conditions decides.
 pub fn one_refusal()
     ensures { (chain : Chain) (bytes : List ℕ) (refusal other : Refusal)
         → Refuses chain bytes refusal → Refuses chain bytes other → refusal ≡ other }
-{
-}
+{}

@@ -1,0 +1,25 @@
+-- Small texts, written out.
+use Rattle.std.specs.Prelude.{ℕ, List, [], ◌∷◌, ◌++◌, replicate}
+use Rattle.block_grammar.specs.Transaction.{Transaction}
+
+-- one input that spends nothing, and one output of 50 with the script OP_1
+abbrev pub tiny_transaction : Transaction
+tiny_transaction = record {
+  version = 1;
+  inputs = record { txid = replicate 32 0; index = 0xFFFF_FFFF; script = []; sequence = 0xFFFF_FFFE } ∷ [];
+  outputs = record { value = 50; script = 0x51 ∷ [] } ∷ [];
+  lock_time = 0x0102;
+}
+
+abbrev pub tiny_text : List ℕ
+tiny_text =
+    (1 ∷ 0 ∷ 0 ∷ 0 ∷ [])
+    ++ ((1 ∷ [])
+    ++ (replicate 32 0
+    ++ ((0xFF ∷ 0xFF ∷ 0xFF ∷ 0xFF ∷ [])
+    ++ ((0 ∷ [])
+    ++ ((0xFE ∷ 0xFF ∷ 0xFF ∷ 0xFF ∷ [])
+    ++ ((1 ∷ [])
+    ++ ((50 ∷ 0 ∷ 0 ∷ 0 ∷ 0 ∷ 0 ∷ 0 ∷ 0 ∷ [])
+    ++ ((1 ∷ 0x51 ∷ [])
+    ++ (2 ∷ 1 ∷ 0 ∷ 0 ∷ [])))))))))

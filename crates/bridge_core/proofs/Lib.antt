@@ -1,0 +1,13 @@
+pub mod Tips
+pub mod Judging
+pub mod Turning
+pub mod Buffers
+pub mod Delivering
+pub mod Fillings
+pub mod Fronts
+pub mod Progress
+pub mod Following
+pub mod Endings
+pub mod Walk
+pub mod Forms
+pub mod OneWord

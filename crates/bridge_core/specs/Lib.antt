@@ -1,0 +1,13 @@
+pub mod Accepted
+pub mod Views
+pub mod BlockForm
+pub mod BlockFront
+pub mod Bridge
+pub mod Front
+pub mod Causes
+pub mod Delivery
+pub mod Filling
+pub mod Transcript
+pub mod Answering
+pub mod Words
+pub mod StatusNumber

@@ -1,0 +1,106 @@
+ghost use Rattle.std.specs.Prelude.{◌≡◌, ◌≤◌, ◌^◌, [], IfOk};
+ghost use Rattle.machine.specs.Chain.{on_base, regtest_base};
+ghost use Rattle.byte_io.specs.Faults.{NeverFell};
+ghost use Rattle.bridge_core.specs.Bridge.{StandsFor};
+ghost use Rattle.bridge_core.specs.Transcript.{Transcript};
+ghost use Rattle.bridge_core.specs.Causes.{SourceCause, SinkCause};
+
+use crate::answering::{Halt, answer_all};
+use crate::bridge::Bridge;
+use crate::frame_buffer::{FrameBuffer, PIECE};
+use crate::reply::ReplyBuf;
+use crate::status::Status;
+use byte_io::{Sink, Source};
+use nmc_base::NoMemory;
+use std::alloc::Global;
+
+/// All that a replay keeps: its memory is taken at once, but for the hashes of accepted blocks.
+#[derive(Drop)]
+struct Follower {
+    bridge: Bridge,
+    frames: FrameBuffer,
+    reply: ReplyBuf,
+}
+
+fn start(alloc: Global) -> Result<Follower, NoMemory>
+    ensures { IfOk result (λ r. StandsFor r.bridge (on_base regtest_base) × (r.frames ≡ [])) }
+{
+    Ok(Follower {
+        bridge: Bridge::at_base(alloc)?,
+        frames: FrameBuffer::new(alloc)?,
+        reply: ReplyBuf::new(alloc)?,
+    })
+}
+
+/// Reads frames and answers each before the next piece is read, up to the end, a fault or the limit.
+fn follow<S: Source, K: Sink>(
+    alloc: Global,
+    follower: Follower,
+    source: &mut S,
+    sink: &mut K,
+    limit: u64,
+) -> Status
+    requires limit { limit ≤ 2 ^ 40 }
+    requires base { StandsFor follower.bridge (on_base regtest_base) }
+    requires empty { follower.frames ≡ [] }
+    ensures transcript { Transcript (S.left source.old) (S.left source.new) (K.taken sink.old) (K.taken sink.new) limit
+        (SourceCause S.faults S.failed source.old source.new) (SinkCause K.faults K.failed K.stalled sink.old sink.new) result }
+    ensures source_later { NeverFell (S.faults source.old) (S.faults source.new) }
+    ensures sink_later { NeverFell (K.faults sink.old) (K.faults sink.new) }
+{
+    let Follower {
+        mut bridge,
+        mut frames,
+        mut reply,
+    } = follower;
+    let mut read: u64 = 0;
+    'pieces: loop {
+        let (next, halt) = answer_all(alloc, bridge, &mut frames, &mut reply, sink);
+        bridge = next;
+        let pending = frames.pending().len() as u64;
+        match halt {
+            Halt::Undelivered => return Status::SinkFault,
+            Halt::Bad => {
+                return Status::BadFrame {
+                    offset: read - pending,
+                };
+            }
+            Halt::Partial => {}
+        }
+        if read >= limit {
+            return Status::InputLimit;
+        }
+        let most = (limit - read).min(PIECE as u64) as usize;
+        match frames.fill(source, most) {
+            Err(_) => return Status::SourceFault,
+            Ok(count) => {
+                if count == 0 {
+                    if pending == 0 {
+                        return Status::Done;
+                    }
+                    return Status::CutFrame {
+                        offset: read - pending,
+                    };
+                }
+                read += count as u64;
+            }
+        }
+    }
+}
+
+/// Reads connect frames from the source, at most `limit` bytes, and answers each on the sink.
+///
+/// The source is read in pieces of at most 65,536 bytes, each only where every whole frame before it was
+/// answered. Want of memory ends it before anything is read; in a command it is the reply's code FE.
+pub fn replay<S: Source, K: Sink>(alloc: Global, source: &mut S, sink: &mut K, limit: u64) -> Status
+    requires { limit ≤ 2 ^ 40 }
+    ensures transcript { Transcript (S.left source.old) (S.left source.new) (K.taken sink.old) (K.taken sink.new) limit
+        (SourceCause S.faults S.failed source.old source.new) (SinkCause K.faults K.failed K.stalled sink.old sink.new) result }
+    ensures source_later { NeverFell (S.faults source.old) (S.faults source.new) }
+    ensures sink_later { NeverFell (K.faults sink.old) (K.faults sink.new) }
+{
+    match start(alloc) {
+        Ok(follower) => follow(alloc, follower, source, sink, limit),
+        Err(NoMemory) => Status::NoMemory,
+    }
+}

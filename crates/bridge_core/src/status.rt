@@ -1,0 +1,57 @@
+ghost use Rattle.std.specs.Prelude.{◌≡◌};
+ghost use Rattle.bridge_core.specs.StatusNumber.{number_of};
+
+use std::fmt;
+
+/// How a command ended. It is displayed as its line on standard error; that of `Done` is empty.
+#[derive(Clone, Copy, PartialEq, Eq, Debug)]
+pub enum Status {
+    /// The source was read to its end, and every byte belongs to a whole frame.
+    Done,
+    /// The words are none of the forms.
+    Words,
+    /// What begins no frame starts at this byte of the source.
+    BadFrame { offset: u64 },
+    /// The source ended inside the frame that starts at this byte.
+    CutFrame { offset: u64 },
+    /// The last read failed.
+    SourceFault,
+    /// The last write failed, or took nothing of a piece that isn't empty.
+    SinkFault,
+    /// Memory ran out before anything was read.
+    NoMemory,
+    /// As many bytes as the limit were read.
+    InputLimit,
+}
+
+impl Status {
+    /// The exit status of the program: 0 where the work was done.
+    pub fn number(&self) -> u8
+        ensures { result ≡ number_of self.now }
+    {
+        match self {
+            Status::Done => 0,
+            Status::Words => 2,
+            Status::BadFrame { .. } | Status::CutFrame { .. } => 4,
+            Status::SourceFault => 6,
+            Status::SinkFault => 7,
+            Status::NoMemory => 8,
+            Status::InputLimit => 9,
+        }
+    }
+}
+
+impl fmt::Display for Status {
+    fn fmt<W: fmt::Write>(&self, f: &mut fmt::Formatter<W>) -> fmt::Result {
+        match self {
+            Status::Done => Ok(()),
+            Status::Words => write!(f, "bad words"),
+            Status::BadFrame { offset } => write!(f, "bad frame at {offset}"),
+            Status::CutFrame { offset } => write!(f, "cut frame at {offset}"),
+            Status::SourceFault => write!(f, "read fault"),
+            Status::SinkFault => write!(f, "write fault"),
+            Status::NoMemory => write!(f, "out of memory"),
+            Status::InputLimit => write!(f, "input limit"),
+        }
+    }
+}

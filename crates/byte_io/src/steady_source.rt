@@ -1,0 +1,73 @@
+ghost use Rattle.std.specs.Prelude.{
+  ◌≡◌,
+  ◌++◌,
+  length,
+  min,
+  take,
+  drop,
+  Some,
+  IfOk,
+  IsOk,
+  OnErr,
+  OnOk,
+};
+ghost use Rattle.byte_io.specs.Source.{ReadConsumes, ReadsAtMost};
+ghost use Rattle.fault_counts.specs.Faults.{HasCause, no_faults};
+
+use crate::errors::Failed;
+use crate::front::copy_front;
+use crate::source::Source;
+use std::marker::Model;
+
+/// A source over a slice, which never fails.
+#[derive(Debug, Drop)]
+pub struct SteadySource<'a> {
+    left: &'a [u8],
+}
+
+impl<'a> Model for SteadySource<'a> {
+    ghost use Rattle.std.specs.Prelude.{List, ℕ};
+
+    // the bytes left
+    ghost Value = { List ℕ };
+
+    ghost view = { λ s. s.left.now };
+}
+
+impl<'a> SteadySource<'a> {
+    /// A source of `bytes`.
+    pub fn new(bytes: &'a [u8]) -> SteadySource<'a>
+        ensures { result ≡ bytes.now }
+    {
+        SteadySource { left: bytes }
+    }
+}
+
+impl<'a> Source for SteadySource<'a> {
+    ghost use Rattle.std.specs.Prelude.{Some};
+    ghost use Rattle.fault_counts.specs.Faults.{no_faults};
+
+    ghost left = { λ s. Some s };
+
+    ghost faults = { λ _. no_faults };
+
+    ghost failed = { λ _. ⊥ };
+
+    /// Reads as many bytes as there are, up to the length of `buf`, and never fails.
+    fn read(&mut self, buf: &mut [u8]) -> Result<usize, Failed>
+        ensures bound { ReadsAtMost result buf.new }
+        ensures bytes { ReadConsumes (Some self.old) (Some self.new) result buf.new }
+        ensures failed { OnErr result ⊥ }
+        ensures worked { OnOk result (¬ ⊥) }
+        ensures cause { HasCause no_faults no_faults result }
+
+        ensures ok { IsOk result }
+        ensures amount { IfOk result (λ n. n ≡ min (length self.old) (length buf.old)) }
+        ensures buffer { IfOk result (λ n. buf.new ≡ take n self.old ++ drop n buf.old) }
+    {
+        let count = copy_front(self.left, buf);
+        let (_, left) = self.left.split_at(count);
+        self.left = left;
+        Ok(count)
+    }
+}

@@ -1,0 +1,62 @@
+ghost use Rattle.std.specs.Prelude.{◌≡◌, ◌++◌, [], IfOk, OnOk, OnErr};
+
+use crate::no_memory::NoMemory;
+use std::alloc::Global;
+use std::marker::Model;
+
+/// A list of bytes that grows at its end. Contracts see the list.
+#[derive(Drop)]
+pub struct Bytes {
+    held: Vec<u8>,
+}
+
+impl Model for Bytes {
+    ghost use Rattle.std.specs.Prelude.{List, ℕ};
+
+    ghost Value = { List ℕ };
+
+    ghost view = { λ b. b.held.items };
+}
+
+impl Bytes {
+    /// The empty list. It takes no memory.
+    pub fn new(alloc: Global) -> Bytes
+        ensures { result ≡ [] }
+    {
+        Bytes {
+            held: Vec::new(alloc),
+        }
+    }
+
+    /// A list of the same bytes.
+    pub fn copy_of(alloc: Global, bytes: &[u8]) -> Result<Bytes, NoMemory>
+        ensures { IfOk result (λ b. b ≡ bytes.now) }
+    {
+        let mut copy = Bytes::new(alloc);
+        copy.extend(bytes)?;
+        Ok(copy)
+    }
+
+    /// Appends the piece. Where memory runs out, the list stays as it was.
+    pub fn extend(&mut self, piece: &[u8]) -> Result<(), NoMemory>
+        ensures ok { OnOk result (self.new ≡ self.old ++ piece.now) }
+        ensures err { OnErr result (self.new ≡ self.old) }
+    {
+        self.held.extend_from_slice(piece)?;
+        Ok(())
+    }
+
+    /// Empties the list. It keeps its memory.
+    pub fn clear(&mut self)
+        ensures { self.new ≡ [] }
+    {
+        self.held.clear();
+    }
+
+    /// The bytes of the list.
+    pub fn as_slice(&self) -> &[u8]
+        ensures { result.now ≡ self.now }
+    {
+        self.held.as_slice()
+    }
+}

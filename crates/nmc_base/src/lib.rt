@@ -1,0 +1,17 @@
+//! What every layer of the index speaks of: hashes, outpoints, the tip and the base of a chain, want of memory, lists of bytes and lists with spare room.
+#![tactic(auto)]
+
+mod byte_list;
+mod chain_ends;
+mod hashes;
+mod no_memory;
+mod roomy_list;
+
+pub use byte_list::Bytes;
+pub use chain_ends::{Base, Profile, Tip};
+pub use hashes::{Hash20, Hash32, OutPoint};
+pub use no_memory::NoMemory;
+pub use roomy_list::{RoomyList, Words};
+
+#[cfg(test)]
+mod tests;
