@@ -11,3 +11,4 @@ pub mod Endings
 pub mod Walk
 pub mod Forms
 pub mod OneWord
+pub mod Outcomes

@@ -11,3 +11,4 @@ pub mod Transcript
 pub mod Answering
 pub mod Words
 pub mod StatusNumber
+pub mod Outcome

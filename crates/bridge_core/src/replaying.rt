@@ -1,9 +1,10 @@
 ghost use Rattle.std.specs.Prelude.{◌≡◌, ◌≤◌, ◌^◌, [], IfOk};
 ghost use Rattle.machine.specs.Chain.{on_base, regtest_base};
-ghost use Rattle.byte_io.specs.Faults.{NeverFell};
+ghost use Rattle.byte_io.specs.Faults.{NeverFell, Rose};
 ghost use Rattle.bridge_core.specs.Bridge.{StandsFor};
 ghost use Rattle.bridge_core.specs.Transcript.{Transcript};
 ghost use Rattle.bridge_core.specs.Causes.{SourceCause, SinkCause};
+ghost use Rattle.bridge_core.specs.Outcome.{IsDetermined, IsComplete};
 
 use crate::answering::{Halt, answer_all};
 use crate::bridge::Bridge;
@@ -88,11 +89,8 @@ fn follow<S: Source, K: Sink>(
     }
 }
 
-/// Reads connect frames from the source, at most `limit` bytes, and answers each on the sink.
-///
-/// The source is read in pieces of at most 65,536 bytes, each only where every whole frame before it was
-/// answered. Want of memory ends it before anything is read; in a command it is the reply's code FE.
-pub fn replay<S: Source, K: Sink>(alloc: Global, source: &mut S, sink: &mut K, limit: u64) -> Status
+/// A replay whose contract is its transcript alone.
+fn followed<S: Source, K: Sink>(alloc: Global, source: &mut S, sink: &mut K, limit: u64) -> Status
     requires { limit ≤ 2 ^ 40 }
     ensures transcript { Transcript (S.left source.old) (S.left source.new) (K.taken sink.old) (K.taken sink.new) limit
         (SourceCause S.faults S.failed source.old source.new) (SinkCause K.faults K.failed K.stalled sink.old sink.new) result }
@@ -103,4 +101,23 @@ pub fn replay<S: Source, K: Sink>(alloc: Global, source: &mut S, sink: &mut K, l
         Ok(follower) => follow(alloc, follower, source, sink, limit),
         Err(NoMemory) => Status::NoMemory,
     }
+}
+
+/// Reads connect frames from the source, at most `limit` bytes, and answers each on the sink.
+///
+/// The source is read in pieces of at most 65,536 bytes, each only where every whole frame before it was
+/// answered. Want of memory ends it before anything is read; in a command it is the reply's code FE.
+pub fn replay<S: Source, K: Sink>(alloc: Global, source: &mut S, sink: &mut K, limit: u64) -> Status
+    requires { limit ≤ 2 ^ 40 }
+    ensures transcript { Transcript (S.left source.old) (S.left source.new) (K.taken sink.old) (K.taken sink.new) limit
+        (SourceCause S.faults S.failed source.old source.new) (SinkCause K.faults K.failed K.stalled sink.old sink.new) result }
+    // Where nothing failed, the bytes and the limit decide the status, or memory ran out.
+    ensures determined { IsDetermined (S.left source.old) limit (Rose (S.faults source.old) (S.faults source.new))
+        (Rose (K.faults sink.old) (K.faults sink.new)) (K.stalled sink.new) result }
+    ensures complete { IsComplete (S.left source.old) limit (Rose (S.faults source.old) (S.faults source.new))
+        (Rose (K.faults sink.old) (K.faults sink.new)) (K.stalled sink.new) result }
+    ensures source_later { NeverFell (S.faults source.old) (S.faults source.new) }
+    ensures sink_later { NeverFell (K.faults sink.old) (K.faults sink.new) }
+{
+    followed(alloc, source, sink, limit)
 }
