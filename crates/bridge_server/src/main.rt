@@ -1,0 +1,47 @@
+//! The program: it follows the frames on standard input, and answers them on standard output.
+#![tactic(auto)]
+
+mod reader_source;
+mod writer_sink;
+
+use bridge_core::{Status, run};
+use nmc_base::{Bytes, NoMemory, Words};
+use reader_source::ReaderSource;
+use std::process::ExitCode;
+use std::rt::Env;
+use std::{env, io};
+use writer_sink::WriterSink;
+
+/// What the program was called with: the words behind its name, or none where they are no text.
+fn words_of(rt: &(impl Env + AllocGlobal)) -> Result<Words, NoMemory> {
+    let mut words = Words::new(rt.alloc());
+    let args = match env::args(rt) {
+        Ok(args) => args,
+        Err(error) if error.kind() == io::ErrorKind::OutOfMemory => return Err(NoMemory),
+        Err(_) => return Ok(words),
+    };
+    for arg in args.skip(1) {
+        words.reserve(1)?;
+        words.push(Bytes::copy_of(rt.alloc(), arg.as_bytes())?);
+    }
+    Ok(words)
+}
+
+fn status_of(rt: &HostRuntime) -> Status {
+    match words_of(rt) {
+        Ok(words) => {
+            let mut source = ReaderSource::new(rt.reader());
+            let mut sink = WriterSink::new(io::writer(rt));
+            run(rt.alloc(), &words, &mut source, &mut sink)
+        }
+        Err(NoMemory) => Status::NoMemory,
+    }
+}
+
+fn main(rt: HostRuntime) -> ExitCode {
+    let status = status_of(&rt);
+    if status != Status::Done {
+        let _ = eprintln!(rt; "{status}");
+    }
+    ExitCode::from(status.number())
+}
