@@ -1,0 +1,5 @@
+pub mod Absorbing
+pub mod Digests
+pub mod Lengths
+pub mod Lines
+pub mod Padding
