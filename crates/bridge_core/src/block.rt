@@ -99,6 +99,7 @@ fn any_name(outputs: Outputs<'_>) -> bool
     false
 }
 
+/// Whether the transaction may carry a name.
 fn may_name(tx: &Tx<'_>) -> bool
     ensures { result ≡ may_carry_name tx.now }
 {

@@ -23,3 +23,6 @@ pub use refusal::Refusal;
 pub use replaying::replay;
 pub use reply::ReplyBuf;
 pub use status::Status;
+
+#[cfg(test)]
+mod block_tests;
