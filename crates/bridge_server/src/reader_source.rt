@@ -1,3 +1,5 @@
+ghost use Rattle.std.specs.Prelude.{◌≡◌, false};
+
 use byte_io::{Failed, Source};
 use std::io::Read;
 
@@ -10,7 +12,10 @@ pub(crate) struct ReaderSource<R> {
 }
 
 impl<R> ReaderSource<R> {
-    pub(crate) fn new(reader: R) -> Self {
+    /// No read was made yet.
+    pub(crate) fn new(reader: R) -> Self
+        ensures { result ≡ record { reader = reader; faults = 0; failed = false } }
+    {
         ReaderSource {
             reader,
             faults: 0,

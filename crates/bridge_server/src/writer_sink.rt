@@ -1,3 +1,5 @@
+ghost use Rattle.std.specs.Prelude.{◌≡◌, false};
+
 use byte_io::{Failed, Sink};
 use std::io::Write;
 
@@ -11,7 +13,10 @@ pub(crate) struct WriterSink<W> {
 }
 
 impl<W> WriterSink<W> {
-    pub(crate) fn new(writer: W) -> Self {
+    /// No write was made yet.
+    pub(crate) fn new(writer: W) -> Self
+        ensures { result ≡ record { writer = writer; faults = 0; failed = false; stalled = false } }
+    {
         WriterSink {
             writer,
             faults: 0,
