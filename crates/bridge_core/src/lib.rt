@@ -25,4 +25,4 @@ pub use reply::ReplyBuf;
 pub use status::Status;
 
 #[cfg(test)]
-mod block_tests;
+mod tests;

@@ -1,5 +1,5 @@
 -- Two lists that are each a front and a rest.
-use Rattle.std.proofs.Common.{◌≡◌, ℕ, List, [], ◌∷◌, ◌++◌, length, take, drop, refl, sym, ap, ◌∙◌}
+use Rattle.std.proofs.Common.{◌≡◌, List, ◌++◌, length, take, drop, refl, sym, ap, ◌∙◌}
 use Rattle.std.proofs.lemmas.List.{take_at, drop_at}
 
 pub record SameParts {A : Type 0} (a x b y : List A) : Type 0 where

@@ -1,5 +1,5 @@
 -- A connect has one refusal at most, and none where it is valid.
-use Rattle.std.proofs.Common.{◌≡◌, ℕ, ◌<◌, ◌≤◌, List, refl, ap, ◌∙◌, sym, arith, inl, inr}
+use Rattle.std.proofs.Common.{◌≡◌, ℕ, List, refl, ap, ◌∙◌, sym, arith, inl, inr}
 use Rattle.std.proofs.lemmas.Bool.{cases_lt}
 use Rattle.machine.specs.Chain.{Chain}
 use Rattle.machine.specs.Refusal.{Refusal, NotBuilt, BadBlock, NotOnTip, HeightLimit, Holds, order_of, Refuses}

@@ -1,10 +1,10 @@
 -- Runs go on by one step, and what they leave is the surviving chain.
-use Rattle.std.proofs.Common.{◌≡◌, ℕ, Bool, true, false, cond, eqb, List, [], ◌∷◌, ◌++◌, refl, sym, ap, subst, ◌∙◌}
+use Rattle.std.proofs.Common.{◌≡◌, true, false, eqb, List, [], ◌∷◌, ◌++◌, refl, ap, subst, ◌∙◌}
 use Rattle.machine.specs.Chain.{Chain}
-use Rattle.machine.specs.Event.{Event, Connect}
+use Rattle.machine.specs.Event.{Event}
 use Rattle.machine.specs.Refusal.{Refusal, NotBuilt, BadBlock, NotOnTip, HeightLimit}
 use Rattle.machine.specs.Reply.{Reply, refusal_reply}
-use Rattle.machine.specs.Step.{Step, accepts, declines, lacks_memory, Run, Survives, joins, stays, Surviving, answered}
+use Rattle.machine.specs.Step.{Step, accepts, declines, lacks_memory, Run, joins, stays, Surviving, answered}
 
 pub run_push : (old : Chain) (events : List Event) (replies : List Reply) (mid : Chain) (event : Event) (reply : Reply) (new : Chain)
     → Run old events replies mid → Step mid event reply new → Run old (events ++ event ∷ []) (replies ++ reply ∷ []) new

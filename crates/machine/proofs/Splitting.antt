@@ -1,14 +1,13 @@
 -- Bytes are whole frames and a rest in one way.
 use Rattle.std.proofs.Common.{◌≡◌, ℕ, ◌+◌, ◌<◌, ◌≤◌, ◌^◌, List, [], ◌∷◌, ◌++◌, length, refl, sym, ap, subst, ◌∙◌, append_assoc, length-append, arith}
-use Rattle.std.specs.List.{flat_map, AllByRecursion}
+use Rattle.std.specs.List.{AllByRecursion}
 use Rattle.std.specs.Int.{w32, to_le_bytes, from_le_bytes}
 use Rattle.std.proofs.lemmas.Nat.{from_le_bytes-to_le_bytes_4}
 use Rattle.std.proofs.lemmas.List.{flat_map_more, append-nil}
-use Rattle.std.proofs.lemmas.List.Concat.{flat_map-cons}
 use Rattle.machine.specs.Chain.{longest_block}
 use Rattle.machine.specs.Event.{Event, Connect}
-use Rattle.machine.specs.Frames.{connect_kind, IsKind, IsLength, framed, frame, frames, IsFramed, IsBadFrame, unknown_kind, wrong_length, IsPartialFrame, nothing, header_cut, payload_cut, Splits, IsRest, bad, partial}
-use Rattle.machine.proofs.Lists.{SameParts, same_parts}
+use Rattle.machine.specs.Frames.{connect_kind, framed, frame, frames, IsFramed, IsBadFrame, unknown_kind, wrong_length, IsPartialFrame, nothing, header_cut, payload_cut, Splits, IsRest, bad, partial}
+use Rattle.machine.proofs.Lists.{same_parts}
 
 same_number : (m n : ℕ) → m < 2 ^ 32 → n < 2 ^ 32 → to_le_bytes w32 m ≡ to_le_bytes w32 n → m ≡ n
 same_number m n fm fn e = sym (from_le_bytes-to_le_bytes_4 m fm) ∙ ap (from_le_bytes w32) e ∙ from_le_bytes-to_le_bytes_4 n fn

@@ -1,5 +1,5 @@
 -- The chain of blocks that an index follows.
-use Rattle.std.specs.Prelude.{◌≡◌, ℕ, ◌+◌, ◌≤◌, List, [], ◌∷◌, ◌++◌, length, replicate}
+use Rattle.std.specs.Prelude.{ℕ, ◌+◌, List, [], ◌∷◌, ◌++◌, length, replicate}
 use Rattle.block_grammar.specs.Header.{block_hash}
 
 -- where the index starts: the height and the hash of the block before the first one that it is given
