@@ -1,7 +1,7 @@
 -- A text that is given to a sink, write by write.
-use Rattle.std.proofs.Common.{◌≡◌, ℕ, ◌+◌, ◌<◌, ◌≤◌, List, [], ◌∷◌, ◌++◌, length, take, drop, Option, Some, None, Ok, Err, refl, sym, ap, subst, ◌∙◌, append_assoc, arith}
+use Rattle.std.proofs.Common.{◌≡◌, ℕ, ◌<◌, List, [], ◌++◌, length, take, drop, Option, Ok, refl, sym, ap, subst, ◌∙◌, append_assoc}
 use Rattle.std.proofs.lemmas.List.{append-nil, take-append-drop, nil_from_length}
-use Rattle.byte_io.specs.Faults.{Faults, NeverFell, Rose}
+use Rattle.byte_io.specs.Faults.{Faults, NeverFell}
 use Rattle.byte_io.specs.Sink.{HasTaken, WriteTakes}
 use Rattle.fault_counts.proofs.FaultLemmas.{NeverFell_refl, NeverFell_trans, stayed_then_Rose}
 use Rattle.bridge_core.specs.Causes.{SinkCause, failing, stalling}

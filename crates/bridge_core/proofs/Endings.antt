@@ -1,10 +1,9 @@
 -- How a replay ends.
-use Rattle.std.proofs.Common.{◌≡◌, ℕ, ◌+◌, ◌-◌, ◌<◌, ◌≤◌, List, [], ◌∷◌, ◌++◌, length, Option, Some, None, refl, sym, ap, subst, ◌∙◌, length-append, arith}
+use Rattle.std.proofs.Common.{◌≡◌, ℕ, ◌-◌, ◌<◌, ◌≤◌, List, [], ◌++◌, length, Option, Some, None, ap, subst, ◌∙◌, arith}
 use Rattle.std.proofs.lemmas.List.{append-nil, nil_from_length}
-use Rattle.fault_counts.proofs.FaultLemmas.{NeverFell_trans, stayed_then_Rose}
-use Rattle.byte_io.specs.Faults.{Faults, NeverFell}
+use Rattle.fault_counts.proofs.FaultLemmas.{stayed_then_Rose}
+use Rattle.byte_io.specs.Faults.{Faults}
 use Rattle.byte_io.specs.Source.{HasRead}
-use Rattle.byte_io.specs.Sink.{HasTaken}
 use Rattle.byte_io.proofs.SourceLemmas.{HasRead_append}
 use Rattle.byte_io.proofs.SinkLemmas.{HasTaken_append}
 use Rattle.machine.specs.Frames.{IsBadFrame, IsPartialFrame}

@@ -1,14 +1,14 @@
 -- A read into a part of a buffer.
-use Rattle.std.proofs.Common.{◌≡◌, ℕ, ◌+◌, ◌-◌, ◌<◌, ◌≤◌, List, [], ◌∷◌, ◌++◌, length, take, drop, Option, Some, None, Result, Ok, Err, refl, sym, ap, subst, ◌∙◌, arith}
+use Rattle.std.proofs.Common.{◌≡◌, ℕ, ◌+◌, ◌<◌, ◌≤◌, List, ◌++◌, length, take, drop, Option, Some, None, Result, Ok, Err, sym, ap, subst, ◌∙◌, arith}
 use Rattle.std.specs.Prelude.{OnErr}
 use Rattle.std.proofs.lemmas.List.{drop_at, take-append-le, length-take-le}
 use Rattle.std.proofs.lemmas.Slice.{take-put_mid_below}
 use borrow.Rule.Slice.PartMut.{put_mid, mid_of, post_of, same_len_mid}
-use Rattle.byte_io.specs.Faults.{Faults, NeverFell, Rose, HasCause}
+use Rattle.byte_io.specs.Faults.{Faults, HasCause}
 use Rattle.byte_io.specs.Source.{ReadsAtMost, ReadConsumes, HasRead}
 use Rattle.byte_io.specs.declared.errors.Failed.{Failed}
 use Rattle.byte_io.proofs.SourceLemmas.{HasRead_read, HasRead_failed, nothing_left}
-use Rattle.bridge_core.specs.Filling.{AtEnd, ReadsPiece, ReadFails, Reads}
+use Rattle.bridge_core.specs.Filling.{AtEnd, Reads}
 
 piece_at : (at k n : ℕ) (before buffer : List ℕ) → at ≤ length before → n ≤ length buffer → take n (drop at (put_mid at k before buffer)) ≡ take n buffer
 piece_at at k n before buffer inside within =

@@ -1,7 +1,6 @@
 -- A replay, piece by piece.
-use Rattle.std.proofs.Common.{◌≡◌, ℕ, ◌+◌, ◌-◌, ◌<◌, ◌≤◌, List, [], ◌∷◌, ◌++◌, length, Option, Some, None, refl, sym, ap, subst, ◌∙◌, length-append, arith}
-use Rattle.std.proofs.lemmas.List.{append-nil, nil_from_length}
-use Rattle.fault_counts.proofs.FaultLemmas.{NeverFell_refl, NeverFell_trans, stayed_then_Rose}
+use Rattle.std.proofs.Common.{◌≡◌, ℕ, ◌+◌, ◌≤◌, List, [], ◌++◌, length, Option, refl, sym, ap, subst, length-append, arith}
+use Rattle.fault_counts.proofs.FaultLemmas.{NeverFell_refl, NeverFell_trans}
 use Rattle.byte_io.specs.Faults.{Faults, NeverFell}
 use Rattle.byte_io.specs.Source.{HasRead}
 use Rattle.byte_io.specs.Sink.{HasTaken}
@@ -9,16 +8,12 @@ use Rattle.byte_io.proofs.SourceLemmas.{HasRead_nothing, HasRead_append}
 use Rattle.byte_io.proofs.SinkLemmas.{HasTaken_nothing, HasTaken_append}
 use Rattle.std.specs.Int.{w32, to_le_bytes}
 use Rattle.machine.specs.Chain.{on_base, regtest_base}
-use Rattle.machine.specs.Frames.{frames, Splits, IsBadFrame, IsPartialFrame, nothing, header_cut, payload_cut}
+use Rattle.machine.specs.Frames.{frames, Splits, IsPartialFrame, nothing, header_cut, payload_cut}
 use Rattle.machine.proofs.Splitting.{splits_nothing, splits_more}
 use Rattle.bridge_core.specs.Accepted.{Accepted}
 use Rattle.bridge_core.specs.Bridge.{StandsFor}
-use Rattle.bridge_core.specs.Causes.{SourceCause, SinkCause}
-use Rattle.bridge_core.specs.Filling.{AtEnd, FillsPiece, FillFails}
-use Rattle.bridge_core.specs.Answering.{SoFar, Continues, HaltsAt, Breaks}
-use Rattle.bridge_core.specs.Transcript.{Answered, Transcript}
-use Rattle.bridge_core.specs.declared.status.Status.TheVariants.{Done, BadFrame, CutFrame, SourceFault, SinkFault, InputLimit}
-use Rattle.bridge_core.proofs.Delivering.{since}
+use Rattle.bridge_core.specs.Filling.{FillsPiece}
+use Rattle.bridge_core.specs.Answering.{SoFar, Continues}
 
 -- what was read and written since the start, and the run that it stands for
 pub record IsAt {S K : Type 0} (left : S → Option (List ℕ)) (source_faults : S → Faults) (taken : K → Option (List ℕ)) (sink_faults : K → Faults) (source source' : S) (sink sink' : K) (limit count : ℕ) (rest : List ℕ) (bridge : Accepted) : Type 0 where

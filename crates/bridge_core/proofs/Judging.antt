@@ -1,9 +1,9 @@
 -- When a plain block has a refusal, and when it has none.
-use Rattle.std.proofs.Common.{◌≡◌, ◌≢◌, ℕ, ◌<◌, ◌≤◌, List, refl, sym, ap, ◌∙◌, length, length-append, arith}
+use Rattle.std.proofs.Common.{◌≡◌, ℕ, ◌<◌, ◌≤◌, List, sym, ap, ◌∙◌, length, length-append, arith}
 use Rattle.block_grammar.proofs.Blocks.{one_plain_block}
 use Rattle.block_grammar.specs.Transaction.{transaction_text, counted_list}
 use Rattle.block_grammar.specs.Header.{Header, FitsHeader, header_text}
-use Rattle.block_grammar.specs.Block.{Block, IsPlainBlock, block_text}
+use Rattle.block_grammar.specs.Block.{Block, block_text}
 use Rattle.machine.specs.Chain.{Chain, tip_hash, height_of, highest}
 use Rattle.machine.specs.Refusal.{Refusal, NotBuilt, BadBlock, NotOnTip, HeightLimit, IsOffTip, Holds, order_of, Refuses, IsValid}
 use Rattle.bridge_core.specs.BlockForm.{IsPlainOn}

@@ -1,5 +1,5 @@
 -- A list with a first item and no second.
-use Rattle.std.proofs.Common.{◌≡◌, ℕ, List, [], ◌∷◌, Option, Some, None, refl, ap}
+use Rattle.std.proofs.Common.{◌≡◌, ℕ, List, [], ◌∷◌, Some, None, ap}
 use Rattle.std.specs.Prelude.{slice_get}
 
 some_is : (a b : List ℕ) → Some a ≡ Some b → a ≡ b

@@ -1,21 +1,18 @@
 -- Frames that are answered one after the other.
-use Rattle.std.proofs.Common.{◌≡◌, ℕ, ◌+◌, ◌<◌, ◌≤◌, List, [], ◌∷◌, ◌++◌, length, take, drop, Option, refl, sym, ap, subst, ◌∙◌, append_assoc, length-append, arith}
-use Rattle.std.specs.List.{flat_map}
+use Rattle.std.proofs.Common.{◌≡◌, ℕ, ◌<◌, List, [], ◌∷◌, ◌++◌, length, drop, Option, refl, sym, ap, subst, ◌∙◌, append_assoc, length-append, arith}
 use Rattle.std.proofs.lemmas.List.{append-nil, drop_at, flat_map_more}
 use Rattle.fault_counts.proofs.FaultLemmas.{NeverFell_refl, NeverFell_trans}
-use Rattle.byte_io.specs.Faults.{Faults, NeverFell}
-use Rattle.byte_io.specs.Sink.{HasTaken}
+use Rattle.byte_io.specs.Faults.{Faults}
 use Rattle.byte_io.proofs.SinkLemmas.{HasTaken_nothing, HasTaken_append}
 use Rattle.machine.specs.Chain.{on_base, regtest_base}
 use Rattle.machine.specs.Event.{Event}
-use Rattle.machine.specs.Reply.{Reply, reply_text, replies_text}
-use Rattle.machine.specs.Frames.{frame, IsFramed, Splits, IsBadFrame, IsPartialFrame, nothing}
+use Rattle.machine.specs.Reply.{Reply, reply_text}
+use Rattle.machine.specs.Frames.{frame, Splits, IsBadFrame, IsPartialFrame, nothing}
 use Rattle.machine.proofs.Splitting.{partial_is_shorter, splits_push}
 use Rattle.machine.proofs.Runs.{run_push}
 use Rattle.bridge_core.specs.Accepted.{Accepted}
 use Rattle.bridge_core.specs.Bridge.{Turns}
 use Rattle.bridge_core.specs.Front.{BeginsWith}
-use Rattle.bridge_core.specs.Causes.{SinkCause}
 use Rattle.bridge_core.specs.Delivery.{TookAll, TookPart}
 use Rattle.bridge_core.specs.Transcript.{Interrupted}
 use Rattle.bridge_core.specs.Answering.{SoFar, IsBehind, Advances, none, some, Grows, Continues, Stops, Breaks, HaltsAt, AnswersOne, AnswersAll}

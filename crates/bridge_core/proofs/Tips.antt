@@ -1,5 +1,5 @@
 -- The newest hash of the list is that of the chain's tip.
-use Rattle.std.proofs.Common.{◌≡◌, ℕ, zero, suc, ◌+◌, ◌-◌, ◌<◌, ◌≤◌, List, [], ◌∷◌, ◌++◌, length, map, Option, Some, None, refl, sym, ap, subst, ◌∙◌, arith, inl, inr}
+use Rattle.std.proofs.Common.{◌≡◌, ℕ, zero, suc, ◌+◌, ◌-◌, ◌<◌, List, [], ◌∷◌, ◌++◌, length, map, Some, None, refl, sym, ap, ◌∙◌, arith, inl, inr}
 use Rattle.std.proofs.lemmas.Bool.{cases_lt}
 use Rattle.std.specs.Prelude.{slice_get}
 use Rattle.std.specs.Option.{option_map}
@@ -7,8 +7,7 @@ use Rattle.std.proofs.lemmas.Option.{slice_get-map, slice_get_past, get_or_from_
 use Rattle.std.proofs.lemmas.List.{length-map, get_or_push, length_push, map_push}
 use Rattle.block_grammar.specs.Header.{block_hash}
 use Rattle.nmc_base.specs.declared.hashes.Hash32.{Hash32}
-use Rattle.nmc_base.specs.declared.chain_ends.Tip.{Tip}
-use Rattle.machine.specs.Chain.{Base, Chain, newest_hash, hashes_of, with_block, tip_hash, height_of}
+use Rattle.machine.specs.Chain.{Base, Chain, newest_hash, hashes_of, with_block, height_of}
 use Rattle.bridge_core.specs.Accepted.{Accepted}
 use Rattle.bridge_core.specs.Bridge.{StandsFor, IsTip}
 

@@ -4,12 +4,12 @@ use Rattle.std.specs.Int.{w32, to_le_bytes}
 use Rattle.block_grammar.specs.Header.{block_hash}
 use Rattle.nmc_base.specs.declared.hashes.Hash32.{Hash32}
 use Rattle.nmc_base.specs.declared.chain_ends.Tip.{Tip}
-use Rattle.machine.specs.Chain.{Chain, with_block, height_of, tip_hash}
+use Rattle.machine.specs.Chain.{with_block, height_of}
 use Rattle.machine.specs.Event.{Connect}
 use Rattle.machine.specs.Reply.{Reply, accepted_reply}
 use Rattle.machine.specs.Step.{accepts}
 use Rattle.bridge_core.specs.Accepted.{Accepted}
-use Rattle.bridge_core.specs.Bridge.{StandsFor, IsTipOf, IsFit, Turns}
+use Rattle.bridge_core.specs.Bridge.{IsTipOf, IsFit, Turns}
 use Rattle.bridge_core.proofs.Tips.{stands_with}
 
 abbrev told : ℕ → List ℕ → Reply

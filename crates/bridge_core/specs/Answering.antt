@@ -1,5 +1,5 @@
 -- What came of answering the frames in a buffer.
-use Rattle.std.specs.Prelude.{◌≡◌, ℕ, ◌<◌, List, [], ◌∷◌, ◌++◌, length, Option, Some, None}
+use Rattle.std.specs.Prelude.{◌≡◌, ℕ, ◌<◌, List, ◌++◌, length, Option, Some, None}
 use Rattle.machine.specs.Chain.{Chain, on_base, regtest_base}
 use Rattle.machine.specs.Event.{Event}
 use Rattle.machine.specs.Reply.{Reply, replies_text}

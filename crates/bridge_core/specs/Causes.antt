@@ -1,5 +1,4 @@
 -- The causes of a fault of a source or a sink.
-use Rattle.std.specs.Prelude.{ℕ}
 use Rattle.byte_io.specs.Faults.{Faults, Rose}
 
 -- the last read failed, and the count of faults rose

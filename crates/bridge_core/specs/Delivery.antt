@@ -1,6 +1,6 @@
 -- What came of giving a text to a sink.
-use Rattle.std.specs.Prelude.{◌≡◌, ℕ, ◌<◌, List, ◌++◌, length, Option, Result, Ok, Err, ◌⊎◌}
-use Rattle.byte_io.specs.Faults.{Faults, NeverFell, Rose}
+use Rattle.std.specs.Prelude.{◌≡◌, ℕ, ◌<◌, List, ◌++◌, length, Option, Result, Ok, Err}
+use Rattle.byte_io.specs.Faults.{Faults, NeverFell}
 use Rattle.byte_io.specs.Sink.{HasTaken}
 use Rattle.bridge_core.specs.Causes.{SinkCause}
 

@@ -1,5 +1,5 @@
 -- What came of one read into a buffer.
-use Rattle.std.specs.Prelude.{◌≡◌, ℕ, ◌+◌, ◌-◌, ◌<◌, ◌≤◌, List, [], ◌++◌, length, take, drop, Option, Some, None, Result, Ok, Err}
+use Rattle.std.specs.Prelude.{◌≡◌, ℕ, ◌-◌, ◌<◌, ◌≤◌, List, [], ◌++◌, length, take, drop, Option, Some, None, Result, Ok, Err}
 use Rattle.byte_io.specs.Faults.{Faults, NeverFell}
 use Rattle.bridge_core.specs.Causes.{SourceCause}
 use Rattle.byte_io.specs.Source.{HasRead}

@@ -7,8 +7,6 @@ use Rattle.machine.specs.Step.{Run}
 use Rattle.machine.specs.Frames.{Splits, IsBadFrame, IsPartialFrame}
 use Rattle.byte_io.specs.Source.{HasRead}
 use Rattle.byte_io.specs.Sink.{HasTaken}
-use Rattle.bridge_core.specs.Accepted.{Accepted}
-use Rattle.bridge_core.specs.Bridge.{StandsFor}
 use Rattle.bridge_core.specs.Filling.{AtEnd}
 use Rattle.bridge_core.specs.declared.status.Status.{Status}
 use Rattle.bridge_core.specs.declared.status.Status.TheVariants.{Done, Words, BadFrame, CutFrame, SourceFault, SinkFault, NoMemory, InputLimit}

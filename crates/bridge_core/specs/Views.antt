@@ -1,5 +1,5 @@
 -- What the types of the code are in the machine.
-use Rattle.std.specs.Prelude.{ℕ, List, ◌≤◌, length}
+use Rattle.std.specs.Prelude.{◌≤◌, length}
 use Rattle.machine.specs.Chain.{longest_block}
 use Rattle.machine.specs.Event as machine
 use Rattle.machine.specs.Refusal as refusals

@@ -1,4 +1,4 @@
-use Rattle.std.proofs.Common.{◌≡◌, List, ℕ, length, drop, ap, ◌∙◌}
+use Rattle.std.proofs.Common.{◌≡◌, ℕ, length, drop, ap, ◌∙◌}
 use Rattle.machine.specs.Frames.{frame}
 use Rattle.bridge_core.specs.Views.{event_of}
 use Rattle.bridge_core.proofs.Progress.{stays, answered_one, broke}

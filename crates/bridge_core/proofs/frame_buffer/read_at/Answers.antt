@@ -1,4 +1,4 @@
-use Rattle.std.proofs.Common.{◌≡◌, ◌+◌, ◌-◌, length, drop, length-drop, arith}
+use Rattle.std.proofs.Common.{◌+◌, ◌-◌, drop, length-drop, arith}
 use Rattle.std.proofs.lemmas.List.{length-take}
 use Rattle.bridge_core.proofs.Fillings.{lands}
 use Rattle.bridge_core.proofs.frame_buffer.read_at.Goals as goal

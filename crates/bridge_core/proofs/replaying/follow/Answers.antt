@@ -1,4 +1,4 @@
-use Rattle.std.proofs.Common.{◌≡◌, ℕ, ◌-◌, length, ap, subst, arith}
+use Rattle.std.proofs.Common.{length, ap, arith}
 use Rattle.bridge_core.specs.Causes.{SourceCause, SinkCause}
 use Rattle.bridge_core.proofs.Following.{begins, moves, left_within, reads_on}
 use Rattle.bridge_core.proofs.Endings.{at_bad_frame, at_limit, at_sink, at_source, at_end, in_frame}

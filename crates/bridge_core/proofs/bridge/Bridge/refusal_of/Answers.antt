@@ -1,5 +1,5 @@
 use Rattle.std.proofs.Common.{◌≡◌, ◌≤◌, ◌<◌, ◌∙◌, rules, arith}
-use Rattle.machine.specs.Chain.{tip_hash, height_of, highest}
+use Rattle.machine.specs.Chain.{height_of, highest}
 use Rattle.bridge_core.proofs.Judging.{too_high, is_valid, header_there}
 use Rattle.bridge_core.proofs.bridge.Bridge.refusal_of.Goals as goal
 

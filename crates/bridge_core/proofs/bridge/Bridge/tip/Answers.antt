@@ -1,6 +1,5 @@
-use Rattle.std.proofs.Common.{◌≡◌, ◌-◌, length, Some, None, sym, ap, ◌∙◌, arith, rules}
+use Rattle.std.proofs.Common.{◌≡◌, ◌-◌, length, Some, None, rules}
 use Rattle.std.specs.Prelude.{slice_get}
-use Rattle.bridge_core.specs.Bridge.{StandsFor, IsTipOf}
 use Rattle.bridge_core.proofs.Tips.{tip_with_hash, tip_at_base}
 use Rattle.bridge_core.proofs.bridge.Bridge.tip.Goals as goal
 
