@@ -10,5 +10,5 @@ pub mod Filling
 pub mod Transcript
 pub mod Answering
 pub mod Words
-pub mod StatusNumber
+pub mod Statuses
 pub mod Outcome

@@ -51,7 +51,8 @@ fn hash_of(block: &[u8]) -> Hash32
 impl Bridge {
     /// The bridge over a regression-test chain from its beginning: height 0, and a hash of 32 zero bytes.
     pub fn at_base(alloc: Global) -> Result<Bridge, NoMemory>
-        ensures { IfOk result (λ bridge. StandsFor bridge (on_base regtest_base)) }
+        ensures stands { IfOk result (λ bridge. StandsFor bridge (on_base regtest_base)) }
+        ensures profile { IfOk result (λ bridge. bridge.base.profile ≡ Profile.Regtest) }
     {
         Ok(Bridge {
             base: Base {

@@ -1,5 +1,5 @@
-ghost use Rattle.std.specs.Prelude.{◌≡◌};
-ghost use Rattle.bridge_core.specs.StatusNumber.{number_of};
+ghost use Rattle.std.specs.Prelude.{◌≡◌, Some};
+ghost use Rattle.bridge_core.specs.Statuses.{number_of, line_of};
 
 use std::fmt;
 
@@ -42,6 +42,8 @@ impl Status {
 }
 
 impl fmt::Display for Status {
+    ghost output = { λ s. Some (line_of s) };
+
     fn fmt<W: fmt::Write>(&self, f: &mut fmt::Formatter<W>) -> fmt::Result {
         match self {
             Status::Done => Ok(()),
