@@ -1,0 +1,3 @@
+pub mod NameScript
+pub mod Reading
+pub mod Seen
