@@ -1,4 +1,6 @@
-ghost use Rattle.std.specs.Prelude.{◌≡◌, ◌++◌, [], IfOk, OnOk, OnErr};
+ghost use Rattle.std.specs.Borrow.{Array, Lends, sem, u8 as byte};
+ghost use Rattle.std.specs.Prelude.{◌≡◌, ◌++◌, [], drop, length, replicate, take, IfOk, OnOk, OnErr};
+ghost use Rattle.nmc_base.specs.contracts.byte_list.Bytes.{the_row};
 
 use crate::no_memory::NoMemory;
 use std::alloc::Global;
@@ -51,6 +53,24 @@ impl Bytes {
         ensures { self.new ≡ [] }
     {
         self.held.clear();
+    }
+
+    /// Makes it a list of so many zero bytes. Where memory runs out, the list is empty.
+    pub fn zeros(&mut self, count: usize) -> Result<(), NoMemory>
+        ensures ok { OnOk result (self.new ≡ replicate count 0) }
+        ensures err { OnErr result (self.new ≡ []) }
+    {
+        self.held.truncate(0);
+        self.held.resize(count, 0)?;
+        Ok(())
+    }
+
+    /// The bytes of the list, to be written over.
+    pub fn as_mut_slice(&mut self) -> &mut [u8]
+        ensures* lends { sem 𝓛 (Lends the_row (Array byte 0) self.entry result (λ w. take (length self.entry.now) (w ++ drop (length w) self.entry.now))) }
+        ensures value { result.now ≡ self.old }
+    {
+        self.held.as_mut_slice()
     }
 
     /// The bytes of the list.

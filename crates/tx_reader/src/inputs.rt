@@ -1,11 +1,19 @@
-ghost use Rattle.std.specs.Prelude.{◌≡◌, Some, IsSome};
+ghost use Rattle.std.specs.Prelude.{◌≡◌, length, Some, IsSome};
 ghost use Rattle.std.specs.Option.{option_map};
 ghost use Rattle.std.specs.Iterator.{YieldsFirstBy, item_count};
 ghost use Rattle.block_grammar.specs.Reading.{many_at, list_at, input_at};
 ghost use Rattle.tx_reader.specs.Parts.{rest_after};
 ghost use Rattle.tx_reader.specs.Fields.{seen_input};
+ghost use Rattle.full_grammar.specs.Combinators.{many_from};
+ghost use Rattle.full_grammar.specs.Reading.{some_from, input_from};
+ghost use Rattle.field_reader.specs.Seen.{seen};
+ghost use Rattle.tx_reader.specs.Rests.{seen_rest, rest_read};
 
 use crate::cursor::{compact_size, counted, hash_at, u32_at};
+use field_reader::{
+    Fault, counted_at, hash_at as whole_hash_at, some_size_at, u32_at as whole_u32_at,
+};
+use full_grammar::TxKind;
 use nmc_base::{Hash32, OutPoint};
 use std::marker::Model;
 
@@ -41,6 +49,13 @@ impl<'a> Model for Inputs<'a> {
 }
 
 impl<'a> Inputs<'a> {
+    /// How many there are.
+    pub(crate) fn how_many(&self) -> u64
+        ensures { result ≡ length self.now }
+    {
+        self.count
+    }
+
     /// The same inputs once more.
     pub(crate) fn again(&self) -> Inputs<'a>
         ensures { result ≡ self.now }
@@ -116,4 +131,46 @@ pub(crate) fn inputs_of(bytes: &[u8]) -> Option<(Inputs<'_>, &[u8])>
     }
     let after = past_inputs(count, rest)?;
     Some((Inputs { count, bytes: rest }, after))
+}
+
+/// The input at the front, or the first fault.
+#[tactic(auto, unfolding(full_grammar::specs::Reading::input_from))]
+fn input_in<'a>(bytes: &'a [u8]) -> Result<(TxIn<'a>, &'a [u8]), Fault<'a>>
+    ensures { seen (λ x. (seen_input x.0, x.1.now)) result ≡ input_from bytes.now }
+{
+    let (txid, rest) = whole_hash_at(bytes)?;
+    let (index, rest) = whole_u32_at(rest)?;
+    let (script, rest) = counted_at(rest)?;
+    let (sequence, rest) = whole_u32_at(rest)?;
+    let previous = OutPoint {
+        txid: Hash32(txid),
+        index,
+    };
+    let input = TxIn {
+        previous,
+        script,
+        sequence,
+    };
+    Ok((input, rest))
+}
+
+/// The bytes after so many inputs.
+fn behind_inputs<'a>(count: u64, bytes: &'a [u8]) -> Result<&'a [u8], Fault<'a>>
+    ensures { seen_rest (λ rest. rest.now) result ≡ rest_read (many_from input_from count bytes.now) }
+{
+    let mut rest = bytes;
+    for _ in 0..count {
+        let (_input, after) = input_in(rest)?;
+        rest = after;
+    }
+    Ok(rest)
+}
+
+/// Inputs behind their number, which is 1 at least, or the first fault.
+pub(crate) fn inputs_in<'a>(bytes: &'a [u8]) -> Result<(Inputs<'a>, &'a [u8]), Fault<'a>>
+    ensures { seen (λ x. (x.0, x.1.now)) result ≡ some_from TxKind.NoInput input_from bytes.now }
+{
+    let (count, rest) = some_size_at(TxKind::NoInput, bytes)?;
+    let after = behind_inputs(count, rest)?;
+    Ok((Inputs { count, bytes: rest }, after))
 }

@@ -2,11 +2,15 @@
 #![tactic(auto)]
 
 mod cursor;
+mod full;
 mod inputs;
 mod outputs;
 mod plain;
 mod transaction;
+mod witness;
 
+pub use full::{FullTx, TxFault, read_tx, txid};
+pub use full_grammar::TxKind;
 pub use inputs::{Inputs, TxIn};
 pub use outputs::{Outputs, TxOut};
 pub use plain::{PlainTx, read_plain};

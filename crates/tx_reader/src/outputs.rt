@@ -4,8 +4,14 @@ ghost use Rattle.std.specs.Iterator.{YieldsFirstBy, item_count};
 ghost use Rattle.block_grammar.specs.Reading.{many_at, list_at, output_at};
 ghost use Rattle.tx_reader.specs.Parts.{rest_after};
 ghost use Rattle.tx_reader.specs.Fields.{seen_output};
+ghost use Rattle.full_grammar.specs.Combinators.{many_from};
+ghost use Rattle.full_grammar.specs.Reading.{some_from, output_from};
+ghost use Rattle.field_reader.specs.Seen.{seen};
+ghost use Rattle.tx_reader.specs.Rests.{seen_rest, rest_read};
 
 use crate::cursor::{compact_size, counted, u64_at};
+use field_reader::{Fault, counted_at, some_size_at, u64_at as whole_u64_at};
+use full_grammar::TxKind;
 use std::marker::Model;
 
 /// An output of a transaction (Bitcoin's "txout").
@@ -103,4 +109,35 @@ pub(crate) fn outputs_of(bytes: &[u8]) -> Option<(Outputs<'_>, &[u8])>
     }
     let after = past_outputs(count, rest)?;
     Some((Outputs { count, bytes: rest }, after))
+}
+
+/// The output at the front, or the first fault.
+#[tactic(auto, unfolding(full_grammar::specs::Reading::output_from))]
+fn output_in<'a>(bytes: &'a [u8]) -> Result<(TxOut<'a>, &'a [u8]), Fault<'a>>
+    ensures { seen (λ x. (seen_output x.0, x.1.now)) result ≡ output_from bytes.now }
+{
+    let (value, rest) = whole_u64_at(bytes)?;
+    let (script, rest) = counted_at(rest)?;
+    Ok((TxOut { value, script }, rest))
+}
+
+/// The bytes after so many outputs.
+fn behind_outputs<'a>(count: u64, bytes: &'a [u8]) -> Result<&'a [u8], Fault<'a>>
+    ensures { seen_rest (λ rest. rest.now) result ≡ rest_read (many_from output_from count bytes.now) }
+{
+    let mut rest = bytes;
+    for _ in 0..count {
+        let (_output, after) = output_in(rest)?;
+        rest = after;
+    }
+    Ok(rest)
+}
+
+/// Outputs behind their number, which is 1 at least, or the first fault.
+pub(crate) fn outputs_in<'a>(bytes: &'a [u8]) -> Result<(Outputs<'a>, &'a [u8]), Fault<'a>>
+    ensures { seen (λ x. (x.0, x.1.now)) result ≡ some_from TxKind.NoOutput output_from bytes.now }
+{
+    let (count, rest) = some_size_at(TxKind::NoOutput, bytes)?;
+    let after = behind_outputs(count, rest)?;
+    Ok((Outputs { count, bytes: rest }, after))
 }

@@ -131,3 +131,87 @@ fn reads_shortest_forms_alone(rt: HostRuntime) -> Result<(), Fail> {
     }
     Ok(())
 }
+
+/// A transaction with a witness: two inputs, the second alone with items of witness, and one output.
+const FLAGGED: [u8; 113] = [
+    0x02, 0x00, 0x00, 0x00, 0x00, 0x01, 0x02, 0x07, 0x07, 0x07, 0x07, 0x07, 0x07, 0x07, 0x07, 0x07,
+    0x07, 0x07, 0x07, 0x07, 0x07, 0x07, 0x07, 0x07, 0x07, 0x07, 0x07, 0x07, 0x07, 0x07, 0x07, 0x07,
+    0x07, 0x07, 0x07, 0x07, 0x07, 0x07, 0x07, 0x03, 0x00, 0x00, 0x00, 0x01, 0x51, 0xfd, 0xff, 0xff,
+    0xff, 0x08, 0x08, 0x08, 0x08, 0x08, 0x08, 0x08, 0x08, 0x08, 0x08, 0x08, 0x08, 0x08, 0x08, 0x08,
+    0x08, 0x08, 0x08, 0x08, 0x08, 0x08, 0x08, 0x08, 0x08, 0x08, 0x08, 0x08, 0x08, 0x08, 0x08, 0x08,
+    0x08, 0x00, 0x00, 0x00, 0x00, 0x00, 0xff, 0xff, 0xff, 0xff, 0x01, 0x05, 0x00, 0x00, 0x00, 0x00,
+    0x00, 0x00, 0x00, 0x02, 0x6a, 0x51, 0x00, 0x02, 0x00, 0x03, 0x01, 0x02, 0x03, 0x09, 0x00, 0x00,
+    0x00,
+];
+
+/// Its id, without marker, flag and witness.
+const FLAGGED_ID: [u8; 32] = [
+    0xf5, 0x38, 0x15, 0xd1, 0x6d, 0x38, 0x93, 0x35, 0xd2, 0x48, 0xa7, 0x40, 0xc9, 0x0b, 0x47, 0xc3,
+    0xa9, 0x54, 0x12, 0x2b, 0x5e, 0x94, 0xf3, 0x0d, 0x0a, 0xca, 0xe1, 0x83, 0x1b, 0xcd, 0xef, 0x70,
+];
+
+/// The Merkle root of the first block of the Bitcoin chain, which is the id of its one transaction.
+const COINBASE_ID: [u8; 32] = [
+    0x3b, 0xa3, 0xed, 0xfd, 0x7a, 0x7b, 0x12, 0xb2, 0x7a, 0xc7, 0x2c, 0x3e, 0x67, 0x76, 0x8f, 0x61,
+    0x7f, 0xc8, 0x1b, 0xc3, 0x88, 0x8a, 0x51, 0x32, 0x3a, 0x9f, 0xb8, 0xaa, 0x4b, 0x1e, 0x5e, 0x4a,
+];
+
+#[test]
+fn reads_both_forms(rt: HostRuntime) -> Result<(), Fail> {
+    let (plain, len) = read_tx(&COINBASE).ok().ok_or("a plain transaction")?;
+    assert_eq!(rt; len, 204);
+    assert_eq!(rt; plain.version(), 1);
+    assert_eq!(rt; txid(&plain), Hash32(COINBASE_ID));
+    let mut longer = FLAGGED.to_vec(rt.alloc())?;
+    longer.push(9)?;
+    let (flagged, len) = read_tx(&longer).ok().ok_or("a flagged transaction")?;
+    assert_eq!(rt; len, FLAGGED.len());
+    assert_eq!(rt; flagged.version(), 2);
+    assert_eq!(rt; txid(&flagged), Hash32(FLAGGED_ID));
+    let mut inputs = flagged.inputs();
+    let first = inputs.next().ok_or("an input")?;
+    assert_eq!(rt; first.previous.txid, Hash32([7; 32]));
+    assert_eq!(rt; first.previous.index, 3);
+    assert_eq!(rt; first.script, [0x51].as_slice());
+    assert_eq!(rt; first.sequence, 0xffff_fffd);
+    let second = inputs.next().ok_or("a second input")?;
+    assert!(rt; second.script.is_empty());
+    assert!(rt; inputs.next().is_none());
+    let mut outputs = flagged.outputs();
+    let output = outputs.next().ok_or("an output")?;
+    assert_eq!(rt; output.value, 5);
+    assert_eq!(rt; output.script, [0x6a, 0x51].as_slice());
+    assert!(rt; outputs.next().is_none());
+    Ok(())
+}
+
+/// Whether the bytes have this fault.
+fn has_fault(bytes: &[u8], kind: TxKind, at: usize) -> bool {
+    match read_tx(bytes) {
+        Ok(_) => false,
+        Err(fault) => fault == TxFault { kind, at },
+    }
+}
+
+#[test]
+fn tells_each_fault_and_its_place(rt: HostRuntime) {
+    // The flag, the number of inputs, that of outputs, and that of the last list of the witness.
+    let cases = [
+        (5, 2, TxKind::BadFlag),
+        (6, 0, TxKind::NoInput),
+        (90, 0, TxKind::NoOutput),
+        (103, 0, TxKind::EmptyWitness),
+    ];
+    for (place, byte, kind) in cases {
+        let mut bytes = FLAGGED;
+        bytes[place] = byte;
+        assert!(rt; has_fault(&bytes, kind, place), "at {place}");
+    }
+    assert!(rt; has_fault(&[2, 0, 0, 0, 0xfd, 1, 0, 7], TxKind::LongForm, 6));
+    for len in 0..FLAGGED.len() {
+        assert!(rt; has_fault(&FLAGGED[..len], TxKind::Cut, len), "of {len}");
+    }
+    for len in 0..COINBASE.len() {
+        assert!(rt; has_fault(&COINBASE[..len], TxKind::Cut, len), "of {len}");
+    }
+}

@@ -1,0 +1,6 @@
+pub mod MomentLemmas
+pub mod ImageLemmas
+pub mod CallLemmas
+pub mod KeptLemmas
+pub mod StoredLemmas
+pub mod ReplayLemmas

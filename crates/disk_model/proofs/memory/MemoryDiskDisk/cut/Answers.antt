@@ -1,0 +1,9 @@
+use Rattle.disk_model.specs.Calls.{call_on, cut_failed}
+use Rattle.disk_model.proofs.KeptLemmas.{cut_time, cut_seen}
+use Rattle.disk_model.proofs.memory.MemoryDiskDisk.cut.Goals as goal
+
+pub returns-clause-cut : goal.returns-clause-cut
+returns-clause-cut c = cut_seen c.args.self.now c.keep_cut.new.self c.args.file c.args.len (call_on c.args.file (cut_failed c.args.len)) c.keep_cut.result c.keep_cut.ensures.kept
+
+pub returns-clause-time : goal.returns-clause-time
+returns-clause-time c = cut_time c.args.self.now c.keep_cut.new.self c.args.file c.keep_cut.result c.args.len c.keep_cut.ensures.kept

@@ -1,0 +1,21 @@
+use Rattle.std.proofs.Common.{◌≡◌, ◌<◌, length, map, ◌∙◌, ap, rules}
+use Rattle.std.specs.Prelude.{slice_index_or}
+use Rattle.disk_model.specs.Reads.{seen}
+use Rattle.disk_model.specs.MemoryLog.{DiskLog, moments_of}
+use Rattle.disk_model.proofs.StoredLemmas.{stored_at}
+use Rattle.disk_model.proofs.KeptLemmas.{look_time, look_seen}
+use Rattle.disk_model.proofs.memory.MemoryDiskDisk.len.Goals as goal
+
+pub returns-in_err-look-clause-time : goal.returns-in_err-look-clause-time
+returns-in_err-look-clause-time c = look_time c.args.self.now c.look.new.self c.args.file c.look.result c.look.ensures.kept
+
+pub returns-clause-time : goal.returns-clause-time
+returns-clause-time c = look_time c.args.self.now c.look.new.self c.args.file c.look.result c.look.ensures.kept
+
+pub returns-clause-length : goal.returns-clause-length
+returns-clause-length c =
+    let inside : c.args.file < length c.self.inside.files = search rules in
+    let stored : (slice_index_or c.self.inside.files c.args.file c.index-self-file.result).items ≡ seen (moments_of c.args.self.now) c.args.file =
+    stored_at c.self.inside.files (map (λ v. v.items) c.self.inside.first) c.self.inside.calls.items c.args.file c.index-self-file.result c.self.invariant c.requires inside
+    ∙ ap (λ (log : DiskLog). seen (moments_of log) c.args.file) c.self.view_is ∙ look_seen c.args.self.now c.look.new.self c.args.file c.args.file c.look.result c.look.ensures.kept in
+    search rules

@@ -1,0 +1,10 @@
+pub mod FileState
+pub mod Moments
+pub mod Changes
+pub mod Reads
+pub mod Calls
+pub mod MemoryLog
+pub mod Sound
+pub mod Kept
+pub mod Chosen
+pub mod Replays

@@ -1,0 +1,36 @@
+ghost use Rattle.std.specs.Prelude.{◌≡◌, ◌⊎◌, ℕ, ◌≤◌, List, IsTrue};
+ghost use Rattle.disk_model.specs.FileState.{IsFileImage, IsSettled};
+ghost use Rattle.disk_model.specs.Moments.{Files, Moments, EachMoment, IsImage, LeftSince, clock};
+ghost use Rattle.disk_model.specs.Reads.{seen};
+
+use crate::disk::Disk;
+
+/// A fact about the files of a disk. Contracts give its meaning; it is never called.
+pub trait OfFiles {
+    ghost use Rattle.disk_model.specs.Moments.{Files};
+
+    ghost holds: { Files → Type 0 };
+}
+
+/// The law of moments. Where a fact holds of the files at each moment from an old one to a new one, time
+/// went on, and each image that a crash since an earlier time may have left was there before, or is an
+/// image of files that have the fact.
+pub fn images_of_moments<P: OfFiles>()
+    ensures later { (old new : Moments) → EachMoment P.holds old new → clock old ≤ clock new }
+    ensures kept { (old new : Moments) (time : ℕ) (image : ℕ → List ℕ)
+        → EachMoment P.holds old new → LeftSince old time image → LeftSince new time image }
+    ensures nothing_else { (old new : Moments) (time : ℕ) (image : ℕ → List ℕ)
+        → EachMoment P.holds old new → LeftSince new time image
+        → LeftSince old time image ⊎ ((files : Files) × P.holds files × IsImage files image) }
+{}
+
+/// The law of images. What reads give is one of the images that a crash now may leave, and of a file that
+/// is settled, as after a sync, it is the only one.
+pub fn images_of_a_disk<D: Disk>(disk: &D)
+    ensures reads { IsTrue D.tells → IsImage (D.moments disk.now).now (seen (D.moments disk.now)) }
+    ensures settled { (file : ℕ) (image : List ℕ)
+        → IsSettled ((D.moments disk.now).now file) → IsFileImage ((D.moments disk.now).now file) image
+        → image ≡ seen (D.moments disk.now) file }
+{
+    let _ = disk;
+}

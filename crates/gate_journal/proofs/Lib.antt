@@ -1,0 +1,4 @@
+pub mod WriteLemmas
+pub mod AppendLemmas
+pub mod ReadLemmas
+pub mod RecordLemmas

@@ -1,0 +1,7 @@
+use Rattle.std.proofs.Common.{arith}
+use Rattle.gate_journal.proofs.WriteLemmas.{keeps_written}
+use Rattle.gate_journal.proofs.staged.write_behind.Goals as goal
+
+pub returns-clause-any_moment : goal.returns-clause-any_moment
+returns-clause-any_moment g c = λ tells.
+    keeps_written c.args.file c.args.at (g.D.Disk.moments c.args.disk.now) (g.D.Disk.moments c.write_at.new.self) c.args.at _ (omega arith) (c.write_at.ensures.time tells)

@@ -1,0 +1,5 @@
+pub mod Gate
+pub mod Records
+pub mod Stand
+pub mod Writes
+pub mod Answers

@@ -1,0 +1,27 @@
+-- What the writes of a journal leave at each moment.
+use Rattle.std.specs.Prelude.{◌≡◌, ◌≢◌, ◌⊎◌, ℕ, ◌<◌, ◌≤◌, IsTrue, List, length, slice_index}
+use Rattle.disk_model.specs.FileState.{FileState, IsFileImage}
+use Rattle.disk_model.specs.Moments.{Files}
+use Rattle.disk_model.specs.Changes.{Changes, AfterSync, StaysSettled}
+use Rattle.gate_journal.specs.Gate.{ClosedAfter}
+
+-- the first n bytes stay as they were: what is settled of them stays so
+pub record KeepsBelow (n : ℕ) (old new : FileState) : Type 0 where
+  pub kept : (p : ℕ) → p < n → IsTrue (old.settled p) → StaysSettled old new p
+  pub no_shorter : old.least ≤ new.least
+
+-- each byte but the one at this place is settled, and the file has these bytes there
+pub record IsSettledBut (gate : ℕ) (bytes : List ℕ) (file : FileState) : Type 0 where
+  pub settled : (p : ℕ) → p < length bytes → p ≢ gate → IsTrue (file.settled p)
+  pub same : (p : ℕ) → p < length bytes → p ≢ gate → slice_index file.bytes p ≡ slice_index bytes p
+  pub no_shorter : length bytes ≤ file.least
+  pub no_longer : file.greatest ≤ length bytes
+
+-- A crash at this moment leaves the journal with its text as before or as after, and no other file has changed.
+pub record IsBeforeOrAfter (file : ℕ) (before after : List ℕ) (old files : Files) : Type 0 where
+  pub image : (image : List ℕ) → IsFileImage (files file) image → ClosedAfter before image ⊎ ClosedAfter after image
+  pub others : (other : ℕ) → other ≢ file → files other ≡ old other
+
+-- While a gate is opened: nothing but a sync has come to the file, or each byte but the gate's is settled.
+abbrev pub OpensGate : ℕ → ℕ → List ℕ → Files → Files → Type 0
+OpensGate file gate bytes old files = Changes file AfterSync old files ⊎ Changes file (λ _ new. IsSettledBut gate bytes new) old files

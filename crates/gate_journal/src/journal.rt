@@ -1,0 +1,183 @@
+ghost use Rattle.std.specs.Prelude.{◌≡◌, ◌+◌, ◌-◌, ◌^◌, ◌<◌, ◌≤◌, ◌++◌, ℕ, List, true, false, length, take, IsTrue, OnOk, OnErr, IfOk, IsErrOf, IsFalse};
+ghost use Rattle.fault_counts.specs.Faults.{HasCause, NeverFell, Rose};
+ghost use Rattle.disk_model.specs.FileState.{IsFileImage, IsSettled};
+ghost use Rattle.disk_model.specs.Moments.{EachMoment};
+ghost use Rattle.disk_model.specs.Changes.{Changes, AfterWrite, Unchanged};
+ghost use Rattle.disk_model.specs.Reads.{seen};
+ghost use Rattle.gate_journal.specs.Gate.{ClosedAfter, record_text};
+ghost use Rattle.gate_journal.specs.Stand.{IsAtGate, IsReadable, text_before};
+ghost use Rattle.gate_journal.specs.Answers.{OpenAnswer, NextAnswer};
+ghost use Rattle.gate_journal.specs.Writes.{IsBeforeOrAfter};
+
+use crate::faults::{AppendFault, JournalFault};
+use crate::reading::record_size;
+use crate::staged::{CLOSED, open_gate, write_behind};
+use disk_model::{Disk, Failed};
+use nmc_base::Bytes;
+use std::marker::Model;
+
+/// A journal in a file of a disk, standing at one of its gates.
+///
+/// Its length is the number of bytes of the file up to and including that gate. After a fault of the disk
+/// or a want of memory, give it up and open the file again.
+#[derive(Drop)]
+pub struct Journal {
+    file: u8,
+    length: u64,
+    limit: u64,
+    reached: bool,
+}
+
+impl Model for Journal {
+    ghost use Rattle.std.specs.Prelude.{◌<◌};
+    ghost use Rattle.gate_journal.specs.Stand.{Stand};
+
+    ghost Value = { Stand };
+
+    ghost view = { λ j. record { file = j.file; length = j.length; limit = j.limit; reached = j.reached } };
+
+    ghost invariant = { λ j. (j.file < 3) × (0 < j.length) };
+}
+
+impl Journal {
+    /// The journal of this length whose closed gate, its last byte, counts as reached. The disk is not
+    /// asked.
+    pub fn at_gate(file: u8, length: u64, limit: u64) -> Journal
+        requires file { file < 3 }
+        requires gate { 1 ≤ length }
+        requires within { length ≤ limit }
+        ensures { result ≡ record { file = file; length = length; limit = limit; reached = true } }
+    {
+        Journal {
+            file,
+            length,
+            limit,
+            reached: true,
+        }
+    }
+
+    /// The number of bytes of the file up to and including the gate that the journal has come to.
+    pub fn length(&self) -> u64
+        ensures { result ≡ self.now.length }
+    {
+        self.length
+    }
+
+    /// Begins a journal: writes a closed gate at this place and syncs the file. That gate is reached.
+    pub fn create<D: Disk>(disk: &mut D, file: u8, at: u64, limit: u64) -> Result<Journal, Failed>
+        requires file { file < 3 }
+        requires within { at < limit }
+        requires inside { IsTrue D.tells → at ≤ length (seen (D.moments disk.old) file) }
+        ensures ok { IfOk result (λ journal. journal ≡ record { file = file; length = at + 1; limit = limit; reached = true }) }
+        ensures at_gate { IsTrue D.tells → IfOk result (λ journal. IsAtGate journal ((D.moments disk.new).now file)) }
+        ensures text { IsTrue D.tells → OnOk result (take at (seen (D.moments disk.new) file) ≡ take at (seen (D.moments disk.old) file)) }
+        ensures any_moment { IsTrue D.tells → EachMoment (Changes file (AfterWrite at 1) (D.moments disk.old).now) (D.moments disk.old) (D.moments disk.new) }
+        ensures cause { HasCause (D.faults disk.old) (D.faults disk.new) result }
+    {
+        disk.write_at(file, at, &[CLOSED])?;
+        disk.sync(file)?;
+        Ok(Journal::at_gate(file, at + 1, limit))
+    }
+
+    /// Appends a record of this head and body. A crash at any moment of the call leaves the records from
+    /// before it, with the new one or without; after Ok each crash leaves the new one too.
+    pub fn append<D: Disk>(
+        &mut self,
+        disk: &mut D,
+        head: &[u8],
+        body: &[u8],
+    ) -> Result<(), AppendFault>
+        requires reached { IsTrue self.old.reached }
+        requires at_gate { IsTrue D.tells → IsAtGate self.old ((D.moments disk.old).now self.old.file) }
+        requires short { length head.now ≤ 8 }
+        requires fits { length head.now + length body.now < 2 ^ 32 }
+        ensures ok { OnOk result (self.new ≡ record self.old { length = self.old.length + 5 + length head.now + length body.now }) }
+        ensures err { OnErr result (self.new ≡ self.old) }
+        ensures at_gate { IsTrue D.tells → OnOk result (IsAtGate self.new ((D.moments disk.new).now self.new.file)) }
+        ensures text { IsTrue D.tells → OnOk result (text_before self.new (seen (D.moments disk.new) self.new.file)
+            ≡ text_before self.old (seen (D.moments disk.old) self.old.file) ++ record_text (head.now ++ body.now)) }
+        ensures any_moment { IsTrue D.tells → (let before = text_before self.old (seen (D.moments disk.old) self.old.file) in
+            EachMoment (IsBeforeOrAfter self.old.file before (before ++ record_text (head.now ++ body.now)) (D.moments disk.old).now)
+            (D.moments disk.old) (D.moments disk.new)) }
+        ensures durable { IsTrue D.tells → OnOk result ((image : List ℕ) → IsFileImage ((D.moments disk.new).now self.old.file) image
+            → ClosedAfter (text_before self.old (seen (D.moments disk.old) self.old.file) ++ record_text (head.now ++ body.now)) image) }
+        ensures full { self.old.limit < self.old.length + 5 + length head.now + length body.now → IsErrOf result AppendFault.Full }
+        ensures only_full { IsErrOf result AppendFault.Full → self.old.limit < self.old.length + 5 + length head.now + length body.now }
+        ensures untouched { IsErrOf result AppendFault.Full → disk.new ≡ disk.old }
+        ensures later { NeverFell (D.faults disk.old) (D.faults disk.new) }
+        ensures fault { IsErrOf result AppendFault.DiskFault → Rose (D.faults disk.old) (D.faults disk.new) }
+    {
+        let added = 5 + head.len() as u64 + body.len() as u64;
+        if self.length > self.limit || self.limit - self.length < added {
+            return Err(AppendFault::Full);
+        }
+        write_behind(disk, self.file, self.length, head, body)?;
+        open_gate(disk, self.file, self.length - 1)?;
+        self.length += added;
+        Ok(())
+    }
+
+    /// Opens the journal whose first gate stands at this place. The file was synced and not written since.
+    ///
+    /// The gate is not looked at yet: read the records up to the first closed gate.
+    pub fn open<D: Disk>(
+        disk: &mut D,
+        file: u8,
+        at: u64,
+        limit: u64,
+    ) -> Result<Journal, JournalFault>
+        requires file { file < 3 }
+        requires settled { IsTrue D.tells → IsSettled ((D.moments disk.old).now file) }
+        ensures ok { IfOk result (λ journal. journal ≡ record { file = file; length = at + 1; limit = limit; reached = false }) }
+        ensures answer { IsTrue D.tells → OpenAnswer (seen (D.moments disk.old) file) at result }
+        ensures readable { IsTrue D.tells → IfOk result (λ journal. IsReadable journal ((D.moments disk.new).now file)) }
+        ensures memory { IsErrOf result JournalFault.NoMemory → ⊥ }
+        ensures unchanged { IsTrue D.tells → EachMoment (Unchanged (D.moments disk.old).now) (D.moments disk.old) (D.moments disk.new) }
+        ensures later { NeverFell (D.faults disk.old) (D.faults disk.new) }
+        ensures fault { IsErrOf result JournalFault.DiskFault → Rose (D.faults disk.old) (D.faults disk.new) }
+    {
+        if disk.len(file)? <= at {
+            return Err(JournalFault::Damaged { at });
+        }
+        Ok(Journal {
+            file,
+            length: at + 1,
+            limit,
+            reached: false,
+        })
+    }
+
+    /// Reads the next record, head and body joined, into the list. False at a closed gate, which is then
+    /// reached. A record that does not fit the file or the limit is damage at its gate, and costs no memory.
+    pub fn next_record<D: Disk>(
+        &mut self,
+        disk: &mut D,
+        into: &mut Bytes,
+    ) -> Result<bool, JournalFault>
+        requires readable { IsTrue D.tells → IsReadable self.old ((D.moments disk.old).now self.old.file) }
+        ensures answer { IsTrue D.tells → NextAnswer (seen (D.moments disk.old) self.old.file) self.old self.new into.new result }
+        ensures readable { IsTrue D.tells → OnOk result (IsReadable self.new ((D.moments disk.new).now self.new.file)) }
+        ensures reached { IsTrue D.tells → IfOk result (λ more. IsFalse more → IsAtGate self.new ((D.moments disk.new).now self.new.file)) }
+        ensures closed { IfOk result (λ more. IsFalse more → IsTrue self.new.reached) }
+        ensures text { IsTrue D.tells → IfOk result (λ more. IsTrue more → text_before self.new (seen (D.moments disk.new) self.new.file)
+            ≡ text_before self.old (seen (D.moments disk.old) self.old.file) ++ record_text into.new) }
+        ensures same { (self.new.file ≡ self.old.file) × (self.new.limit ≡ self.old.limit) }
+        ensures unchanged { IsTrue D.tells → EachMoment (Unchanged (D.moments disk.old).now) (D.moments disk.old) (D.moments disk.new) }
+        ensures later { NeverFell (D.faults disk.old) (D.faults disk.new) }
+        ensures fault { IsErrOf result JournalFault.DiskFault → Rose (D.faults disk.old) (D.faults disk.new) }
+    {
+        let gate = self.length - 1;
+        let Some(size) = record_size(disk, self.file, gate, self.limit)? else {
+            self.reached = true;
+            return Ok(false);
+        };
+        into.zeros(size as usize)?;
+        let count = disk.read(self.file, gate + 5, into.as_mut_slice())?;
+        if (count as u64) < size {
+            return Err(JournalFault::Damaged { at: gate });
+        }
+        self.length += 5 + size;
+        self.reached = false;
+        Ok(true)
+    }
+}

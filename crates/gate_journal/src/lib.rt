@@ -1,0 +1,15 @@
+//! A journal of records in a file: each record counts once the gate before it is open.
+#![tactic(auto)]
+
+mod faults;
+mod journal;
+mod law;
+mod reading;
+mod staged;
+
+pub use faults::{AppendFault, JournalFault};
+pub use journal::Journal;
+pub use law::{image_and_records_of_an_area, records_of_a_journal};
+
+#[cfg(test)]
+mod tests;

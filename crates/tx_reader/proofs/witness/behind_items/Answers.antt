@@ -1,0 +1,7 @@
+use Rattle.std.proofs.Common.{sym}
+use Rattle.full_grammar.specs.Reading.{counted_from}
+use Rattle.tx_reader.proofs.Many.{one_more}
+use Rattle.tx_reader.proofs.witness.behind_items.Goals as goal
+
+pub loop-preserved : goal.loop-preserved
+loop-preserved c = one_more counted_from c.args.count c.loop.counter c.loop.rest.now c.in_ok-_item._item.now c.in_ok-_item.after.now _ c.loop-test.true (sym c.in_ok-_item.ensures) c.loop.invariant

@@ -1,0 +1,7 @@
+use Rattle.std.proofs.Common.{◌≡◌, ◌-◌, false}
+use Rattle.full_grammar.specs.Reading.{stacks_from}
+use Rattle.tx_reader.specs.Rests.{rest_read}
+use Rattle.tx_reader.proofs.witness.behind_stacks.Given as goal
+
+abbrev pub invariant-loop : goal.invariant-loop
+invariant-loop l = rest_read (stacks_from l.some (l.more - l.counter) l.rest) ≡ rest_read (stacks_from false l.more l.bytes)

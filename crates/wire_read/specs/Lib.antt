@@ -1,0 +1,3 @@
+pub mod SizeForm
+pub mod Position
+pub mod Fields
