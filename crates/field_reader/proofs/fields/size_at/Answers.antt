@@ -1,4 +1,4 @@
-use Rattle.std.proofs.Common.{arith, drop, ap, sym, ◌∙◌}
+use Rattle.std.proofs.Common.{arith, drop, ap, ◌∙◌}
 use Rattle.field_reader.proofs.Sizes.{cursor_ok, cursor_cut, cursor_long}
 use Rattle.field_reader.proofs.fields.size_at.Goals as goal
 
