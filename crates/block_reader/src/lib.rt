@@ -1,0 +1,15 @@
+//! Reads blocks with merge-mining part and witnesses, in place.
+#![tactic(auto)]
+
+mod block;
+mod parts;
+mod root;
+mod txs;
+
+pub use block::{Block, BlockFault, read_block};
+pub use full_grammar::BlockKind;
+pub use root::merkle_root;
+pub use txs::Txs;
+
+#[cfg(test)]
+mod tests;
