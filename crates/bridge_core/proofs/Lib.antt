@@ -8,7 +8,5 @@ pub mod Fronts
 pub mod Progress
 pub mod Following
 pub mod Endings
-pub mod Walk
-pub mod Forms
 pub mod OneWord
 pub mod Outcomes

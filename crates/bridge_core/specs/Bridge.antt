@@ -1,9 +1,9 @@
 -- What a bridge stands for, and what its turn does.
-use Rattle.std.specs.Prelude.{◌≡◌, ℕ, List, ◌+◌, ◌<◌, ◌≤◌, length, map, Option, Some, None}
+use Rattle.std.specs.Prelude.{◌≡◌, ℕ, List, ◌+◌, ◌<◌, ◌≤◌, length, map, Option, Some, None, Result, Ok, Err}
 use Rattle.nmc_base.specs.declared.chain_ends.Tip.{Tip}
 use Rattle.machine.specs.Chain.{Chain, height_of, tip_hash, hashes_of, highest}
 use Rattle.machine.specs.Event.{Event}
-use Rattle.machine.specs.Refusal.{Refuses, IsValid}
+use Rattle.machine.specs.Refusal.{Refuses, IsValid, TakesMemory}
 use Rattle.machine.specs.Reply.{Reply}
 use Rattle.machine.specs.Step.{Step}
 use Rattle.bridge_core.specs.declared.refusal.Refusal.{Refusal}
@@ -31,10 +31,12 @@ pub record IsFit (bridge : Accepted) (bytes : List ℕ) : Type 0 where
   pub room : bridge.base.height + length bridge.hashes < highest
   pub valid : (chain : Chain) → StandsFor bridge chain → IsValid chain bytes
 
--- the refusal of a block's bytes on each chain that the bridge stands for, or that there is none
-abbrev pub Judges : Accepted → List ℕ → Option Refusal → Type 0
-Judges bridge bytes None = IsFit bridge bytes
-Judges bridge bytes (Some refusal) = (chain : Chain) → StandsFor bridge chain → Refuses chain bytes (refusal_of refusal)
+-- on each chain that the bridge stands for: the refusal of a block's bytes, or that there is none; where memory ran
+-- out, that no refusal comes before any memory is taken
+abbrev pub Judges : {E : Type 0} → Accepted → List ℕ → Result (Option Refusal) E → Type 0
+Judges bridge bytes (Ok None) = IsFit bridge bytes
+Judges bridge bytes (Ok (Some refusal)) = (chain : Chain) → StandsFor bridge chain → Refuses chain bytes (refusal_of refusal)
+Judges bridge bytes (Err e) = (chain : Chain) → StandsFor bridge chain → TakesMemory chain bytes
 
 pub record Moves (old : Chain) (event : Event) (reply : Reply) (bridge : Accepted) : Type 0 where
   pub new : Chain

@@ -1,7 +1,5 @@
 pub mod Accepted
 pub mod Views
-pub mod BlockForm
-pub mod BlockFront
 pub mod Bridge
 pub mod Front
 pub mod Causes

@@ -6,7 +6,7 @@ use Rattle.machine.specs.Refusal as refusals
 use Rattle.bridge_core.specs.declared.event.Event.{Event}
 use Rattle.bridge_core.specs.declared.event.Event.TheVariants.{Connect}
 use Rattle.bridge_core.specs.declared.refusal.Refusal.{Refusal}
-use Rattle.bridge_core.specs.declared.refusal.Refusal.TheVariants.{NotBuilt, BadBlock, NotOnTip, HeightLimit}
+use Rattle.bridge_core.specs.declared.refusal.Refusal.TheVariants.{BadBlock, NotOnTip, HeightLimit, MerkleMismatch, NotBuilt}
 
 abbrev pub event_of : Event → machine.Event
 event_of (Connect block) = machine.Connect block.now
@@ -20,3 +20,4 @@ refusal_of NotBuilt = refusals.NotBuilt
 refusal_of (BadBlock at) = refusals.BadBlock at
 refusal_of (NotOnTip tip) = refusals.NotOnTip tip.0
 refusal_of HeightLimit = refusals.HeightLimit
+refusal_of (MerkleMismatch computed) = refusals.MerkleMismatch computed.0

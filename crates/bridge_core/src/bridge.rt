@@ -5,10 +5,11 @@ ghost use Rattle.bridge_core.specs.Bridge.{StandsFor, IsTipOf, Judges, Turns};
 ghost use Rattle.bridge_core.specs.Views.{event_of, IsWithinLimits};
 ghost use Rattle.machine.specs.Event.{Connect};
 
-use crate::block::{BlockForm, read_block};
 use crate::event::Event;
+use crate::names::may_carry_names;
 use crate::refusal::Refusal;
 use crate::reply::ReplyBuf;
+use block_reader::{merkle_root, read_block};
 use nmc_base::{Base, Hash32, NoMemory, Profile, Tip};
 use sha2::{Digest, Sha256};
 use std::alloc::Global;
@@ -76,35 +77,52 @@ impl Bridge {
         Tip { height, hash }
     }
 
-    /// The refusal of a block's bytes, the first of their order, or None where the block is valid.
-    fn refusal_of(&self, bytes: &[u8]) -> Option<Refusal>
+    /// The refusal of a block's bytes, the first of their order, or None where the block is valid. Memory is
+    /// taken for the Merkle root alone, behind the refusals that need none.
+    fn refusal_of(&self, alloc: Global, bytes: &[u8]) -> Result<Option<Refusal>, NoMemory>
+        requires { length bytes.now ≤ longest_block }
         ensures { Judges self.now bytes.now result }
     {
-        let previous = match read_block(bytes) {
-            BlockForm::NotBuilt => return Some(Refusal::NotBuilt),
-            BlockForm::Malformed => return Some(Refusal::BadBlock { at: 0 }),
-            BlockForm::Plain { previous } => previous,
+        let block = match read_block(bytes) {
+            Ok(block) => block,
+            Err(fault) => return Ok(Some(Refusal::BadBlock { at: fault.at })),
         };
         let tip = self.tip();
-        if previous != tip.hash {
-            return Some(Refusal::NotOnTip { tip: tip.hash });
+        let header = block.header();
+        if header.previous() != tip.hash {
+            return Ok(Some(Refusal::NotOnTip { tip: tip.hash }));
         }
         if tip.height >= HIGHEST {
-            return Some(Refusal::HeightLimit);
+            return Ok(Some(Refusal::HeightLimit));
         }
-        None
+        let root = header.root();
+        let computed = merkle_root(alloc, &block)?;
+        if root != computed {
+            return Ok(Some(Refusal::MerkleMismatch { computed }));
+        }
+        if may_carry_names(block.txs()) {
+            return Ok(Some(Refusal::NotBuilt));
+        }
+        Ok(None)
     }
 }
 
 impl Bridge {
     /// Connects a block: it joins the chain where it is valid and memory is there for its hash.
-    fn connect(mut self, bytes: &[u8], reply: &mut ReplyBuf) -> Bridge
+    fn connect(mut self, alloc: Global, bytes: &[u8], reply: &mut ReplyBuf) -> Bridge
         requires { length bytes.now ≤ longest_block }
         ensures { Turns self (Connect bytes.now) reply.new result }
     {
-        if let Some(refusal) = self.refusal_of(bytes) {
-            reply.refuse(&refusal);
-            return self;
+        match self.refusal_of(alloc, bytes) {
+            Ok(None) => {}
+            Ok(Some(refusal)) => {
+                reply.refuse(&refusal);
+                return self;
+            }
+            Err(_) => {
+                reply.lack_memory();
+                return self;
+            }
         }
         match self.hashes.push(hash_of(bytes)) {
             Ok(()) => {
@@ -118,15 +136,16 @@ impl Bridge {
 
     /// Deals with one event and writes its one reply.
     ///
-    /// Code 9 answers a form of block that isn't built yet, code 1 bytes that are no block, code 2 a block
-    /// that isn't on the tip, code 4 a block on the greatest height, in this order. Code FE, want of
-    /// memory, may stand in the place of code 0 alone, and then nothing has changed.
-    pub fn turn(self, _alloc: Global, event: Event<'_>, reply: &mut ReplyBuf) -> Bridge
+    /// Code 1 answers bytes that are no block, code 2 a block that isn't on the tip, code 4 a block on the
+    /// greatest height, code 3 one whose Merkle root is another one, code 9 one that may carry names, in this
+    /// order. Code FE, want of memory, may stand in the place of codes 0, 3 and 9, and then nothing has
+    /// changed.
+    pub fn turn(self, alloc: Global, event: Event<'_>, reply: &mut ReplyBuf) -> Bridge
         requires { IsWithinLimits event }
         ensures { Turns self (event_of event.entry) reply.new result }
     {
         match event {
-            Event::Connect(bytes) => self.connect(bytes, reply),
+            Event::Connect(bytes) => self.connect(alloc, bytes, reply),
         }
     }
 }

@@ -2,14 +2,13 @@
 #![tactic(auto)]
 
 mod answering;
-mod block;
 mod bridge;
 mod command;
-mod cursor;
 mod delivery;
 mod event;
 mod frame_buffer;
 mod front;
+mod names;
 mod refusal;
 mod replaying;
 mod reply;

@@ -103,10 +103,11 @@ impl ReplyBuf {
         ensures { self.new ≡ refusal_reply (refusal_of refusal.now) }
     {
         match refusal {
-            Refusal::NotBuilt => self.set(9, &[], &[]),
             Refusal::BadBlock { at } => self.set(1, &at.to_le_bytes(), &[]),
             Refusal::NotOnTip { tip } => self.set(2, &tip.0, &[]),
             Refusal::HeightLimit => self.set(4, &[], &[]),
+            Refusal::MerkleMismatch { computed } => self.set(3, &computed.0, &[]),
+            Refusal::NotBuilt => self.set(9, &[], &[]),
         }
     }
 

@@ -1,6 +1,5 @@
 ghost use Rattle.std.specs.Prelude.{◌≤◌, ◌^◌};
 
-mod block_forms;
 mod calls;
 mod faults;
 mod first_block;
@@ -8,11 +7,11 @@ mod made_blocks;
 mod one_byte;
 
 use crate::{Bridge, Event, ReplyBuf, Status, replay};
+use block_reader::{merkle_root, read_block};
 use byte_io::{MemorySink, SteadySource};
 use first_block::{FIRST_BLOCK, FIRST_HASH};
-use made_blocks::{
-    MARKED, MERGED, NAME_SCRIPTS, NAME_VERSION_FIRST, NAMES_THEN_NONE, NONE_THEN_MARKED,
-};
+use made_blocks::{MERGED, NAME_FIRST, NAME_THEN_OTHER_ROOT, NONE_THEN_BAD_TRANSACTION};
+use nmc_base::Hash32;
 use std::alloc::{AllocError, Global};
 use std::process::Abort;
 use std::test::Fail;
@@ -29,18 +28,20 @@ const ACCEPTED_HEAD: [u8; 9] = [0, 36, 0, 0, 0, 1, 0, 0, 0];
 /// The reply to a block on the block before the first, where the first is the tip, begins so.
 const NOT_ON_TIP_HEAD: [u8; 5] = [2, 32, 0, 0, 0];
 
-/// The reply to bytes that are no block.
+/// The reply to no bytes at all: they are no block, from the place 0 on.
 const NO_BLOCK: [u8; 9] = [1, 4, 0, 0, 0, 0, 0, 0, 0];
 
-/// The reply to a form of block that isn't built yet.
-const NOT_BUILT: [u8; 5] = [9, 0, 0, 0, 0];
+/// The replies to other bytes that are no block, with the place of the fault.
+const NO_COUNT: [u8; 9] = [1, 4, 0, 0, 0, 80, 0, 0, 0];
 
-/// The reply to the first block with another Merkle root: its hash is another one.
-const OTHER_ROOT: [u8; 41] = [
-    0x00, 0x24, 0x00, 0x00, 0x00, 0x01, 0x00, 0x00, 0x00, 0x0b, 0x10, 0x1b, 0xef, 0xba, 0xdc, 0xeb,
-    0x9c, 0x9a, 0xa4, 0x5e, 0x7b, 0x82, 0x4c, 0x26, 0xcb, 0xb6, 0x86, 0x57, 0xd0, 0x7e, 0xa5, 0x94,
-    0x97, 0x59, 0xa1, 0x9a, 0x2d, 0xef, 0x43, 0x16, 0xb7,
-];
+const NO_MERGED: [u8; 9] = [1, 4, 0, 0, 0, 86, 0, 0, 0];
+
+const CUT: [u8; 9] = [1, 4, 0, 0, 0, 0x1c, 1, 0, 0];
+
+const LONGER: [u8; 9] = [1, 4, 0, 0, 0, 0x1d, 1, 0, 0];
+
+/// The reply to the first block with another Merkle root begins so, and its own root follows.
+const OTHER_ROOT_HEAD: [u8; 5] = [3, 32, 0, 0, 0];
 
 /// The pieces, one behind the other.
 fn joined(alloc: Global, pieces: &[&[u8]]) -> Result<Vec<u8>, AllocError> {
@@ -159,11 +160,12 @@ fn answers_what_the_first_block_is_not(rt: HostRuntime) -> Result<(), Fail> {
     other_root[41] = 0x3c;
     let cut = joined(alloc, &[&[1, 0x1c, 1, 0, 0], &FIRST_BLOCK[..284]])?;
     let longer = joined(alloc, &[&[1, 0x1e, 1, 0, 0], &FIRST_BLOCK, &[0]])?;
+    let root = joined(alloc, &[&OTHER_ROOT_HEAD, &FIRST_BLOCK[36..68]])?;
     let rows: [(&[u8], &[u8]); 5] = [
-        (&merged, &NOT_BUILT),
-        (&other_root, &OTHER_ROOT),
-        (&cut, &NO_BLOCK),
-        (&longer, &NO_BLOCK),
+        (&merged, &NO_MERGED),
+        (&other_root, &root),
+        (&cut, &CUT),
+        (&longer, &LONGER),
         (&[1, 0, 0, 0, 0], &NO_BLOCK),
     ];
     for (input, output) in rows {
@@ -270,11 +272,9 @@ fn reads_no_further_than_the_limit(rt: HostRuntime) -> Result<(), Fail> {
 fn answers_as_another_program_did(rt: HostRuntime) -> Result<(), Fail> {
     let alloc = rt.alloc();
     for made in [
-        NONE_THEN_MARKED,
-        NAME_VERSION_FIRST,
-        NAME_SCRIPTS,
-        NAMES_THEN_NONE,
-        MARKED,
+        NONE_THEN_BAD_TRANSACTION,
+        NAME_THEN_OTHER_ROOT,
+        NAME_FIRST,
         MERGED,
     ] {
         let input = decoded(alloc, made.frames)?;
@@ -284,12 +284,27 @@ fn answers_as_another_program_did(rt: HostRuntime) -> Result<(), Fail> {
     Ok(())
 }
 
+/// The Merkle root of the block that the bytes are.
+fn root_of<R: Abort>(rt: &R, alloc: Global, bytes: &[u8]) -> Result<Hash32, Fail> {
+    assert!(rt; bytes.len() <= 1000);
+    match read_block(bytes) {
+        Ok(block) => Ok(merkle_root(alloc, &block)?),
+        Err(_) => Err("no block")?,
+    }
+}
+
 /// The first block with a second transaction, which differs from the first in its version alone.
-fn with_second(alloc: Global, version: &[u8; 4]) -> Result<Vec<u8>, AllocError> {
-    let heading = &FIRST_BLOCK[..80];
+fn with_second<R: Abort>(rt: &R, alloc: Global, version: &[u8; 4]) -> Result<Vec<u8>, Fail> {
     let coinbase = &FIRST_BLOCK[81..];
     let rest = &FIRST_BLOCK[85..];
-    joined(alloc, &[heading, &[2], coinbase, version, rest])
+    let other_root = joined(alloc, &[&FIRST_BLOCK[..80], &[2], coinbase, version, rest])?;
+    let root = root_of(rt, alloc, &other_root)?;
+    let (front, behind) = (&FIRST_BLOCK[..36], &FIRST_BLOCK[68..80]);
+    let whole = joined(
+        alloc,
+        &[front, &root.0, behind, &[2], coinbase, version, rest],
+    )?;
+    Ok(whole)
 }
 
 /// The code that answers a block on the beginning of the chain.
@@ -311,7 +326,7 @@ fn tells_a_name_by_its_version_alone(rt: HostRuntime) -> Result<(), Fail> {
         ([0, 0, 0x71, 0], 0),
     ];
     for (version, wanted) in rows {
-        let block = with_second(alloc, &version)?;
+        let block = with_second(&rt, alloc, &version)?;
         let code = code_of(&rt, alloc, &block)?;
         assert_eq!(rt; code, wanted, "version {version:?}");
     }
@@ -330,8 +345,8 @@ fn answers_frames_of_the_greatest_length(rt: HostRuntime) -> Result<(), Fail> {
         alloc,
         &[
             &accepted,
-            &NO_BLOCK,
-            &NO_BLOCK,
+            &NO_COUNT,
+            &NO_COUNT,
             &NOT_ON_TIP_HEAD,
             &FIRST_HASH,
         ],

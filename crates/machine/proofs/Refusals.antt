@@ -1,14 +1,53 @@
 -- A connect has one refusal at most, and none where it is valid.
-use Rattle.std.proofs.Common.{◌≡◌, ℕ, List, refl, ap, ◌∙◌, sym, arith, inl, inr}
+use Rattle.std.proofs.Common.{◌≡◌, ℕ, ◌+◌, ◌<◌, ◌≤◌, List, ◌++◌, take, drop, refl, ap, ◌∙◌, sym, append_assoc, arith, inl, inr}
 use Rattle.std.proofs.lemmas.Bool.{cases_lt}
+use Rattle.std.proofs.lemmas.List.{take-take, take-append-drop}
+use Rattle.full_grammar.specs.Block.{Block, IsBlock, block_root, block_text, FitsBlock}
+use Rattle.full_grammar.specs.Fault.{IsFront, IsFirstFault, IsFaultPlace}
+use Rattle.full_grammar.proofs.Blocks.{BlockSpot, block_again}
+use Rattle.full_grammar.proofs.Laws.{ok_is}
 use Rattle.machine.specs.Chain.{Chain}
-use Rattle.machine.specs.Refusal.{Refusal, NotBuilt, BadBlock, NotOnTip, HeightLimit, Holds, order_of, Refuses}
+use Rattle.machine.specs.Refusal.{Refusal, BadBlock, NotOnTip, HeightLimit, MerkleMismatch, NotBuilt, Holds, order_of, Refuses}
+
+-- bytes are one block at most
+pub one_block : (bytes : List ℕ) (a b : Block) → IsBlock bytes a → IsBlock bytes b → a ≡ b
+one_block bytes a b is_a is_b = ok_is {E = BlockSpot} a b (sym (block_again bytes a is_a) ∙ block_again bytes b is_b)
+
+-- what is a front of a text has only fronts of it
+shorter_front : {A : Type 0} (text : A → List ℕ) (Fits : A → Type 0) (bytes : List ℕ) (m n : ℕ) → m ≤ n → IsFront text Fits (take n bytes) → IsFront text Fits (take m bytes)
+shorter_front text Fits bytes m n le f = record {
+  value = f.value;
+  fits = f.fits;
+  more = drop m (take n bytes) ++ f.more;
+  text_is = f.text_is ∙ ap (λ (q : List ℕ). q ++ f.more) (sym (take-append-drop m (take n bytes))) ∙ append_assoc (take m (take n bytes)) (drop m (take n bytes)) f.more
+      ∙ ap (λ (q : List ℕ). q ++ (drop m (take n bytes) ++ f.more)) (take-take m n bytes le);
+}
+
+-- no first fault lies before another
+not_before : {A : Type 0} (text : A → List ℕ) (Fits : A → Type 0) (bytes : List ℕ) (p q : ℕ) → IsFirstFault text Fits bytes p → IsFirstFault text Fits bytes q → p < q → ⊥
+not_before text Fits bytes p q fp fq lt =
+    elim fp.no_further [
+      | inl end ↦ omega (arith, fq.inside, end)
+      | inr none ↦ none (shorter_front text Fits bytes (p + 1) q (omega arith) fq.front)
+    ]
+
+one_place : (bytes : List ℕ) (p q : ℕ) → IsFaultPlace bytes p → IsFaultPlace bytes q → p ≡ q
+one_place bytes p q hp hq =
+    elim (cases_lt p q) [
+      | inl below ↦ absurd (not_before block_text FitsBlock bytes p q hp.first hq.first below)
+      | inr above ↦ elim (cases_lt q p) [
+        | inl below ↦ absurd (not_before block_text FitsBlock bytes q p hq.first hp.first below)
+        | inr same ↦ omega arith
+      ]
+    ]
 
 same_order : (chain : Chain) (bytes : List ℕ) (r s : Refusal) → Holds chain bytes r → Holds chain bytes s → order_of r ≡ order_of s → r ≡ s
-same_order chain bytes NotBuilt NotBuilt hr hs e = refl
-same_order chain bytes (BadBlock p) (BadBlock q) hr hs e = ap BadBlock (hr.1 ∙ sym hs.1)
+same_order chain bytes (BadBlock p) (BadBlock q) hr hs e = ap BadBlock (one_place bytes p q hr hs)
 same_order chain bytes (NotOnTip t) (NotOnTip u) hr hs e = ap NotOnTip (hr.1 ∙ sym hs.1)
 same_order chain bytes HeightLimit HeightLimit hr hs e = refl
+same_order chain bytes (MerkleMismatch a) (MerkleMismatch b) hr hs e =
+    ap MerkleMismatch (hr.computed_is ∙ ap block_root (one_block bytes hr.block hs.block hr.is_block hs.is_block) ∙ sym hs.computed_is)
+same_order chain bytes NotBuilt NotBuilt hr hs e = refl
 same_order chain bytes r s hr hs e = absurd (omega arith)
 
 pub one_refusal : (chain : Chain) (bytes : List ℕ) (r s : Refusal) → Refuses chain bytes r → Refuses chain bytes s → r ≡ s

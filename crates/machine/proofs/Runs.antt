@@ -2,7 +2,7 @@
 use Rattle.std.proofs.Common.{◌≡◌, true, false, eqb, List, [], ◌∷◌, ◌++◌, refl, ap, subst, ◌∙◌}
 use Rattle.machine.specs.Chain.{Chain}
 use Rattle.machine.specs.Event.{Event}
-use Rattle.machine.specs.Refusal.{Refusal, NotBuilt, BadBlock, NotOnTip, HeightLimit}
+use Rattle.machine.specs.Refusal.{Refusal, BadBlock, NotOnTip, HeightLimit, MerkleMismatch, NotBuilt}
 use Rattle.machine.specs.Reply.{Reply, refusal_reply}
 use Rattle.machine.specs.Step.{Step, accepts, declines, lacks_memory, Run, joins, stays, Surviving, answered}
 
@@ -19,6 +19,7 @@ refusal_is_answer NotBuilt = refl
 refusal_is_answer (BadBlock place) = refl
 refusal_is_answer (NotOnTip tip) = refl
 refusal_is_answer HeightLimit = refl
+refusal_is_answer (MerkleMismatch computed) = refl
 
 pub run_survives : (old : Chain) (events : List Event) (replies : List Reply) (new : Chain) → Run old events replies new → Surviving old (answered events replies) new
 run_survives old [] [] new run = run

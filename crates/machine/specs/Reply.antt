@@ -3,7 +3,7 @@ use Rattle.std.specs.Prelude.{ℕ, List, [], ◌∷◌, ◌++◌, length}
 use Rattle.std.specs.List.{flat_map}
 use Rattle.std.specs.Int.{w32, to_le_bytes}
 use Rattle.machine.specs.Chain.{Chain, tip_hash, height_of}
-use Rattle.machine.specs.Refusal.{Refusal, NotBuilt, BadBlock, NotOnTip, HeightLimit}
+use Rattle.machine.specs.Refusal.{Refusal, BadBlock, NotOnTip, HeightLimit, MerkleMismatch, NotBuilt}
 
 pub record Reply : Type 0 where
   pub code : ℕ
@@ -20,10 +20,11 @@ abbrev pub accepted_reply : Chain → Reply
 accepted_reply chain = record { code = 0; payload = to_le_bytes w32 (height_of chain) ++ tip_hash chain }
 
 abbrev pub refusal_reply : Refusal → Reply
-refusal_reply NotBuilt = record { code = 9; payload = [] }
 refusal_reply (BadBlock place) = record { code = 1; payload = to_le_bytes w32 place }
 refusal_reply (NotOnTip tip) = record { code = 2; payload = tip }
 refusal_reply HeightLimit = record { code = 4; payload = [] }
+refusal_reply (MerkleMismatch computed) = record { code = 3; payload = computed }
+refusal_reply NotBuilt = record { code = 9; payload = [] }
 
 -- want of memory
 abbrev pub no_memory_reply : Reply

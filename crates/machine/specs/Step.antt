@@ -2,7 +2,7 @@
 use Rattle.std.specs.Prelude.{◌≡◌, ℕ, List, [], ◌∷◌, ◌==◌, if◌then◌else◌}
 use Rattle.machine.specs.Chain.{Chain, with_block}
 use Rattle.machine.specs.Event.{Event, Connect}
-use Rattle.machine.specs.Refusal.{Refusal, Refuses, IsValid}
+use Rattle.machine.specs.Refusal.{Refusal, Refuses, IsValid, TakesMemory}
 use Rattle.machine.specs.Reply.{Reply, accepted_reply, refusal_reply, no_memory_reply}
 
 -- a valid connect is accepted: its block joins the chain
@@ -22,11 +22,11 @@ pub record Declines (old : Chain) (event : Event) (reply : Reply) (new : Chain) 
   pub new_is : new ≡ old
   pub reply_is : reply ≡ refusal_reply refusal
 
--- want of memory, in the place of an acceptance alone
+-- want of memory, in the place of an acceptance or of a refusal that takes memory to find
 pub record LacksMemory (old : Chain) (event : Event) (reply : Reply) (new : Chain) : Type 0 where
   pub block : List ℕ
   pub event_is : event ≡ Connect block
-  pub valid : IsValid old block
+  pub takes_memory : TakesMemory old block
   pub new_is : new ≡ old
   pub reply_is : reply ≡ no_memory_reply
 

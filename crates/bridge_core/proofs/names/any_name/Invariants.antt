@@ -1,7 +1,7 @@
 use Rattle.std.proofs.Common.{◌≡◌}
 use Rattle.std.specs.List.{list_any}
 use Rattle.block_grammar.specs.NotBuilt.{begins_as_name}
-use Rattle.bridge_core.proofs.block.any_name.Given as goal
+use Rattle.bridge_core.proofs.names.any_name.Given as goal
 
 abbrev pub invariant-loop-output : goal.invariant-loop-output
 invariant-loop-output l =
