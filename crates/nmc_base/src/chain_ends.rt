@@ -1,3 +1,6 @@
+ghost use Rattle.std.specs.Prelude.{◌≡◌, ◌≤◌};
+ghost use Rattle.nmc_base.specs.Expiry.{expiry_depth, is_expired, least_amount};
+
 use crate::hashes::Hash32;
 
 /// The network whose rules hold.
@@ -7,6 +10,46 @@ pub enum Profile {
     Regtest,
     /// The public network.
     Main,
+}
+
+impl Profile {
+    /// For how many blocks the coin of a name stands at the height.
+    pub fn depth(self, height: u32) -> u32
+        requires { height ≤ 2000000001 }
+        ensures { result ≡ expiry_depth self height }
+    {
+        match self {
+            Profile::Regtest => 30,
+            Profile::Main => {
+                if height < 24_000 {
+                    12_000
+                } else if height < 48_000 {
+                    height - 12_000
+                } else {
+                    36_000
+                }
+            }
+        }
+    }
+
+    /// Whether a name that was last changed at one height is expired at the other.
+    pub fn expired(self, made: u32, height: u32) -> bool
+        requires made { made ≤ 2000000001 }
+        requires height { height ≤ 2000000001 }
+        ensures { result ≡ is_expired self made height }
+    {
+        made + self.depth(height) <= height
+    }
+
+    /// The least amount of an output that holds a name, in units of which a coin has 100,000,000.
+    pub fn least_amount(self) -> u64
+        ensures { result ≡ least_amount self }
+    {
+        match self {
+            Profile::Regtest => 1_000_000,
+            Profile::Main => 0,
+        }
+    }
 }
 
 /// The block on which a chain begins. It is not connected itself: it stands for all before it.

@@ -1,4 +1,4 @@
-//! What every layer of the index speaks of: hashes, outpoints, the tip and the base of a chain, want of memory, lists of bytes and lists with spare room.
+//! What every layer of the index speaks of: hashes, outpoints, the tip and the base of a chain, expiry, want of memory, lists of bytes and lists with spare room, steps.
 #![tactic(auto)]
 
 mod byte_list;
@@ -6,12 +6,14 @@ mod chain_ends;
 mod hashes;
 mod no_memory;
 mod roomy_list;
+mod steps;
 
 pub use byte_list::Bytes;
 pub use chain_ends::{Base, Profile, Tip};
 pub use hashes::{Hash20, Hash32, OutPoint};
 pub use no_memory::NoMemory;
 pub use roomy_list::{RoomyList, Words};
+pub use steps::Steps;
 
 #[cfg(test)]
 mod tests;

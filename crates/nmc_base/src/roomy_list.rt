@@ -91,4 +91,11 @@ impl<T> RoomyList<T> {
     {
         self.held.get(i)
     }
+
+    /// The items.
+    pub fn as_slice(&self) -> &[T]
+        ensures { result.now ≡ self.now.items }
+    {
+        self.held.as_slice()
+    }
 }

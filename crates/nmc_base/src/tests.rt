@@ -84,6 +84,7 @@ fn words_with_room(rt: HostRuntime) -> Result<(), Fail> {
     let last = words.item(1).expect(&rt, "the second word");
     assert_eq!(rt; last.as_slice(), b"two".as_slice());
     assert!(rt; words.item(2).is_none());
+    assert_eq!(rt; words.as_slice().len(), 2);
     let taken = words.pop().expect(&rt, "the last word");
     assert_eq!(rt; taken.as_slice(), b"two".as_slice());
     assert_eq!(rt; words.len(), 1);

@@ -1,0 +1,22 @@
+-- When the coin of a name expires, and what a name output has to hold (Namecoin's consensus rules: the expiration depth
+-- of names, NameExpirationDepth, and the amount that a name locks, NAME_LOCKED_AMOUNT).
+use Rattle.std.specs.Prelude.{ℕ, ◌+◌, ◌-◌, Bool, nat_le, nat_lt, if◌then◌else◌}
+use Rattle.nmc_base.specs.declared.chain_ends.Profile.{Profile}
+use Rattle.nmc_base.specs.declared.chain_ends.Profile.TheVariants.{Regtest, Main}
+
+-- for how many blocks a name stands, at a height
+abbrev pub main_depth : ℕ → ℕ
+main_depth height = if nat_lt height 24000 then 12000 else (if nat_lt height 48000 then height - 12000 else 36000)
+
+abbrev pub expiry_depth : Profile → ℕ → ℕ
+expiry_depth Regtest height = 30
+expiry_depth Main height = main_depth height
+
+-- a name that was last changed at one height is expired at another
+abbrev pub is_expired : Profile → ℕ → ℕ → Bool
+is_expired profile made height = nat_le (made + expiry_depth profile height) height
+
+-- the least amount of an output that holds a name, in units of which a coin has 100,000,000
+abbrev pub least_amount : Profile → ℕ
+least_amount Regtest = 1000000
+least_amount Main = 0
