@@ -1,0 +1,10 @@
+pub mod Changed
+pub mod Points
+pub mod Shown
+pub mod Undoing
+pub mod Following
+pub mod Blocks
+pub mod Queue
+pub mod Filled
+pub mod Due
+pub mod Meanings

@@ -1,0 +1,5 @@
+use Rattle.chain_names.proofs.Blocks.{refused_in-maps}
+use Rattle.chain_names.proofs.laws.refusals_agree.Goals as goal
+
+pub returns : goal.returns
+returns c = refused_in-maps

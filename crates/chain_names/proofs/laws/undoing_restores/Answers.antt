@@ -1,0 +1,5 @@
+use Rattle.chain_names.proofs.Blocks.{all_back}
+use Rattle.chain_names.proofs.laws.undoing_restores.Goals as goal
+
+pub returns : goal.returns
+returns c = all_back

@@ -1,0 +1,9 @@
+pub mod Points
+pub mod Refusals
+pub mod Log
+pub mod Coins
+pub mod Verdict
+pub mod Meaning
+pub mod Changes
+pub mod Index
+pub mod Tables
