@@ -1,0 +1,6 @@
+use Rattle.std.specs.List.{IsDistinct}
+use Rattle.expiry_queue.proofs.queue.Queue.row_len.Goals as goal
+
+pub returns-in-None-clause-distinct : goal.returns-in-None-clause-distinct
+unfolding IsDistinct
+returns-in-None-clause-distinct g c = rw (← c.self.view_is, ← c.in-None.ensures.value) tt

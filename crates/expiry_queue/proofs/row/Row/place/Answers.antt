@@ -1,0 +1,13 @@
+use Rattle.std.proofs.Common.{is_some}
+use Rattle.chain_names.specs.Points.{same_point}
+use Rattle.chain_names.specs.Tables.{is_filled}
+use Rattle.chain_names.proofs.Changed.{read_at-changed, read_at-kept, same_point-true}
+use Rattle.expiry_queue.proofs.RowReadings.{not_filled}
+use Rattle.expiry_queue.proofs.row.Row.place.Goals as goal
+
+pub returns-in_ok-insert-clause-queued : goal.returns-in_ok-insert-clause-queued
+returns-in_ok-insert-clause-queued c =
+    rw (← c.self.view_is) (read_at-kept same_point is_filled same_point-true _ _ _ _ c.in_ok-insert.ensures.updates.0 (not_filled _ c.if-not-contains_key.ensures))
+
+pub returns-in_ok-insert-clause-ok : goal.returns-in_ok-insert-clause-ok
+returns-in_ok-insert-clause-ok c = rw (← c.self.view_is) (read_at-changed same_point is_some _ _ _ _ c.in_ok-insert.ensures.updates.0)

@@ -1,0 +1,12 @@
+use Rattle.std.proofs.Common.{is_some}
+use Rattle.chain_names.specs.Points.{same_point}
+use Rattle.chain_names.specs.Tables.{is_filled}
+use Rattle.chain_names.proofs.Changed.{read_at-changed, read_at-kept, same_point-true}
+use Rattle.expiry_queue.proofs.row.Row.put.Goals as goal
+
+pub returns-clause-queued : goal.returns-clause-queued
+returns-clause-queued c = rw (← c.self.view_is) (read_at-changed same_point is_filled _ _ _ _ c.in-Ok.ensures.updates.0)
+
+pub returns-clause-places : goal.returns-clause-places
+returns-clause-places c =
+    rw (← c.self.view_is) (read_at-kept same_point is_some same_point-true _ _ _ _ c.in-Ok.ensures.updates.0 (rw c.self.view_is c.requires.placed))

@@ -1,0 +1,15 @@
+use Rattle.std.proofs.Common.{is_some}
+use Rattle.std.specs.Map.{lookup}
+use Rattle.chain_names.specs.Points.{same_point}
+use Rattle.chain_names.specs.Tables.{is_filled}
+use Rattle.chain_names.proofs.Changed.{read_at-changed, read_at-kept, same_point-true}
+use Rattle.expiry_queue.proofs.RowReadings.{placed_where_filled}
+use Rattle.expiry_queue.proofs.row.Row.take.Goals as goal
+
+pub returns-clause-queued : goal.returns-clause-queued
+returns-clause-queued c = rw (← c.self.view_is) (read_at-changed same_point is_filled _ _ _ _ c.in-Ok.ensures.updates.0)
+
+pub returns-clause-places : goal.returns-clause-places
+returns-clause-places c =
+    rw (← c.self.view_is) (read_at-kept same_point is_some same_point-true _ _ _ _ c.in-Ok.ensures.updates.0
+    (placed_where_filled (lookup (same_point c.args.at.now) c.self.inside.points.entries) (rw c.self.view_is c.if-not-has.ensures)))

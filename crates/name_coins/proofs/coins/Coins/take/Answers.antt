@@ -1,0 +1,15 @@
+use Rattle.std.proofs.Common.{None, is_some, sym, ap}
+use Rattle.chain_names.specs.Points.{same_point}
+use Rattle.chain_names.specs.Tables.{filled_by}
+use Rattle.chain_names.proofs.Changed.{read_at-changed, read_at-kept, same_point-true}
+use Rattle.name_coins.proofs.coins.Coins.take.Goals as goal
+
+pub returns-clause-coins : goal.returns-clause-coins
+returns-clause-coins g c =
+    let here = sym (ap is_some c.in_ok-place.ensures.value) in
+    rw (c.take.ensures.after, ← c.self.view_is) (read_at-changed same_point filled_by _ _ _ _ ((c.get_mut.follows.holds None).3 here).0)
+
+pub returns-clause-places : goal.returns-clause-places
+returns-clause-places g c =
+    let here = sym (ap is_some c.in_ok-place.ensures.value) in
+    rw (c.take.ensures.after, ← c.self.view_is) (read_at-kept same_point is_some same_point-true _ _ _ _ ((c.get_mut.follows.holds None).3 here).0 here)

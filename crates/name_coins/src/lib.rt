@@ -1,0 +1,10 @@
+//! The coins of name outputs, by outpoint: a map whose places are taken before anything is put there.
+#![tactic(auto)]
+
+mod coins;
+
+pub use chain_names::Coin;
+pub use coins::Coins;
+
+#[cfg(test)]
+mod tests;

@@ -1,0 +1,3 @@
+mod ByBytesLemmas
+mod EntryLemmas
+mod Readings

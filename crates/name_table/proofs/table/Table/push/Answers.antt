@@ -1,0 +1,45 @@
+use Rattle.std.proofs.Common.{◌≡◌, ◌-◌, true, false, is_some, refl, sym, ap, ◌∙◌, true≢false, arith}
+use Rattle.std.specs.Str.{bytes_eq}
+use Rattle.chain_names.specs.Points.{changed}
+use Rattle.chain_names.specs.Tables.{name_places, room_in}
+use Rattle.name_table.specs.ByBytes.{by_bytes}
+use Rattle.name_table.proofs.ByBytesLemmas.{found}
+use Rattle.name_table.proofs.Readings.{reads, kept}
+use Rattle.name_table.proofs.table.Table.push.Goals as goal
+
+pub push-requires : goal.push-requires
+push-requires g c =
+    let has = found c.args.name.now c.self.inside.places.entries _ (sym c.in-Some.ensures.value) in
+    let room : room_in c.args.self.now c.args.name.now ≡ c.in-Some.history.now.spare = rw (← c.self.view_is, has) refl in
+    omega (arith, c.requires.room)
+
+pub unreachable-requires : goal.unreachable-requires
+unreachable-requires g c =
+    let absent : name_places c.args.self.now c.args.name.now ≡ false =
+    rw (← c.self.view_is, found c.args.name.now c.self.inside.places.entries _ (sym c.in-None.ensures.value)) refl in
+    true≢false (sym c.requires.placed ∙ absent)
+
+pub returns-clause-names : goal.returns-clause-names
+returns-clause-names g c =
+    let wrote = c.get_mut.follows.holds c.push.new.self in
+    let here = sym (ap is_some c.in-Some.ensures.value) in
+    let read = reads c.self.inside.places.entries _ c.args.name.now _ (wrote.3 here).1 (wrote.3 here).3 in
+    let has = found c.args.name.now c.self.inside.places.entries _ (sym c.in-Some.ensures.value) in
+    rw (← c.self.view_is) (rw has (read.names ∙ ap (changed bytes_eq _ _) c.push.ensures.items))
+
+pub returns-clause-places : goal.returns-clause-places
+returns-clause-places g c =
+    let wrote = c.get_mut.follows.holds c.push.new.self in
+    let here = sym (ap is_some c.in-Some.ensures.value) in
+    let read = reads c.self.inside.places.entries _ c.args.name.now _ (wrote.3 here).1 (wrote.3 here).3 in
+    let has = found c.args.name.now c.self.inside.places.entries _ (sym c.in-Some.ensures.value) in
+    rw (← c.self.view_is) (read.places ∙ kept (name_places (by_bytes c.self.inside.places.entries)) c.args.name.now true (rw has refl))
+
+pub returns-clause-room : goal.returns-clause-room
+returns-clause-room g c =
+    let wrote = c.get_mut.follows.holds c.push.new.self in
+    let here = sym (ap is_some c.in-Some.ensures.value) in
+    let read = reads c.self.inside.places.entries _ c.args.name.now _ (wrote.3 here).1 (wrote.3 here).3 in
+    let has = found c.args.name.now c.self.inside.places.entries _ (sym c.in-Some.ensures.value) in
+    let less : c.push.new.self.spare ≡ c.in-Some.history.now.spare - 1 = omega (arith, c.push.ensures.spare) in
+    rw (← c.self.view_is) (rw has (read.room ∙ ap (changed bytes_eq _ _) less))

@@ -1,0 +1,39 @@
+use Rattle.std.proofs.Common.{◌≡◌, [], true, None, refl, sym, ◌∙◌}
+use Rattle.std.specs.Map.{lookup}
+use Rattle.std.specs.Str.{bytes_eq}
+use Rattle.chain_names.specs.Tables.{names_in, name_places, room_in}
+use Rattle.name_table.specs.ByBytes.{by_bytes}
+use Rattle.name_table.proofs.EntryLemmas.{empty_from_length, filled_from_length}
+use Rattle.name_table.proofs.Readings.{reads, kept, has_entry, has_place}
+use Rattle.name_table.proofs.table.Table.unplace.Goals as goal
+
+pub returns-then-is_empty-clause-names : goal.returns-then-is_empty-clause-names
+returns-then-is_empty-clause-names g c =
+    let read = reads c.self.inside.places.entries _ c.args.name.now None c.swap_remove.ensures.updates.1 c.swap_remove.ensures.updates.3 in
+    let empty = sym c.held.ensures ∙ empty_from_length c.held.result.now c.if-is_empty.ensures in
+    rw (← c.self.view_is) (read.names ∙ kept (names_in (by_bytes c.self.inside.places.entries)) c.args.name.now [] (rw c.self.view_is empty))
+
+pub returns-then-is_empty-clause-places : goal.returns-then-is_empty-clause-places
+returns-then-is_empty-clause-places g c =
+    let read = reads c.self.inside.places.entries _ c.args.name.now None c.swap_remove.ensures.updates.1 c.swap_remove.ensures.updates.3 in
+    let empty = sym c.held.ensures ∙ empty_from_length c.held.result.now c.if-is_empty.ensures in
+    rw (empty, ← c.self.view_is) read.places
+
+pub returns-then-is_empty-clause-room : goal.returns-then-is_empty-clause-room
+returns-then-is_empty-clause-room g c =
+    let read = reads c.self.inside.places.entries _ c.args.name.now None c.swap_remove.ensures.updates.1 c.swap_remove.ensures.updates.3 in
+    let empty = sym c.held.ensures ∙ empty_from_length c.held.result.now c.if-is_empty.ensures in
+    rw (empty, ← c.self.view_is) read.room
+
+pub returns-else-is_empty-clause-places : goal.returns-else-is_empty-clause-places
+returns-else-is_empty-clause-places g c =
+    let some = λ (h : names_in c.args.self.now c.args.name.now ≡ []). filled_from_length c.held.result.now c.if-is_empty.ensures (c.held.ensures ∙ h) in
+    let place = has_place (lookup (bytes_eq c.args.name.now) c.args.self.now) some in
+    let entry = has_entry (lookup (bytes_eq c.args.name.now) c.args.self.now) some in
+    rw entry (sym (kept (name_places c.args.self.now) c.args.name.now true place))
+
+pub returns-else-is_empty-clause-room : goal.returns-else-is_empty-clause-room
+returns-else-is_empty-clause-room g c =
+    let some = λ (h : names_in c.args.self.now c.args.name.now ≡ []). filled_from_length c.held.result.now c.if-is_empty.ensures (c.held.ensures ∙ h) in
+    let entry = has_entry (lookup (bytes_eq c.args.name.now) c.args.self.now) some in
+    rw entry (sym (kept (room_in c.args.self.now) c.args.name.now _ refl))

@@ -1,0 +1,10 @@
+//! The histories of names: a map from each name to its values, whose places and room are taken before anything is put there.
+#![tactic(auto)]
+
+mod table;
+
+pub use chain_names::Item;
+pub use table::Table;
+
+#[cfg(test)]
+mod tests;
