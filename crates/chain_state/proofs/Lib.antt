@@ -1,0 +1,16 @@
+pub mod Working
+pub mod Moving
+pub mod Backing
+pub mod Coming
+pub mod Halting
+pub mod Naming
+pub mod Undone
+pub mod Standing
+pub mod Applying
+pub mod Looping
+pub mod GivingUp
+pub mod Due
+pub mod Restoring
+pub mod Wholes
+pub mod Clear
+pub mod Chains

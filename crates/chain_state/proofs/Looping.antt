@@ -1,0 +1,143 @@
+-- The transactions of a block, one after the other.
+use Rattle.std.proofs.Common.{◌≡◌, ◌≢◌, ℕ, suc, ◌+◌, ◌<◌, false, List, [], ◌∷◌, ◌++◌, length, refl, sym, ap, subst, ◌∙◌, arith, append_assoc}
+use Rattle.std.proofs.lemmas.List.{append-nil}
+use Rattle.std.specs.Prelude.{Option}
+use Rattle.std.specs.List.{AllByRecursion}
+use Rattle.full_grammar.specs.Transaction.{Transaction, txid_of}
+use Rattle.nmc_base.specs.declared.chain_ends.Profile.{Profile}
+use Rattle.chain_names.specs.declared.refusal.RuleRefusal.{RuleRefusal}
+use Rattle.chain_names.specs.Verdict.{Verdict, plain, commits, opens, updates, refused, verdict}
+use Rattle.chain_names.specs.Changes.{Refused, refused_or, undo_of_verdict, after_transaction, after_all, undo_ops, first_refused, back_ops}
+use Rattle.chain_names.proofs.Shown.{is_refused}
+use Rattle.chain_names.proofs.Undoing.{transaction_back, back_ops-append}
+use Rattle.chain_state.specs.Tables.{maps_by}
+use Rattle.chain_state.specs.Work.{Halts}
+use Rattle.chain_state.specs.Block.{IsReady, HasFewOutputs, Applied, Declined, AppliedAll, DeclinedAll, Stopped}
+use Rattle.chain_state.specs.declared.work.Work.{Work}
+
+accepts : (v : Verdict) → ((r : RuleRefusal) → v ≢ refused r) → is_refused v ≡ false
+accepts plain none = refl
+accepts (commits hash place) none = refl
+accepts (opens name value place spent) none = refl
+accepts (updates name value place spent) none = refl
+accepts (refused refusal) none = absurd (none refusal refl)
+
+goes_on : (index : ℕ) (v : Verdict) (later : Option Refused) → is_refused v ≡ false → refused_or index v later ≡ later
+goes_on index plain later e = refl
+goes_on index (commits hash place) later e = refl
+goes_on index (opens name value place spent) later e = refl
+goes_on index (updates name value place spent) later e = refl
+goes_on index (refused refusal) later e = absurd cc
+
+-- so far and the rest make the whole
+pub record IsOn (profile : Profile) (start now : Work) (ts left : List Transaction) (index : ℕ) : Type 0 where
+  pub ready : IsReady profile now
+  pub height : now.height ≡ start.height
+  pub after : after_all profile start.height left (maps_by now.tables) ≡ after_all profile start.height ts (maps_by start.tables)
+  pub refusal : first_refused profile start.height index left (maps_by now.tables) ≡ first_refused profile start.height 1 ts (maps_by start.tables)
+  pub ops : now.ops.items ++ undo_ops profile start.height left (maps_by now.tables) ≡ undo_ops profile start.height ts (maps_by start.tables)
+  pub back : back_ops now.ops.items (maps_by now.tables) ≡ maps_by start.tables
+  pub few : AllByRecursion HasFewOutputs left
+  pub counted : index + length left < 4294967296
+
+pub begins : (profile : Profile) (start : Work) (ts : List Transaction) → IsReady profile start → start.ops.items ≡ [] → AllByRecursion HasFewOutputs ts → length ts < 4294967295
+    → IsOn profile start start ts ts 1
+begins profile start ts ready fresh few short = record {
+  ready = ready;
+  height = refl;
+  after = refl;
+  refusal = refl;
+  ops = ap (λ os. os ++ undo_ops profile start.height ts (maps_by start.tables)) fresh;
+  back = ap (λ os. back_ops os (maps_by start.tables)) fresh;
+  few = few;
+  counted = omega (arith, short);
+}
+
+module _ (profile : Profile) (start now next : Work) (ts rest : List Transaction) (t : Transaction) (index : ℕ) (on : IsOn profile start now ts (t ∷ rest) index) where
+  abbrev Said : ℕ → Verdict
+  Said height = verdict profile (maps_by now.tables) height t
+
+  pub went_on : Applied profile now next t → IsOn profile start next ts rest (index + 1)
+  went_on applied =
+      let h = start.height in
+      let kept = subst (λ n. is_refused (Said n) ≡ false) on.height (accepts (Said now.height) applied.accepted) in
+      let maps = applied.maps ∙ ap (λ n. after_transaction profile n t (maps_by now.tables)) on.height in
+      let ops = applied.ops ∙ ap (λ n. now.ops.items ++ undo_of_verdict (maps_by now.tables) (txid_of t) (Said n)) on.height in
+      let undo = undo_of_verdict (maps_by now.tables) (txid_of t) (Said h) in
+      record {
+        ready = applied.ready;
+        height = applied.height ∙ on.height;
+        after = ap (after_all profile h rest) maps ∙ on.after;
+        refusal = ap (first_refused profile h (index + 1) rest) maps
+            ∙ ap (λ n. first_refused profile h n rest (after_transaction profile h t (maps_by now.tables))) (next_index index)
+            ∙ sym (goes_on index (Said h) _ kept) ∙ on.refusal;
+        ops = ap (λ os. os ++ undo_ops profile h rest (maps_by next.tables)) ops
+            ∙ ap (λ m. (now.ops.items ++ undo) ++ undo_ops profile h rest m) maps
+            ∙ append_assoc now.ops.items undo (undo_ops profile h rest (after_transaction profile h t (maps_by now.tables)))
+            ∙ on.ops;
+        back = ap (λ os. back_ops os (maps_by next.tables)) ops
+            ∙ ap (back_ops (now.ops.items ++ undo)) maps
+            ∙ back_ops-append now.ops.items undo (after_transaction profile h t (maps_by now.tables))
+            ∙ ap (back_ops now.ops.items) (transaction_back profile h t (maps_by now.tables) kept)
+            ∙ on.back;
+        few = on.few.1;
+        counted = omega (arith, on.counted);
+      }
+    where
+      next_index : (index : ℕ) → index + 1 ≡ suc index
+      next_index index = omega arith
+
+  halted : Halts now next → Stopped start next
+  halted halts = record {
+    before = ap (λ os. back_ops os (maps_by next.tables)) halts.ops ∙ ap (back_ops now.ops.items) halts.maps ∙ on.back;
+    height = halts.height ∙ on.height;
+    work = halts.work;
+  }
+
+  pub stopped : Halts now next → Stopped start next
+  stopped = halted
+
+  pub declined : (refusal : RuleRefusal) → Declined profile now next t refusal → DeclinedAll profile start next ts (index, refusal)
+  declined refusal d = record {
+    refusal_is = sym on.refusal
+        ∙ ap (λ v. refused_or index v (first_refused profile start.height (suc index) rest (after_transaction profile start.height t (maps_by now.tables))))
+        (ap Said (sym on.height) ∙ d.refusal_is);
+    stopped = halted d.halts;
+  }
+
+pub ended : (profile : Profile) (start now : Work) (ts : List Transaction) (index : ℕ) → IsOn profile start now ts [] index → AppliedAll profile start now ts
+ended profile start now ts index on = record {
+  accepted = sym on.refusal;
+  maps = on.after;
+  ops = sym (append-nil now.ops.items) ∙ on.ops;
+  height = on.height;
+  ready = on.ready;
+}
+
+-- ---- the same, of what is left as the loop has it
+
+module _ (profile : Profile) (start now next : Work) (ts left rest : List Transaction) (t : Transaction) (index : ℕ) (steps : left ≡ t ∷ rest) (on : IsOn profile start now ts left index) where
+  here : IsOn profile start now ts (t ∷ rest) index
+  here = subst (λ l. IsOn profile start now ts l index) steps on
+
+  pub went_on_at : Applied profile now next t → IsOn profile start next ts rest (index + 1)
+  went_on_at = went_on profile start now next ts rest t index here
+
+  pub declined_at : (refusal : RuleRefusal) → Declined profile now next t refusal → DeclinedAll profile start next ts (index, refusal)
+  declined_at = declined profile start now next ts rest t index here
+
+  pub stopped_at : Halts now next → Stopped start next
+  stopped_at = stopped profile start now next ts rest t index here
+
+module _ (profile : Profile) (start now : Work) (ts left rest : List Transaction) (t : Transaction) (index : ℕ) (steps : left ≡ t ∷ rest) (on : IsOn profile start now ts left index) where
+  front : IsOn profile start now ts (t ∷ rest) index
+  front = subst (λ l. IsOn profile start now ts l index) steps on
+
+  pub few_here : HasFewOutputs t
+  few_here = front.few.0
+
+  pub counted_here : index + length (t ∷ rest) < 4294967296
+  counted_here = front.counted
+
+pub ended_at : (profile : Profile) (start now : Work) (ts left : List Transaction) (index : ℕ) → left ≡ [] → IsOn profile start now ts left index → AppliedAll profile start now ts
+ended_at profile start now ts left index none on = ended profile start now ts index (subst (λ l. IsOn profile start now ts l index) none on)

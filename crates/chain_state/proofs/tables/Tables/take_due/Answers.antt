@@ -1,0 +1,34 @@
+use Rattle.std.proofs.Common.{sym}
+use Rattle.chain_state.proofs.Due.{begins_taking, took, passed_by, none_queued, room_for_one, taken_all, split_front, split_shorter, none_left}
+use Rattle.chain_state.proofs.tables.Tables.take_due.Goals as goal
+
+pub loop-rest-init : goal.loop-rest-init
+loop-rest-init g c = begins_taking c.args.self.now c.args.row c.args.points.now c.args.expired.now c.requires.queue c.requires.none c.requires.room
+
+pub take_coin-requires : goal.take_coin-requires
+take_coin-requires g c = record { queue = c.loop-rest.invariant.queue }
+
+pub push-requires : goal.push-requires
+push-requires g c = room_for_one c.loop-rest.rest.now _ c.in-len1-up.len_at_least c.loop-rest.invariant.room
+
+pub unreachable-requires : goal.unreachable-requires
+unreachable-requires g c =
+    none_queued _ _ _ _ _ _ _ _ (split_front c.loop-rest.rest.now _ c.in-len1-up.len_at_least) c.loop-rest.invariant c.in-None.ensures.value (sym c.if-has.ensures.value)
+
+pub loop-rest-smaller-in-Some : goal.loop-rest-smaller-in-Some
+loop-rest-smaller-in-Some g c = split_shorter c.loop-rest.rest.now c.in-len1-up.len_at_least
+
+pub loop-rest-preserved-in-Some : goal.loop-rest-preserved-in-Some
+loop-rest-preserved-in-Some g c =
+    took _ _ _ _ _ _ _ _ (split_front c.loop-rest.rest.now _ c.in-len1-up.len_at_least) c.loop-rest.invariant
+    c.take_coin.new.self c.in-Some.coin c.push.new.self (sym c.if-has.ensures.value) c.in-Some.ensures.value c.in-Some.ensures.taken c.push.ensures.items c.push.ensures.spare
+
+pub loop-rest-smaller : goal.loop-rest-smaller
+loop-rest-smaller g c = split_shorter c.loop-rest.rest.now c.in-len1-up.len_at_least
+
+pub loop-rest-preserved : goal.loop-rest-preserved
+loop-rest-preserved g c =
+    passed_by _ _ _ _ _ _ _ _ (split_front c.loop-rest.rest.now _ c.in-len1-up.len_at_least) c.loop-rest.invariant (sym c.if-has.ensures.value)
+
+pub returns : goal.returns
+returns g c = taken_all _ _ _ _ _ _ (none_left c.loop-rest.rest.now c.in_default.len_below) c.loop-rest.invariant

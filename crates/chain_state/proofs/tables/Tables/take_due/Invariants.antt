@@ -1,0 +1,9 @@
+use Rattle.std.proofs.Common.{length}
+use Rattle.chain_state.proofs.Due.{IsTaking}
+use Rattle.chain_state.proofs.tables.Tables.take_due.Given as goal
+
+abbrev pub invariant-loop-rest : goal.invariant-loop-rest
+invariant-loop-rest g l = IsTaking l.fn.self l.self l.row l.points l.rest l.expired
+
+abbrev pub decreases-loop-rest : goal.decreases-loop-rest
+decreases-loop-rest g l = length l.rest

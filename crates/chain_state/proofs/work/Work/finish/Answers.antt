@@ -1,0 +1,13 @@
+use Rattle.std.proofs.Common.{ap}
+use Rattle.nmc_base.specs.Roomy.{Roomy}
+use Rattle.chain_names.specs.declared.coin.HeldCoin.{HeldCoin}
+use Rattle.chain_state.proofs.Wholes.{finished, finished_none}
+use Rattle.chain_state.proofs.work.Work.finish.Goals as goal
+
+pub returns-in-None-clause-ok : goal.returns-in-None-clause-ok
+returns-in-None-clause-ok g c =
+    finished_none c.args.profile c.args.self c.new-expired.result c.requires c.in-None.ensures.none (ap (λ (l : Roomy HeldCoin). l.items) c.new-expired.ensures)
+
+pub returns-in-Ok-clause-ok : goal.returns-in-Ok-clause-ok
+returns-in-Ok-clause-ok g c =
+    finished c.args.profile c.args.self c.expire.new.self c.in-Some.row c.in-Ok.expired c.requires c.in-Some.ensures.some c.in-Ok.ensures.ok

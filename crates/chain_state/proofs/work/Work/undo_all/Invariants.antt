@@ -1,0 +1,9 @@
+use Rattle.std.proofs.Common.{length}
+use Rattle.chain_state.proofs.Undone.{IsGoingBack}
+use Rattle.chain_state.proofs.work.Work.undo_all.Given as goal
+
+abbrev pub invariant-loop-op : goal.invariant-loop-op
+invariant-loop-op g l = IsGoingBack l.fn.self l.self
+
+abbrev pub decreases-loop-op : goal.decreases-loop-op
+decreases-loop-op g l = length l.self.ops.items

@@ -1,0 +1,115 @@
+ghost use Rattle.std.specs.Prelude.{◌≡◌, ℕ, ◌+◌, ◌<◌, ◌≤◌, [], suc, length, true, IfSome, IfNone, IfOk, OnErr};
+ghost use Rattle.std.specs.List.{list_any, AllByRecursion};
+ghost use Rattle.nmc_base.specs.Expiry.{expiry_depth};
+ghost use Rattle.nmc_base.specs.declared.hashes.OutPoint.{OutPoint};
+ghost use Rattle.chain_names.specs.Points.{same_point};
+ghost use Rattle.chain_names.specs.Tables.{coins_in, queued_in, queue_places, queue_of, row_points};
+ghost use Rattle.chain_state.specs.Expiring.{TakesDue, Expires, CanReturn, Restores};
+
+use crate::tables::Tables;
+use chain_names::HeldCoin;
+use nmc_base::{NoMemory, OutPoint, Profile, RoomyList, Steps};
+use std::alloc::Global;
+use std::sync::ledger::Ledger;
+
+/// The height at which the names were given their values whose coins are due after a block at this height, or None where
+/// there is no such height.
+pub(crate) fn due_row(profile: Profile, height: u32) -> Option<u32>
+    requires { height ≤ 2000000000 }
+    ensures some { IfSome result (λ row. row + expiry_depth profile (suc height) ≡ suc height) }
+    ensures none { IfNone result (suc height < expiry_depth profile (suc height)) }
+{
+    let next = height + 1;
+    next.checked_sub(profile.depth(next))
+}
+
+impl Tables {
+    /// The outpoints that have a place in a row.
+    fn row_points<L: Ledger>(
+        &self,
+        alloc: Global,
+        row: u32,
+        steps: &mut Steps<L>,
+    ) -> Result<Vec<OutPoint>, NoMemory>
+        ensures points { IfOk result (λ points. points.items ≡ row_points self.now.queue row) }
+    {
+        let mut points = Vec::new(alloc);
+        for i in 0..self.queue.row_len(row, steps) {
+            let Some(at) = self.queue.row_item(row, i, steps) else {
+                unreachable!()
+            };
+            points.push(at)?;
+        }
+        Ok(points)
+    }
+
+    /// Takes the coins of a row, at these outpoints, off the tables. There is room for them.
+    fn take_due<L: Ledger>(
+        &mut self,
+        row: u32,
+        points: &[OutPoint],
+        expired: &mut RoomyList<HeldCoin>,
+        steps: &mut Steps<L>,
+    )
+        requires queue { queued_in self.old.queue ≡ queue_of (coins_in self.old.coins) }
+        requires none { expired.old.items ≡ [] }
+        requires room { length points.now ≤ expired.old.spare }
+        ensures { TakesDue self.old self.new row points.now expired.new.items }
+    {
+        let mut rest = points;
+        while let [at, more @ ..] = rest {
+            if self.queue.has(row, at, steps) {
+                match self.take_coin(at, steps) {
+                    Some(coin) => expired.push(HeldCoin { at: *at, coin }),
+                    None => unreachable!(),
+                }
+            }
+            rest = more;
+        }
+    }
+
+    /// The outpoints that have a place in a row, in their order.
+    fn due_points<L: Ledger>(
+        &self,
+        alloc: Global,
+        row: u32,
+        steps: &mut Steps<L>,
+    ) -> Result<Vec<OutPoint>, NoMemory>
+        ensures all { IfOk result (λ points. (point : OutPoint) → queued_in self.now.queue row point ≡ true → list_any (same_point point) points.items ≡ true) }
+    {
+        let mut points = self.row_points(alloc, row, steps)?;
+        points.sort()?;
+        Ok(points)
+    }
+
+    /// Takes the coins that are due, those of a row, off the tables, in the order of their outpoints. All memory is taken
+    /// first: where it runs out, nothing is done.
+    pub(crate) fn expire<L: Ledger>(
+        &mut self,
+        alloc: Global,
+        row: u32,
+        steps: &mut Steps<L>,
+    ) -> Result<RoomyList<HeldCoin>, NoMemory>
+        requires queue { queued_in self.old.queue ≡ queue_of (coins_in self.old.coins) }
+        ensures ok { IfOk result (λ expired. Expires self.old self.new row expired.items) }
+        ensures err { OnErr result (self.new ≡ self.old) }
+    {
+        let points = self.due_points(alloc, row, steps)?;
+        let mut expired = RoomyList::new(alloc);
+        expired.reserve(points.len())?;
+        self.take_due(row, &points, &mut expired, steps);
+        Ok(expired)
+    }
+
+    /// Puts the coins that expired back, from the last to the first.
+    pub(crate) fn restore<L: Ledger>(&mut self, expired: RoomyList<HeldCoin>, steps: &mut Steps<L>)
+        requires queue { queued_in self.old.queue ≡ queue_of (coins_in self.old.coins) }
+        requires expired { (row : ℕ) × AllByRecursion (CanReturn self.old row) expired.items }
+        ensures { Restores self.old self.new expired.items }
+    {
+        let mut expired = expired;
+        while let Some(HeldCoin { at, coin }) = expired.pop() {
+            self.put_coin(&at, coin, steps);
+        }
+    }
+}

@@ -1,0 +1,207 @@
+ghost use Rattle.std.specs.Prelude.{◌≡◌, ℕ, ◌+◌, ◌≤◌, true, false, None, Some, IfOk, OnOk, OnErr};
+ghost use Rattle.std.specs.Prelude.{Option};
+ghost use Rattle.nmc_base.specs.declared.hashes.OutPoint.{OutPoint};
+ghost use Rattle.chain_names.specs.declared.coin.Coin.{Coin};
+ghost use Rattle.chain_names.specs.Points.{same_point, changed};
+ghost use Rattle.chain_names.specs.Coins.{entry_of};
+ghost use Rattle.chain_names.specs.Tables.{coins_in, coin_places, names_in, queued_in, queue_places, queue_of, is_named_at, AreNamesFilled};
+ghost use Rattle.chain_names.specs.Changes.{with_value};
+ghost use Rattle.chain_state.specs.Tables.{HoldSame, HasPlaces, MayHavePlaces, IsTaken, TakesCoin, PutsCoin, Shifts, ShiftsBack};
+
+use chain_names::{Coin, Item};
+use expiry_queue::Queue;
+use name_coins::Coins;
+use name_table::Table;
+use nmc_base::{Bytes, NoMemory, OutPoint, Steps};
+use std::alloc::Global;
+use std::sync::ledger::Ledger;
+
+/// The tables of a chain: the live coins, the histories of names, and the queue in which names expire.
+#[derive(Drop)]
+pub struct Tables {
+    pub coins: Coins,
+    pub names: Table,
+    pub queue: Queue,
+}
+
+/// What a name's move leaves: the coin that was spent, a copy of the name, and the value that it had before.
+#[derive(Drop)]
+pub(crate) struct Shift {
+    pub(crate) coin: Coin,
+    pub(crate) name: Bytes,
+    pub(crate) before: Option<Item>,
+}
+
+impl Tables {
+    /// A copy of a name's entry.
+    fn entry_copy<L: Ledger>(
+        &self,
+        alloc: Global,
+        name: &[u8],
+        steps: &mut Steps<L>,
+    ) -> Result<Option<Item>, NoMemory>
+        ensures copy { IfOk result (λ before. before ≡ entry_of (names_in self.now.names name.now)) }
+        ensures cost { steps.new ≡ steps.old + 1 }
+    {
+        match self.names.last(name, steps) {
+            None => Ok(None),
+            Some(item) => {
+                let value = Bytes::copy_of(alloc, item.value.as_slice())?;
+                Ok(Some(Item {
+                    height: item.height,
+                    at: item.at,
+                    value,
+                }))
+            }
+        }
+    }
+
+    /// Makes the places that a name's next output needs. Where memory runs out, those of the outpoint may stay; the
+    /// name has none that it hadn't.
+    fn make_places<L: Ledger>(
+        &mut self,
+        made: &OutPoint,
+        name: &[u8],
+        height: u32,
+        steps: &mut Steps<L>,
+    ) -> Result<(), NoMemory>
+        ensures same { HoldSame self.old self.new }
+        ensures ok { OnOk result (HasPlaces self.old self.new made.now name.now height) }
+        ensures err { OnErr result (MayHavePlaces self.old self.new made.now height) }
+        ensures cost { OnOk result (steps.new ≤ steps.old + 3) }
+    {
+        self.coins.place(*made, steps)?;
+        self.queue.place(height, *made, steps)?;
+        self.names.place(name, 1, steps)
+    }
+
+    /// Takes a coin's name out of the queue, where it is a name's. The coin itself was taken already.
+    fn dequeue<L: Ledger>(&mut self, at: &OutPoint, coin: &Coin, steps: &mut Steps<L>)
+        requires queue { (coins : OutPoint → Option Coin) × IsTaken coins (coins_in self.old.coins) (queued_in self.old.queue) at.now coin.now }
+        ensures coins { self.new.coins ≡ self.old.coins }
+        ensures names { self.new.names ≡ self.old.names }
+        ensures queue { queued_in self.new.queue ≡ queue_of (coins_in self.old.coins) }
+        ensures rows { queue_places self.new.queue ≡ queue_places self.old.queue }
+        ensures cost { steps.new ≤ steps.old + 1 }
+    {
+        match coin {
+            Coin::New { .. } => {}
+            Coin::Named { height, .. } => {
+                self.queue.take(*height, at, steps);
+            }
+        }
+    }
+
+    /// Takes the coin at an outpoint, and its name out of the queue.
+    pub(crate) fn take_coin<L: Ledger>(
+        &mut self,
+        at: &OutPoint,
+        steps: &mut Steps<L>,
+    ) -> Option<Coin>
+        requires queue { queued_in self.old.queue ≡ queue_of (coins_in self.old.coins) }
+        ensures value { result ≡ coins_in self.old.coins at.now }
+        ensures taken { TakesCoin self.old self.new at.now }
+        ensures cost { steps.new ≤ steps.old + 2 }
+    {
+        match self.coins.take(at, steps) {
+            None => None,
+            Some(coin) => {
+                self.dequeue(at, &coin, steps);
+                Some(coin)
+            }
+        }
+    }
+
+    /// Puts a coin's name in the queue, where it is a name's. The coin itself is put afterwards.
+    fn enqueue<L: Ledger>(&mut self, at: &OutPoint, coin: &Coin, steps: &mut Steps<L>)
+        requires queue { queued_in self.old.queue ≡ queue_of (coins_in self.old.coins) }
+        requires free { (height : ℕ) → is_named_at height (Some coin.now) ≡ false → is_named_at height (coins_in self.old.coins at.now) ≡ false }
+        requires row { (height : ℕ) → is_named_at height (Some coin.now) ≡ true → queue_places self.old.queue height at.now ≡ true }
+        ensures coins { self.new.coins ≡ self.old.coins }
+        ensures names { self.new.names ≡ self.old.names }
+        ensures queue { queued_in self.new.queue ≡ queue_of (changed same_point (coins_in self.old.coins) at.now (Some coin.now)) }
+        ensures rows { queue_places self.new.queue ≡ queue_places self.old.queue }
+        ensures cost { steps.new ≤ steps.old + 1 }
+    {
+        match coin {
+            Coin::New { .. } => {}
+            Coin::Named { height, .. } => self.queue.put(*height, at, steps),
+        }
+    }
+
+    /// Puts a coin at an outpoint that has none, or one of the same row of the queue, and a name in the queue. Their places
+    /// are there.
+    pub(crate) fn put_coin<L: Ledger>(&mut self, at: &OutPoint, coin: Coin, steps: &mut Steps<L>)
+        requires queue { queued_in self.old.queue ≡ queue_of (coins_in self.old.coins) }
+        requires free { (height : ℕ) → is_named_at height (Some coin) ≡ false → is_named_at height (coins_in self.old.coins at.now) ≡ false }
+        requires place { coin_places self.old.coins at.now ≡ true }
+        requires row { (height : ℕ) → is_named_at height (Some coin) ≡ true → queue_places self.old.queue height at.now ≡ true }
+        ensures put { PutsCoin self.old self.new at.now coin }
+        ensures cost { steps.new ≤ steps.old + 2 }
+    {
+        self.enqueue(at, &coin, steps);
+        self.coins.put(at, coin, steps);
+    }
+
+    /// Moves a name from an outpoint to another one, in a block of this height, and gives it a value. All memory is taken
+    /// first: where it runs out, nothing is done but that places for the new outpoint may stay.
+    pub(crate) fn shift<L: Ledger>(
+        &mut self,
+        alloc: Global,
+        spent: &OutPoint,
+        made: &OutPoint,
+        name: &[u8],
+        value: &[u8],
+        height: u32,
+        steps: &mut Steps<L>,
+    ) -> Result<Shift, NoMemory>
+        requires queue { queued_in self.old.queue ≡ queue_of (coins_in self.old.coins) }
+        requires held { (coin : Coin) × (coins_in self.old.coins spent.now ≡ Some coin) }
+        requires fresh { coins_in self.old.coins made.now ≡ None }
+        ensures ok { IfOk result (λ s. Shifts self.old self.new spent.now made.now name.now value.now height s) }
+        ensures same { OnErr result (HoldSame self.old self.new) }
+        ensures err { OnErr result (MayHavePlaces self.old self.new made.now height) }
+        ensures cost { OnOk result (steps.new ≤ steps.old + 9) }
+    {
+        let own = Bytes::copy_of(alloc, name)?;
+        let kept = Bytes::copy_of(alloc, name)?;
+        let value = Bytes::copy_of(alloc, value)?;
+        let before = self.entry_copy(alloc, name, steps)?;
+        self.make_places(made, name, height, steps)?;
+        let coin = match self.take_coin(spent, steps) {
+            Some(coin) => coin,
+            None => unreachable!(),
+        };
+        self.put_coin(made, Coin::Named { name: own, height }, steps);
+        let at = *made;
+        self.names.push(name, Item { height, at, value }, steps);
+        Ok(Shift {
+            coin,
+            name: kept,
+            before,
+        })
+    }
+
+    /// Moves a name back to the outpoint that was spent, and takes its last value away.
+    pub(crate) fn shift_back<L: Ledger>(
+        &mut self,
+        spent: &OutPoint,
+        coin: Coin,
+        made: &OutPoint,
+        name: &[u8],
+        steps: &mut Steps<L>,
+    )
+        requires queue { queued_in self.old.queue ≡ queue_of (coins_in self.old.coins) }
+        requires free { coins_in self.old.coins spent.now ≡ None }
+        requires place { coin_places self.old.coins spent.now ≡ true }
+        requires row { (height : ℕ) → is_named_at height (Some coin) ≡ true → queue_places self.old.queue height spent.now ≡ true }
+        requires names { AreNamesFilled self.old.names }
+        ensures back { ShiftsBack self.old self.new spent.now coin made.now name.now }
+        ensures cost { steps.new ≤ steps.old + 6 }
+    {
+        drop(self.take_coin(made, steps));
+        drop(self.names.pop(name, steps));
+        self.names.unplace(name, steps);
+        self.put_coin(spent, coin, steps);
+    }
+}

@@ -1,0 +1,84 @@
+ghost use Rattle.std.specs.Prelude.{◌≡◌, IfOk, IfErr};
+ghost use Rattle.chain_names.specs.Tables.{coins_in, queued_in, queue_of};
+ghost use Rattle.chain_state.specs.Block.{IsReady};
+ghost use Rattle.chain_state.specs.Tables.{maps_by, AreFilled};
+ghost use Rattle.chain_state.specs.Whole.{IsWhole, Finishes, Commits, maps_before_block};
+
+use crate::expiry::due_row;
+use crate::tables::Tables;
+use crate::work::Work;
+use chain_names::{HeldCoin, UndoOp};
+use nmc_base::{Profile, RoomyList, Steps};
+use std::alloc::Global;
+use std::sync::ledger::Ledger;
+
+/// Work that was done for a whole block, and the coins that expired with it.
+#[derive(Drop)]
+pub(crate) struct Whole {
+    pub(crate) work: Work,
+    pub(crate) expired: RoomyList<HeldCoin>,
+}
+
+/// The tables after a block, and what undoes it.
+#[derive(Drop)]
+pub(crate) struct Committed {
+    pub(crate) tables: Tables,
+    pub(crate) ops: RoomyList<UndoOp>,
+    pub(crate) expired: RoomyList<HeldCoin>,
+}
+
+impl Work {
+    /// Takes the coins away that are expired in the next block. Where memory runs out, the work is handed back as it was.
+    pub(crate) fn finish<L: Ledger>(
+        self,
+        alloc: Global,
+        profile: Profile,
+        steps: &mut Steps<L>,
+    ) -> Result<Whole, Work>
+        requires { IsReady profile self }
+        ensures ok { IfOk result (λ whole. Finishes profile self whole) }
+        ensures err { IfErr result (λ work. work ≡ self) }
+    {
+        let mut work = self;
+        match due_row(profile, work.height) {
+            None => {
+                let expired = RoomyList::new(alloc);
+                Ok(Whole { work, expired })
+            }
+            Some(row) => match work.tables.expire(alloc, row, steps) {
+                Ok(expired) => Ok(Whole { work, expired }),
+                Err(_) => Err(work),
+            },
+        }
+    }
+}
+
+impl Whole {
+    /// Undoes the block's work, and hands the tables back as they were before it.
+    pub(crate) fn abandon<L: Ledger>(self, steps: &mut Steps<L>) -> Tables
+        requires { IsWhole self }
+        ensures before { maps_by result ≡ maps_before_block self }
+        ensures queue { queued_in result.queue ≡ queue_of (coins_in result.coins) }
+        ensures filled { AreFilled result }
+    {
+        let mut work = self.work;
+        work.tables.restore(self.expired, steps);
+        work.abandon(steps)
+    }
+
+    /// Gives the places up that the block emptied. It can't fail, and takes no memory.
+    pub(crate) fn commit<L: Ledger>(self, steps: &mut Steps<L>) -> Committed
+        requires { IsWhole self }
+        ensures { Commits self result }
+    {
+        let mut work = self.work;
+        let expired = self.expired;
+        work.tables.clear_spent(work.ops.as_slice(), steps);
+        work.tables.clear_expired(expired.as_slice(), steps);
+        Committed {
+            tables: work.tables,
+            ops: work.ops,
+            expired,
+        }
+    }
+}
