@@ -1,0 +1,4 @@
+pub mod Texts
+pub mod Holding
+pub mod Scripts
+pub mod Whole

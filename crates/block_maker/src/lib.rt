@@ -1,0 +1,17 @@
+//! Makes small blocks that stand on a given tip, each with one name operation or none: for trials and tests.
+#![tactic(auto)]
+
+mod contents;
+mod fields;
+mod law;
+mod maker;
+mod operation;
+mod script;
+mod transaction;
+
+pub use law::{root_law, script_law};
+pub use maker::Maker;
+pub use operation::MakeOp;
+
+#[cfg(test)]
+mod tests;
