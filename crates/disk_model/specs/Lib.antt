@@ -3,8 +3,10 @@ pub mod Moments
 pub mod Changes
 pub mod Reads
 pub mod Calls
+pub mod Touched
 pub mod MemoryLog
 pub mod Sound
 pub mod Kept
+pub mod Stored
 pub mod Chosen
 pub mod Replays

@@ -19,14 +19,24 @@ clock m = length m.past
 abbrev pub after : Moments → Files → Moments
 after m files = record { now = files; past = m.now ∷ m.past }
 
--- P holds of the files at each moment from old on, up to the new one
-pub data EachMoment (P : Files → Type 0) (old : Moments) : Moments → Type 0 where
-  start : P old.now → EachMoment P old old
-  more : (mid : Moments) (files : Files) → EachMoment P old mid → P files → EachMoment P old (after mid files)
+-- the same moment, with these files in the place of those that it had
+abbrev pub instead : Moments → Files → Moments
+instead m files = record { now = files; past = m.past }
 
 -- A crash with these files may leave this of each of them; the files are independent.
 abbrev pub IsImage : Files → (ℕ → List ℕ) → Type 0
 IsImage files image = (file : ℕ) → file < 3 → IsFileImage (files file) (image file)
+
+-- what a crash may leave with the old files, it may leave with the new ones too
+abbrev pub Widens : Files → Files → Type 0
+Widens old new = (image : ℕ → List ℕ) → IsImage old image → IsImage new image
+
+-- P holds of the files at each moment from old on, up to the new one. A moment may go on with other files where
+-- these leave each of its images possible.
+pub data EachMoment (P : Files → Type 0) (old : Moments) : Moments → Type 0 where
+  start : P old.now → EachMoment P old old
+  more : (mid : Moments) (files : Files) → EachMoment P old mid → P files → EachMoment P old (after mid files)
+  wider : (mid : Moments) (files : Files) → Widens mid.now files → EachMoment P old mid → P files → EachMoment P old (instead mid files)
 
 -- one of these moments, from that time on, may have left this image
 abbrev pub LeftIn : List Files → ℕ → (ℕ → List ℕ) → Type 0

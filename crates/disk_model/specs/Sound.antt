@@ -1,13 +1,14 @@
 -- What holds of each file of a disk in memory after any calls.
 use Rattle.std.proofs.Common.{◌≡◌, ◌⊎◌, inl, inr, ℕ, ◌+◌, ◌<◌, ◌≤◌, List, [], ◌∷◌, length, take, true, false, ◌==◌, refl, sym, ◌∙◌, arith, length-append, length-take, length-drop}
-use Rattle.std.specs.Prelude.{IsTrue, ◌&&◌, if◌then◌else◌, nat_lt, slice_index, slice_index_or, max}
+use Rattle.std.specs.Prelude.{IsTrue, ◌&&◌, if◌then◌else◌, nat_lt, slice_index, slice_index_or, max, Option, None, Some}
 use Rattle.std.proofs.lemmas.Bool.Decides.{nat_tests}
 use Rattle.std.proofs.lemmas.List.{places}
 use Rattle.disk_model.specs.FileState.{FileState, IsFileImage, IsSettled, synced_file, put}
 use Rattle.disk_model.specs.Moments.{Moments, after}
 use Rattle.disk_model.specs.Reads.{seen}
 use Rattle.disk_model.specs.Calls.{Effect, looked, written, write_failed, cut_to, cut_failed, synced, DiskCall, effect_on, settled_outside, left_by, step, after_call, moments_from, last_sync}
-use Rattle.disk_model.specs.MemoryLog.{DiskLog, first_files, moments_of}
+use Rattle.disk_model.specs.Touched.{Touched, touched_at, leaves, touch}
+use Rattle.disk_model.specs.MemoryLog.{DiskLog, first_files, moments_after, moments_touched, moments_of}
 
 -- What holds of a file after any calls: what is settled lies below the least length, and the length of what
 -- reads give between the least and the greatest; what the last sync left is an image too.
@@ -118,11 +119,43 @@ sound_from file last m [] sound = sound
 sound_from file last m (call ∷ calls) sound =
     sound_from file (if call.file == file then left_by call.effect (m.now file) last else last) (after m (after_call call m.now)) calls (sound_step file call last (m.now file) sound)
 
+touch_tells : (touched : Touched) (s : FileState) (p : ℕ) → IsTrue (s.settled p && leaves touched p) → IsTrue (s.settled p) × (p < touched.least)
+touch_tells touched s p is = (grind (arith, nat_tests), grind (arith, nat_tests))
+
+-- what is kept together keeps it
+pub sound_touch : (touched : Touched) (last : List ℕ) (s : FileState) → IsSound last s → IsSound last (touch touched s)
+sound_touch touched last s sound = record {
+  inside = λ p is. let was = touch_tells touched s p is in omega (arith, sound.inside p was.0, was.1);
+  least = omega (arith, sound.least);
+  greatest = omega (arith, sound.greatest);
+  last_least = omega (arith, sound.last_least);
+  last_greatest = omega (arith, sound.last_greatest);
+  last_kept = λ p is. sound.last_kept p (touch_tells touched s p is).0;
+}
+
+sound_together : (together : Option (List Touched)) (last : List ℕ) (m : Moments) (file : ℕ) → IsSound last (m.now file)
+    → IsSound last ((moments_touched together m).now file)
+sound_together None last m file sound = sound
+sound_together (Some touched) last m file sound =
+    elim (nat_lt file 3) as (λ b. IsSound last (if b then touch (touched_at touched file) (m.now file) else m.now file)) [
+      | true ↦ sound_touch (touched_at touched file) last (m.now file) sound
+      | false ↦ sound
+    ]
+
+-- what the last sync of a file left, after all calls
+abbrev pub last_of : DiskLog → ℕ → List ℕ
+last_of log file = let first = slice_index_or log.first file [] in last_sync file first (synced_file first) log.calls
+
+pub sound_of : (log : DiskLog) (file : ℕ) → IsSound (last_of log file) ((moments_of log).now file)
+sound_of log file =
+    let first = slice_index_or log.first file [] in
+    sound_together log.together (last_of log file) (moments_after log.first log.calls) file
+    (sound_from file first (record { now = first_files log.first; past = [] }) log.calls (sound_synced first))
+
 -- what reads give is an image
 pub shows_seen : (log : DiskLog) (file : ℕ) → IsFileImage ((moments_of log).now file) (seen (moments_of log) file)
 shows_seen log file =
-    let first = slice_index_or log.first file [] in
-    let sound = sound_from file first (record { now = first_files log.first; past = [] }) log.calls (sound_synced first) in
+    let sound = sound_of log file in
     record {
       no_shorter = sound.least;
       no_longer = sound.greatest;

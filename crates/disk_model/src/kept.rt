@@ -7,14 +7,24 @@ pub struct KeptCall {
     pub effect: KeptEffect,
 }
 
-/// What the call did, or what it named where it failed.
+/// What the call did.
 #[derive(Drop)]
 pub enum KeptEffect {
-    /// A read, a length or a sync that failed: the file is as it was.
+    /// A read or a length: the file is as it was.
     Look,
     Write(u64, Vec<u8>),
-    FailedWrite(u64, u64),
     Cut(u64),
-    FailedCut(u64),
     Sync,
+    Failed(FailedEffect),
+}
+
+/// What a call named that failed.
+#[derive(Clone, Copy, Debug)]
+pub enum FailedEffect {
+    /// A read, a length or a sync: the file is as it was.
+    FailedLook,
+
+    /// A write at this place, of so many bytes.
+    FailedWrite(u64, u64),
+    FailedCut(u64),
 }

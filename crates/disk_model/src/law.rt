@@ -12,9 +12,9 @@ pub trait OfFiles {
     ghost holds: { Files → Type 0 };
 }
 
-/// The law of moments. Where a fact holds of the files at each moment from an old one to a new one, time
-/// went on, and each image that a crash since an earlier time may have left was there before, or is an
-/// image of files that have the fact.
+/// The law of moments. Where a fact holds of the files at each moment from an old one to a new one, time did
+/// not run back, each image that a crash since an earlier time may have left then it may have left still, and
+/// it may have left no other but an image of files that have the fact.
 pub fn images_of_moments<P: OfFiles>()
     ensures later { (old new : Moments) → EachMoment P.holds old new → clock old ≤ clock new }
     ensures kept { (old new : Moments) (time : ℕ) (image : ℕ → List ℕ)

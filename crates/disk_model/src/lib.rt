@@ -6,8 +6,10 @@ mod disk;
 mod kept;
 mod law;
 mod memory;
+mod notes;
 mod put;
 mod replay;
+mod touched;
 
 pub use choice::Choice;
 pub use disk::{Disk, Failed};

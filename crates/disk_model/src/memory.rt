@@ -1,19 +1,22 @@
-ghost use Rattle.std.specs.Prelude.{◌≡◌, ◌<◌, ◌≤◌, ◌∷◌, ◌++◌, true, [], ℕ, length, take, map, slice_index_or, vec_len, vec_capacity, IsTrue, OnOk, OnErr, IfOk};
-ghost use Rattle.fault_counts.specs.Counts.{faults_of, is_next_listed, after_call, after_refusal};
-ghost use Rattle.fault_counts.specs.Faults.{NeverFell, Rose, HasCause};
+ghost use Rattle.std.specs.Prelude.{◌≡◌, ◌⊎◌, ◌<◌, ◌≤◌, ◌∷◌, ◌&&◌, true, [], ℕ, nat_lt, length, take, map, slice_index_or, OnOk, OnErr, IfOk};
+ghost use Rattle.fault_counts.specs.Counts.{faults_of};
+ghost use Rattle.fault_counts.specs.Faults.{HasCause};
 ghost use Rattle.disk_model.specs.FileState.{IsSettled, put};
 ghost use Rattle.disk_model.specs.Moments.{EachMoment, IsImage};
 ghost use Rattle.disk_model.specs.Changes.{Changes, AfterWrite, AfterCut, AfterSync, Unchanged};
 ghost use Rattle.disk_model.specs.Reads.{seen, IsRead};
-ghost use Rattle.disk_model.specs.Calls.{call_on, looked, written, write_failed, cut_to, cut_failed, synced};
-ghost use Rattle.disk_model.specs.MemoryLog.{fresh_log, moments_of, files_at, synced_at, KeepsCall};
+ghost use Rattle.disk_model.specs.Calls.{call_on, after_call, looked, written, write_failed, cut_to, cut_failed, synced};
+ghost use Rattle.disk_model.specs.Kept.{failed_effect, EndsInRange};
+ghost use Rattle.disk_model.specs.MemoryLog.{fresh_log, moments_of, files_at, synced_at, KeepsCall, KeptInList, KeptTogether};
 ghost use Rattle.disk_model.specs.Chosen.{IsChosen};
 
 use crate::choice::Choice;
 use crate::disk::{Disk, Failed};
-use crate::kept::{KeptCall, KeptEffect};
+use crate::kept::{FailedEffect, KeptCall, KeptEffect};
+use crate::notes::{begin, keep, keep_failed};
 use crate::put::put_copied;
 use crate::replay::crash_image;
+use crate::touched::TouchedFile;
 use fault_counts::FaultCounts;
 use std::alloc::{AllocError, Global};
 use std::marker::Model;
@@ -29,32 +32,37 @@ impl From<AllocError> for NoRoom {
 }
 
 /// A disk in memory. It keeps every call, so that it can say what a crash after any of them may leave.
+///
+/// The calls stand in a list. Once a call found no memory for its place there, the list is full for good:
+/// every later call fails for want of memory, and the disk keeps what these calls touched together, which
+/// takes no memory. So each call that failed has touched what it named, also where no memory was left.
 #[derive(Drop)]
 pub struct MemoryDisk {
     alloc: Global,
     first: [Vec<u8>; 3],
     files: [Vec<u8>; 3],
     calls: Vec<KeptCall>,
+    is_full: bool,
+    touched: [TouchedFile; 3],
     counts: FaultCounts,
 }
 
 impl Model for MemoryDisk {
-    ghost use Rattle.std.specs.Prelude.{◌≡◌, ◌<◌, ◌∷◌, [], ℕ, map, slice_index_or};
-    ghost use Rattle.disk_model.specs.MemoryLog.{DiskLog, moments_after};
-    ghost use Rattle.disk_model.specs.Kept.{calls_of};
-    ghost use Rattle.disk_model.specs.Reads.{seen};
+    ghost use Rattle.std.specs.Prelude.{map, if◌then◌else◌, Some, None};
+    ghost use Rattle.disk_model.specs.MemoryLog.{DiskLog};
+    ghost use Rattle.disk_model.specs.Kept.{calls_of, touched_in};
+    ghost use Rattle.disk_model.specs.Stored.{IsStored};
 
     ghost Value = { DiskLog };
 
     ghost view = { λ d. record {
       first = map (λ v. v.items) d.first;
       calls = calls_of d.calls.items;
+      together = if d.is_full then Some (touched_in d.touched) else None;
       counts = d.counts;
     } };
 
-    ghost invariant = { λ d. (k : ℕ) → k < 3
-        → slice_index_or (map (λ v. v.items) d.files) k []
-        ≡ seen (moments_after (map (λ v. v.items) d.first) (calls_of d.calls.items)) k };
+    ghost invariant = { λ d. IsStored (map (λ v. v.items) d.files) (map (λ v. v.items) d.first) (calls_of d.calls.items) d.is_full (touched_in d.touched) };
 }
 
 impl MemoryDisk {
@@ -69,12 +77,18 @@ impl MemoryDisk {
             first: [Vec::new(alloc), Vec::new(alloc), Vec::new(alloc)],
             files: [Vec::new(alloc), Vec::new(alloc), Vec::new(alloc)],
             calls: Vec::new(alloc),
+            is_full: false,
+            touched: [
+                TouchedFile::of_nothing(alloc),
+                TouchedFile::of_nothing(alloc),
+                TouchedFile::of_nothing(alloc),
+            ],
             counts,
         })
     }
 
-    /// A disk as a crash after so many of its calls may leave it; a number above those made means all of
-    /// them. `choice` says what stands where nothing is settled. No call of the new disk is to fail.
+    /// A disk as a crash after so many of its calls may leave it; a number above those in the list means
+    /// all of them. `choice` says what stands where nothing is settled. No call of the new disk is to fail.
     ///
     /// The error is want of memory.
     pub fn image(&self, alloc: Global, calls: usize, choice: Choice) -> Result<MemoryDisk, NoRoom>
@@ -83,11 +97,35 @@ impl MemoryDisk {
             → IsChosen choice (files_at self.now calls file) (synced_at self.now calls file) (slice_index_or disk.first file [])) }
         ensures image { IfOk result (λ disk. IsImage (files_at self.now calls) (λ file. slice_index_or disk.first file [])) }
     {
-        let kept = &self.calls[..calls.min(self.calls.len())];
-        let zero = crash_image(alloc, &self.first[0], kept, 0, choice)?;
-        let one = crash_image(alloc, &self.first[1], kept, 1, choice)?;
-        let two = crash_image(alloc, &self.first[2], kept, 2, choice)?;
+        let zero = self.file_image(alloc, calls, 0, choice)?;
+        let one = self.file_image(alloc, calls, 1, choice)?;
+        let two = self.file_image(alloc, calls, 2, choice)?;
         MemoryDisk::holding(alloc, zero, one, two)
+    }
+
+    /// What a crash after so many of the calls may leave of one file.
+    fn file_image(
+        &self,
+        alloc: Global,
+        calls: usize,
+        file: u8,
+        choice: Choice,
+    ) -> Result<Vec<u8>, NoRoom>
+        requires { file < 3 }
+        ensures { IfOk result (λ image. IsChosen choice (files_at self.now calls file) (synced_at self.now calls file) image.items) }
+    {
+        let kept = &self.calls[..calls.min(self.calls.len())];
+        let is_beside = counts_beside(self.is_full, self.calls.len(), calls);
+        let place = file as usize;
+        crash_image(
+            alloc,
+            &self.first[place],
+            kept,
+            &self.touched[place],
+            is_beside,
+            file,
+            choice,
+        )
     }
 
     /// Three files of these bytes, all of them settled. No call is to fail.
@@ -105,84 +143,75 @@ impl MemoryDisk {
             Vec::from_slice(alloc, &one)?,
             Vec::from_slice(alloc, &two)?,
         ];
+        let touched = [
+            TouchedFile::nothing(alloc, zero.len())?,
+            TouchedFile::nothing(alloc, one.len())?,
+            TouchedFile::nothing(alloc, two.len())?,
+        ];
         Ok(MemoryDisk {
             alloc,
             first: [zero, one, two],
             files,
             calls: Vec::new(alloc),
+            is_full: false,
+            touched,
             counts,
         })
     }
 }
 
-/// Counts a call, and takes room to keep it. Ok says whether the call is to fail. The error is want of
-/// memory, and that is counted.
-fn begin(counts: &mut FaultCounts, calls: &mut Vec<KeptCall>) -> Result<bool, Failed>
-    ensures listed { IfOk result (λ is_listed. is_listed ≡ is_next_listed counts.old) }
-    ensures counted { OnOk result (counts.new ≡ after_call counts.old) }
-    ensures refused { OnErr result (counts.new ≡ after_refusal (after_call counts.old)) }
-    ensures room { OnOk result (vec_len calls.new < vec_capacity calls.new) }
-    ensures calls { calls.new.items ≡ calls.old.items }
-    ensures later { NeverFell (faults_of counts.old) (faults_of counts.new) }
-    ensures failing { IfOk result (λ is_listed. IsTrue is_listed → Rose (faults_of counts.old) (faults_of counts.new)) }
-    ensures cause { OnErr result (Rose (faults_of counts.old) (faults_of counts.new)) }
-{
-    let is_listed = counts.next_call();
-    match calls.reserve(1) {
-        Ok(()) => Ok(is_listed),
-        Err(_) => {
-            counts.refuse();
-            Err(Failed)
-        }
-    }
-}
-
-/// Keeps a call where there is room for it.
-fn keep(calls: &mut Vec<KeptCall>, file: u8, effect: KeptEffect)
-    requires { vec_len calls.old < vec_capacity calls.old }
-    ensures { calls.new.items ≡ calls.old.items ++ record { file = file; effect = effect } ∷ [] }
-{
-    match calls.push(KeptCall { file, effect }) {
-        Ok(()) => {}
-        Err(_) => unreachable!(),
-    }
-}
-
 impl MemoryDisk {
+    /// Keeps a call that failed and was counted.
+    fn fail(&mut self, file: u8, failed: FailedEffect)
+        requires file { file < 3 }
+        requires range { EndsInRange failed }
+        ensures first { self.new.first ≡ self.old.first }
+        ensures counts { self.new.counts ≡ self.old.counts }
+        ensures kept { KeptInList (call_on file (failed_effect failed)) self.old self.new ⊎ KeptTogether (call_on file (failed_effect failed)) self.old self.new }
+    {
+        keep_failed(
+            &mut self.calls,
+            &mut self.is_full,
+            &mut self.touched,
+            file,
+            failed,
+        );
+    }
+
     /// A call that leaves the file as it is.
     fn look(&mut self, file: u8) -> Result<(), Failed>
+        requires { file < 3 }
         ensures kept { KeepsCall (call_on file looked) (call_on file looked) self.old self.new result }
         ensures cause { HasCause (faults_of self.old.counts) (faults_of self.new.counts) result }
     {
-        let is_listed = begin(&mut self.counts, &mut self.calls)?;
+        if !begin(&mut self.counts, &mut self.calls, self.is_full) {
+            self.fail(file, FailedEffect::FailedLook);
+            return Err(Failed);
+        }
         keep(&mut self.calls, file, KeptEffect::Look);
-        if is_listed { Err(Failed) } else { Ok(()) }
+        Ok(())
     }
 
     fn keep_write(&mut self, file: u8, at: u64, bytes: &[u8]) -> Result<(), Failed>
-        requires { file < 3 }
+        requires file { file < 3 }
+        requires inside { at ≤ length (seen (moments_of self.old) file) }
         ensures kept { KeepsCall (call_on file (written at bytes.now)) (call_on file (write_failed at (length bytes.now))) self.old self.new result }
         ensures cause { HasCause (faults_of self.old.counts) (faults_of self.new.counts) result }
     {
-        let is_listed = begin(&mut self.counts, &mut self.calls)?;
-        let failed = KeptEffect::FailedWrite(at, bytes.len() as u64);
-        if is_listed {
-            keep(&mut self.calls, file, failed);
+        let failed = FailedEffect::FailedWrite(at, bytes.len() as u64);
+        if !begin(&mut self.counts, &mut self.calls, self.is_full) {
+            self.fail(file, failed);
             return Err(Failed);
         }
-        match put_copied(
-            self.alloc,
-            &mut self.files[file as usize],
-            at as usize,
-            bytes,
-        ) {
+        let into = &mut self.files[file as usize];
+        match put_copied(self.alloc, into, at as usize, bytes) {
             Ok(copy) => {
                 keep(&mut self.calls, file, KeptEffect::Write(at, copy));
                 Ok(())
             }
             Err(_) => {
                 self.counts.refuse();
-                keep(&mut self.calls, file, failed);
+                self.fail(file, failed);
                 Err(Failed)
             }
         }
@@ -193,9 +222,8 @@ impl MemoryDisk {
         ensures kept { KeepsCall (call_on file (cut_to len)) (call_on file (cut_failed len)) self.old self.new result }
         ensures cause { HasCause (faults_of self.old.counts) (faults_of self.new.counts) result }
     {
-        let is_listed = begin(&mut self.counts, &mut self.calls)?;
-        if is_listed {
-            keep(&mut self.calls, file, KeptEffect::FailedCut(len));
+        if !begin(&mut self.counts, &mut self.calls, self.is_full) {
+            self.fail(file, FailedEffect::FailedCut(len));
             return Err(Failed);
         }
         self.files[file as usize].truncate(len as usize);
@@ -204,16 +232,35 @@ impl MemoryDisk {
     }
 
     fn keep_sync(&mut self, file: u8) -> Result<(), Failed>
+        requires { file < 3 }
         ensures kept { KeepsCall (call_on file synced) (call_on file looked) self.old self.new result }
         ensures cause { HasCause (faults_of self.old.counts) (faults_of self.new.counts) result }
     {
-        let is_listed = begin(&mut self.counts, &mut self.calls)?;
-        if is_listed {
-            keep(&mut self.calls, file, KeptEffect::Look);
+        if !begin(&mut self.counts, &mut self.calls, self.is_full) {
+            self.fail(file, FailedEffect::FailedLook);
             return Err(Failed);
         }
-        keep(&mut self.calls, file, KeptEffect::Sync);
-        Ok(())
+        let count = self.files[file as usize].len();
+        match TouchedFile::nothing(self.alloc, count) {
+            Ok(touched) => {
+                self.touched[file as usize] = touched;
+                keep(&mut self.calls, file, KeptEffect::Sync);
+                Ok(())
+            }
+            Err(_) => {
+                self.counts.refuse();
+                self.fail(file, FailedEffect::FailedLook);
+                Err(Failed)
+            }
+        }
+    }
+}
+
+#[cfg(test)]
+impl MemoryDisk {
+    /// As if the list of calls had found no memory.
+    pub fn fill_list(&mut self) {
+        self.is_full = true;
     }
 }
 
@@ -258,6 +305,7 @@ impl Disk for MemoryDisk {
         ensures time { EachMoment (Changes file (AfterWrite at (length bytes.now)) (moments_of self.old).now) (moments_of self.old) (moments_of self.new) }
         ensures cause { HasCause (faults_of self.old.counts) (faults_of self.new.counts) result }
         ensures kept { KeepsCall (call_on file (written at bytes.now)) (call_on file (write_failed at (length bytes.now))) self.old self.new result }
+        ensures touched { OnErr result ((moments_of self.new).now ≡ after_call (call_on file (write_failed at (length bytes.now))) (moments_of self.old).now) }
     {
         self.keep_write(file, at, bytes)
     }
@@ -269,6 +317,7 @@ impl Disk for MemoryDisk {
         ensures time { EachMoment (Changes file (AfterCut len) (moments_of self.old).now) (moments_of self.old) (moments_of self.new) }
         ensures cause { HasCause (faults_of self.old.counts) (faults_of self.new.counts) result }
         ensures kept { KeepsCall (call_on file (cut_to len)) (call_on file (cut_failed len)) self.old self.new result }
+        ensures touched { OnErr result ((moments_of self.new).now ≡ after_call (call_on file (cut_failed len)) (moments_of self.old).now) }
     {
         self.keep_cut(file, len)
     }
@@ -283,6 +332,13 @@ impl Disk for MemoryDisk {
     {
         self.keep_sync(file)
     }
+}
+
+/// Whether so many calls go past those in the list, and some are kept beside it.
+fn counts_beside(is_full: bool, listed: usize, calls: usize) -> bool
+    ensures { result ≡ (is_full && nat_lt listed calls) }
+{
+    is_full && listed < calls
 }
 
 /// Reads from a position on into the front of the buffer, and says how many bytes.

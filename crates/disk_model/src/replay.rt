@@ -2,14 +2,16 @@
 ghost use Rattle.std.specs.Prelude.{◌≡◌, ◌<◌, ◌+◌, ◌&&◌, ◌||◌, ℕ, List, false, true, length, replicate, slice_index, slice_index_or, nat_lt, nat_le, max, if◌then◌else◌, IfOk, OnOk};
 ghost use Rattle.disk_model.specs.FileState.{FileState, synced_file};
 ghost use Rattle.disk_model.specs.Calls.{write_failed, effect_on, left_by, file_from, last_sync};
-ghost use Rattle.disk_model.specs.Kept.{effect_of, calls_of};
+ghost use Rattle.disk_model.specs.Touched.{leaves, touch};
+ghost use Rattle.disk_model.specs.Kept.{effect_of, failed_effect, calls_of, touched_of};
 ghost use Rattle.disk_model.specs.Chosen.{IsChosen};
 ghost use Rattle.disk_model.specs.Replays.{IsReplayed};
 
 use crate::choice::Choice;
-use crate::kept::{KeptCall, KeptEffect};
+use crate::kept::{FailedEffect, KeptCall, KeptEffect};
 use crate::memory::NoRoom;
 use crate::put::put;
+use crate::touched::TouchedFile;
 use std::alloc::{AllocError, Global};
 
 /// The file after some calls: its bytes, those of its last sync, which of its positions are settled (none
@@ -46,15 +48,36 @@ impl Replay {
                 self.touch(*at, bytes.len() as u64)?;
                 put(&mut self.bytes, *at as usize, bytes)?;
             }
-            KeptEffect::FailedWrite(at, count) => self.touch(*at, *count)?,
             KeptEffect::Cut(count) => {
                 self.settled.truncate(*count as usize);
                 self.bytes.truncate(*count as usize);
             }
-            KeptEffect::FailedCut(count) => self.settled.truncate(*count as usize),
             KeptEffect::Sync => *self = Replay::synced(alloc, &self.bytes)?,
+            KeptEffect::Failed(failed) => self.apply_failed(*failed)?,
         }
         Ok(())
+    }
+
+    /// The file after one more call to it that failed.
+    fn apply_failed(&mut self, failed: FailedEffect) -> Result<(), NoRoom>
+        ensures { OnOk result ((last : List ℕ) (file : FileState) → IsReplayed self.old last file
+            → IsReplayed self.new last (effect_on (failed_effect failed) file)) }
+    {
+        match failed {
+            FailedEffect::FailedLook => {}
+            FailedEffect::FailedWrite(at, count) => self.touch(at, count)?,
+            FailedEffect::FailedCut(count) => self.settled.truncate(count as usize),
+        }
+        Ok(())
+    }
+
+    /// The file after the calls that are kept together.
+    fn apply_touched(&mut self, touched: &TouchedFile)
+        ensures { (last : List ℕ) (file : FileState) → IsReplayed self.old last file
+            → IsReplayed self.new last (touch (touched_of touched.now) file) }
+    {
+        keep_left(&mut self.settled, touched);
+        self.greatest = self.greatest.max(touched.greatest as usize);
     }
 
     /// A write of so many bytes at a position settles none of them, and may make the file longer.
@@ -94,19 +117,26 @@ impl Replay {
     }
 }
 
-/// The image of a file that held these bytes at first, after these calls, some of which name it.
+/// The image of a file that held these bytes at first, after these calls, some of which name it, and, where
+/// they count, after those that are kept together.
 pub fn crash_image(
     alloc: Global,
     first: &Vec<u8>,
     calls: &[KeptCall],
+    beside: &TouchedFile,
+    is_beside: bool,
     file: u8,
     choice: Choice,
 ) -> Result<Vec<u8>, NoRoom>
     ensures { IfOk result (λ image. IsChosen choice
-        (file_from file (synced_file first.now.items) (calls_of calls.now))
+        (let listed = file_from file (synced_file first.now.items) (calls_of calls.now) in if is_beside then touch (touched_of beside.now) listed else listed)
         (last_sync file first.now.items (synced_file first.now.items) (calls_of calls.now)) image.items) }
 {
-    Replay::after(alloc, first, calls, file)?.image(alloc, choice)
+    let mut replay = Replay::after(alloc, first, calls, file)?;
+    if is_beside {
+        replay.apply_touched(beside);
+    }
+    replay.image(alloc, choice)
 }
 
 /// So many bytes: those that are settled, and this one elsewhere.
@@ -132,8 +162,19 @@ fn filled(
     Ok(image)
 }
 
+/// Nothing is settled that the calls touched.
+fn keep_left(settled: &mut [bool], touched: &TouchedFile)
+    ensures { (p : ℕ) → slice_index_or settled.new p false ≡ (slice_index_or settled.old p false && leaves (touched_of touched.now) p) }
+{
+    for (p, mark) in settled.iter_mut().enumerate() {
+        if !touched.leaves(p) {
+            *mark = false;
+        }
+    }
+}
+
 /// A write of so many bytes at a position settles none of them.
-fn unsettle(settled: &mut [bool], at: u64, count: u64)
+pub fn unsettle(settled: &mut [bool], at: u64, count: u64)
     ensures { (p : ℕ) → slice_index_or settled.new p false
         ≡ (slice_index_or settled.old p false && (nat_lt p at || nat_le (at + count) p)) }
 {

@@ -14,16 +14,60 @@ fn written(alloc: Global, fail: &[u64]) -> Result<MemoryDisk, NoRoom> {
     Ok(disk)
 }
 
+/// Whether the file's bytes are these.
+fn shows(disk: &mut MemoryDisk, file: u8, bytes: &[u8]) -> Result<bool, Failed> {
+    let mut buf = [0; 16];
+    if file >= 3 {
+        return Ok(false);
+    }
+    let count = disk.read(file, 0, &mut buf)?;
+    let len = disk.len(file)?;
+    Ok(len == bytes.len() as u64 && count <= 16 && &buf[..count] == bytes)
+}
+
 /// The file's bytes are these.
 fn holds(rt: &impl Abort, disk: &mut MemoryDisk, file: u8, bytes: &[u8]) -> Result<(), Fail> {
-    let mut buf = [0; 16];
-    if file < 3 {
-        let count = disk.read(file, 0, &mut buf)?;
-        assert_eq!(rt; disk.len(file)?, bytes.len() as u64);
-        assert!(rt; count <= 16);
-        assert_eq!(rt; &buf[..count], bytes);
-    }
+    assert!(rt; shows(disk, file, bytes)?);
     Ok(())
+}
+
+/// The calls of `written`, and the number of the first that failed, or 0.
+fn first_failure(disk: &mut MemoryDisk) -> u64 {
+    if disk.write_at(1, 0, b"hello").is_err() {
+        return 1;
+    }
+    if disk.sync(1).is_err() {
+        return 2;
+    }
+    if disk.write_at(1, 4, b"XY").is_err() {
+        return 3;
+    }
+    if disk.cut(1, 3).is_err() { 4 } else { 0 }
+}
+
+/// An image of the disk after all calls has these bytes in file 1.
+fn leaves(
+    rt: &impl Abort,
+    alloc: Global,
+    disk: &MemoryDisk,
+    choice: Choice,
+    bytes: &[u8],
+) -> Result<(), Fail> {
+    holds(rt, &mut disk.image(alloc, 99, choice)?, 1, bytes)
+}
+
+/// Which of the calls of `written` failed, or 0, and whether each byte that they touched is filled then. None
+/// where there was no memory to say so.
+fn with_any_memory(alloc: Global) -> Option<(u64, bool)> {
+    let mut disk = MemoryDisk::new(alloc, &[]).ok()?;
+    let failed = first_failure(&mut disk);
+    let filled: &[u8] = match failed {
+        1 | 2 => b".....",
+        3 => b"hell..",
+        _ => b"hel...",
+    };
+    let mut image = disk.image(alloc, 99, Choice::Fill(b'.')).ok()?;
+    Some((failed, shows(&mut image, 1, filled).ok()?))
 }
 
 #[test]
@@ -87,5 +131,46 @@ fn listed_calls_fail_and_touch_what_they_name(rt: HostRuntime) -> Result<(), Fai
     assert_eq!(rt; disk.len(0), Err(Failed));
     assert_eq!(rt; disk.read(0, 0, &mut [0; 1]), Err(Failed));
     assert_eq!(rt; disk.sync(0), Ok(()));
+    Ok(())
+}
+
+// `checks/failing_allocations_of_files` runs these two with each allocation failing in turn: the first passes
+// whichever it is, and the second where there is none.
+#[test]
+fn a_call_without_memory_touched_what_it_named(rt: HostRuntime) {
+    match with_any_memory(rt.alloc()) {
+        None => {}
+        Some((_, is_filled)) => assert!(rt; is_filled),
+    }
+}
+
+#[test]
+fn with_memory_no_call_fails(rt: HostRuntime) {
+    assert_eq!(rt; with_any_memory(rt.alloc()), Some((0, true)));
+}
+
+#[test]
+fn a_full_list_keeps_what_calls_touch(rt: HostRuntime) -> Result<(), Fail> {
+    let alloc = rt.alloc();
+    let mut disk = MemoryDisk::new(alloc, &[5])?;
+    assert_eq!(rt; disk.write_at(1, 0, b"hello"), Ok(()));
+    assert_eq!(rt; disk.sync(1), Ok(()));
+    disk.fill_list();
+    assert_eq!(rt; disk.write_at(1, 0, b"XY"), Err(Failed));
+    leaves(&rt, alloc, &disk, Choice::Fill(b'.'), b"..llo")?;
+    assert_eq!(rt; disk.cut(1, 0), Err(Failed));
+    leaves(&rt, alloc, &disk, Choice::Fill(b'.'), b".....")?;
+    assert_eq!(rt; disk.write_at(1, 0, b"seven..."), Err(Failed));
+    assert_eq!(rt; disk.sync(1), Err(Failed));
+    assert_eq!(rt; disk.len(1), Err(Failed));
+    leaves(&rt, alloc, &disk, Choice::Old, b"hello")?;
+    leaves(&rt, alloc, &disk, Choice::New, b"hello")?;
+    leaves(&rt, alloc, &disk, Choice::Fill(b'.'), b"........")?;
+    holds(
+        &rt,
+        &mut disk.image(alloc, 2, Choice::Fill(b'.'))?,
+        1,
+        b"hello",
+    )?;
     Ok(())
 }

@@ -1,10 +1,12 @@
 -- Laws of the records of a journal.
-use Rattle.std.proofs.Common.{◌≡◌, ◌⊎◌, inl, inr, ℕ, zero, suc, ◌+◌, ◌<◌, ◌≤◌, ◌^◌, List, [], ◌∷◌, ◌++◌, length, take, drop, get_or, refl, sym, ◌∙◌, ap, subst, arith, append_assoc, length-append}
+use Rattle.std.proofs.Common.{◌≡◌, ◌⊎◌, inl, inr, ℕ, zero, suc, ◌+◌, ◌<◌, ◌≤◌, ◌^◌, List, [], ◌∷◌, ◌++◌, length, take, drop, get_or, refl, sym, ◌∙◌, ap, subst, arith, append_assoc, length-append, length-take}
 use Rattle.std.specs.Prelude.{slice_index, All}
 use Rattle.std.specs.Int.{w32, to_le_bytes, from_le_bytes, w64}
 use Rattle.std.proofs.lemmas.Nat.{from_le_bytes-to_le_bytes_4, from_le_bytes-to_le_bytes_8}
 use Rattle.std.proofs.lemmas.List.{append-nil, append_cancel_left, take_at, take-take, get_or-take, get_or_at}
-use Rattle.gate_journal.specs.Gate.{ClosedAfter, IsRecordAt, record_text, behind_gate}
+use Rattle.disk_model.specs.FileState.{FileState}
+use Rattle.gate_journal.specs.Stand.{Stand, gate_of, text_before, IsAtGate}
+use Rattle.gate_journal.specs.Gate.{ClosedAfter, IsClosed, IsRecordAt, record_text, behind_gate}
 use Rattle.gate_journal.specs.Records.{Fits, HasRecords, records_text, image_front, IsArea}
 use Rattle.gate_journal.proofs.ReadLemmas.{record_start}
 
@@ -142,3 +144,15 @@ area_unique file image other a b fits_image fits_other is_a is_b =
     let images : image ≡ other = append_cancel_left field_b image other (subst (λ (l : List ℕ). l ++ image ≡ image_front other) fields fronts) in
     let moved = subst (λ (l : List ℕ). ClosedAfter (l ++ records_text b) file) (sym fronts) is_b.closed in
     (images, told_apart (image_front image) file a b is_a.closed moved is_a.fit is_b.fit)
+
+-- what stands before the closed gate that a journal has come to
+pub records_before : (journal : Stand) (file : FileState) (front : List ℕ) (records : List (List ℕ)) → 0 < journal.length → IsAtGate journal file
+    → text_before journal file.bytes ≡ front ++ records_text records → All Fits records → HasRecords front records file.bytes
+records_before journal file front records some at_gate text fit =
+    let size : length (text_before journal file.bytes) ≡ gate_of journal = length-take (gate_of journal) file.bytes ∙ omega (arith, some, at_gate.inside) in
+    let closed : ClosedAfter (text_before journal file.bytes) file.bytes = record {
+      begins = ap (λ (n : ℕ). take n file.bytes) size;
+      inside = omega (arith, size, some, at_gate.inside);
+      closed = subst (IsClosed file.bytes) (sym size) at_gate.closed;
+    } in
+    record { closed = subst (λ (l : List ℕ). ClosedAfter l file.bytes) text closed; fit = fit }

@@ -149,6 +149,7 @@ impl Journal {
 
     /// Reads the next record, head and body joined, into the list. False at a closed gate, which is then
     /// reached. A record that does not fit the file or the limit is damage at its gate, and costs no memory.
+    /// After an error the journal stands where it stood; what the list holds then is not said.
     pub fn next_record<D: Disk>(
         &mut self,
         disk: &mut D,
@@ -161,6 +162,7 @@ impl Journal {
         ensures closed { IfOk result (λ more. IsFalse more → IsTrue self.new.reached) }
         ensures text { IsTrue D.tells → IfOk result (λ more. IsTrue more → text_before self.new (seen (D.moments disk.new) self.new.file)
             ≡ text_before self.old (seen (D.moments disk.old) self.old.file) ++ record_text into.new) }
+        ensures err { OnErr result (self.new ≡ self.old) }
         ensures same { (self.new.file ≡ self.old.file) × (self.new.limit ≡ self.old.limit) }
         ensures unchanged { IsTrue D.tells → EachMoment (Unchanged (D.moments disk.old).now) (D.moments disk.old) (D.moments disk.new) }
         ensures later { NeverFell (D.faults disk.old) (D.faults disk.new) }

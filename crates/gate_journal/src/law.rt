@@ -1,10 +1,13 @@
 ghost use Rattle.std.specs.Prelude.{◌≡◌, ◌⊎◌, ◌<◌, ◌^◌, ◌∷◌, ◌++◌, [], ℕ, List, length, All};
+ghost use Rattle.disk_model.specs.FileState.{FileState};
+ghost use Rattle.gate_journal.specs.Stand.{Stand, IsAtGate, text_before};
 ghost use Rattle.gate_journal.specs.Gate.{ClosedAfter, IsClosed, IsRecordAt, record_text};
 ghost use Rattle.gate_journal.specs.Records.{Fits, HasRecords, IsArea, records_text};
 
 /// The laws of a journal's records. What stands behind a front is one list of records; each stands at its
-/// gate and the gate behind the last is closed, so that reading finds them in order and never damage; and a
-/// text that ends as before or with a record more is one of those records or with that one more.
+/// gate and the gate behind the last is closed, so that reading finds them in order and never damage; a
+/// text that ends as before or with a record more is one of those records or with that one more; and where a
+/// journal has come to a closed gate, the text before it is all of them.
 pub fn records_of_a_journal()
     ensures told_apart { (front file : List ℕ) (records others : List (List ℕ))
         → HasRecords front records file → HasRecords front others file → records ≡ others }
@@ -19,6 +22,9 @@ pub fn records_of_a_journal()
         → before ≡ front ++ records_text records → All Fits records → Fits record_is
         → ClosedAfter before image ⊎ ClosedAfter (before ++ record_text record_is) image
         → HasRecords front records image ⊎ HasRecords front (records ++ record_is ∷ []) image }
+    ensures at_gate { (journal : Stand) (file : FileState) (front : List ℕ) (records : List (List ℕ))
+        → 0 < journal.length → IsAtGate journal file → text_before journal file.bytes ≡ front ++ records_text records → All Fits records
+        → HasRecords front records file.bytes }
 {}
 
 /// The law of areas: a file that begins with an image has one image and one list of records.

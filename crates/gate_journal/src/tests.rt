@@ -2,7 +2,7 @@ ghost use Rattle.std.specs.Prelude.{◌≡◌, ◌<◌, true, length, IsTrue, If
 ghost use Rattle.gate_journal.specs.Stand.{IsAtGate};
 
 use crate::{AppendFault, Journal, JournalFault};
-use disk_model::{Choice, Disk, MemoryDisk};
+use disk_model::{Choice, Disk, Failed, MemoryDisk};
 use nmc_base::Bytes;
 use std::alloc::Global;
 use std::test::Fail;
@@ -104,6 +104,36 @@ fn is_either(
     Ok(found.as_slice() == before || found.as_slice() == after)
 }
 
+/// So does the image of each choice.
+fn each_is_either(
+    alloc: Global,
+    disk: &MemoryDisk,
+    calls: usize,
+    before: &[u8],
+    after: &[u8],
+) -> Result<bool, Fail> {
+    let mut all = is_either(alloc, disk, calls, Choice::Old, before, after)?
+        && is_either(alloc, disk, calls, Choice::New, before, after)?;
+    for byte in 0..=255 {
+        all = all && is_either(alloc, disk, calls, Choice::Fill(byte), before, after)?;
+    }
+    Ok(all)
+}
+
+/// The image has no record, or its first gate is missing or opens on no record: a journal is not begun.
+fn is_not_begun(
+    alloc: Global,
+    disk: &MemoryDisk,
+    calls: usize,
+    choice: Choice,
+) -> Result<bool, Fail> {
+    let mut image = disk.image(alloc, calls, choice)?;
+    match records(alloc, &mut image, 64) {
+        Ok(found) => Ok(found.as_slice().is_empty()),
+        Err(fault) => Ok(matches!(fault, JournalFault::Damaged { at: 8 })),
+    }
+}
+
 #[test]
 fn full_and_read_again(rt: HostRuntime) -> Result<(), Fail> {
     let alloc = rt.alloc();
@@ -132,14 +162,17 @@ fn each_stop_leaves_the_records_before_or_after(rt: HostRuntime) -> Result<(), F
         (TWO, TWO),
     ];
     for (more, (before, after)) in allowed.iter().enumerate() {
-        for choice in [
-            Choice::Old,
-            Choice::New,
-            Choice::Fill(0),
-            Choice::Fill(1),
-            Choice::Fill(255),
-        ] {
-            assert!(rt; is_either(alloc, &disk, 3 + more, choice, before, after)?);
+        assert!(rt;
+            each_is_either(alloc, &disk, 3 + more, before, after)?,
+            "after {more} more calls"
+        );
+    }
+    for calls in 0..3 {
+        for choice in [Choice::Old, Choice::New, Choice::Fill(0), Choice::Fill(1)] {
+            assert!(rt;
+                is_not_begun(alloc, &disk, calls, choice)?,
+                "after {calls} calls"
+            );
         }
     }
     Ok(())
@@ -162,9 +195,10 @@ fn each_failing_call_leaves_the_records_before_or_after(rt: HostRuntime) -> Resu
     for (more, (acknowledged, before, after)) in steps.iter().enumerate() {
         let mut disk = MemoryDisk::new(alloc, &[4 + more as u64])?;
         assert_eq!(rt; made(&mut disk), Some(*acknowledged));
-        for choice in [Choice::Old, Choice::New, Choice::Fill(0), Choice::Fill(1)] {
-            assert!(rt; is_either(alloc, &disk, 99, choice, before, after)?);
-        }
+        assert!(rt;
+            each_is_either(alloc, &disk, 99, before, after)?,
+            "at call {more}"
+        );
     }
     Ok(())
 }
@@ -181,6 +215,10 @@ fn a_failing_call_is_a_fault_of_the_disk(rt: HostRuntime) -> Result<(), Fail> {
         assert_eq!(rt; made(&mut disk), Some(2));
         assert!(rt; matches!(records(alloc, &mut disk, 64), Err(JournalFault::DiskFault)));
     }
+    // There are no more.
+    let mut disk = MemoryDisk::new(alloc, &[21])?;
+    assert_eq!(rt; made(&mut disk), Some(2));
+    assert_eq!(rt; records(alloc, &mut disk, 64)?.as_slice(), TWO);
     Ok(())
 }
 
@@ -188,7 +226,7 @@ fn a_failing_call_is_a_fault_of_the_disk(rt: HostRuntime) -> Result<(), Fail> {
 fn each_changed_byte_is_read_or_damage(rt: HostRuntime) -> Result<(), Fail> {
     let alloc = rt.alloc();
     for at in 0..42 {
-        for value in [0, 1, 2, 255] {
+        for value in 0..=255 {
             let mut bytes = FILE;
             bytes[at] = value;
             match records_of(alloc, &bytes, 64) {
@@ -239,14 +277,57 @@ fn gates_lengths_and_limits(rt: HostRuntime) -> Result<(), Fail> {
 #[test]
 fn a_large_body_is_read_again(rt: HostRuntime) -> Result<(), Fail> {
     let alloc = rt.alloc();
-    for size in [114, 115, 116, 300] {
+    // The size of a body, and the calls of its append: its writes, a sync, the gate and a sync.
+    for (size, calls) in [(114, 4), (115, 4), (116, 6), (300, 6)] {
         let body = [7; 300];
-        let mut disk = MemoryDisk::new(alloc, &[])?;
+        let mut disk = MemoryDisk::new(alloc, &[4 + calls])?;
         assert!(rt; has_appended(&mut disk, &body[..size % 301]));
+        assert_eq!(rt; disk.len(1), Err(Failed));
         let found = records(alloc, &mut disk, 2000)?;
         assert!(rt; found.as_slice().starts_with(b"12345678"));
         assert!(rt; found.as_slice().len() == 9 + size);
         assert!(rt; found.as_slice().ends_with(b"\x07\x07|"));
     }
     Ok(())
+}
+
+/// How many records were acknowledged, and whether the files of the disk and an image of it hold these, or one
+/// more. None where there was no memory to say so.
+fn with_any_memory(alloc: Global) -> Option<(u8, bool)> {
+    let mut disk = MemoryDisk::new(alloc, &[]).ok()?;
+    let acknowledged = made(&mut disk)?;
+    let (before, after) = match acknowledged {
+        0 => (NONE, ONE),
+        1 => (ONE, TWO),
+        _ => (TWO, TWO),
+    };
+    let mut image = disk.image(alloc, 99, Choice::Fill(1)).ok()?;
+    let in_image = is_among(records(alloc, &mut image, 64), before, after)?;
+    let in_files = is_among(records(alloc, &mut disk, 64), before, after)?;
+    Some((acknowledged, in_image && in_files))
+}
+
+/// Whether these records were read. None for a fault of the disk or want of memory, which are not damage.
+fn is_among(found: Result<Bytes, JournalFault>, before: &[u8], after: &[u8]) -> Option<bool> {
+    match found {
+        Ok(found) => Some(found.as_slice() == before || found.as_slice() == after),
+        Err(JournalFault::Damaged { at: _ }) => Some(false),
+        Err(JournalFault::DiskFault) => None,
+        Err(JournalFault::NoMemory) => None,
+    }
+}
+
+// `checks/failing_allocations_of_files` runs these two with each allocation failing in turn: the first passes
+// whichever it is, and the second where there is none.
+#[test]
+fn want_of_memory_is_no_damage(rt: HostRuntime) {
+    match with_any_memory(rt.alloc()) {
+        None => {}
+        Some((_, is_right)) => assert!(rt; is_right),
+    }
+}
+
+#[test]
+fn with_memory_no_call_fails(rt: HostRuntime) {
+    assert_eq!(rt; with_any_memory(rt.alloc()), Some((2, true)));
 }

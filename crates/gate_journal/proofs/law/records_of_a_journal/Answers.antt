@@ -1,4 +1,4 @@
-use Rattle.gate_journal.proofs.RecordLemmas.{told_apart, record_among, front-push, with_or_without}
+use Rattle.gate_journal.proofs.RecordLemmas.{told_apart, record_among, front-push, with_or_without, records_before}
 use Rattle.gate_journal.proofs.law.records_of_a_journal.Goals as goal
 
 pub returns-clause-told_apart : goal.returns-clause-told_apart
@@ -15,3 +15,6 @@ returns-clause-joined c = λ front records record_is. front-push front records r
 
 pub returns-clause-one_more : goal.returns-clause-one_more
 returns-clause-one_more c = λ front records record_is before image is fit one either. with_or_without front records record_is before image is fit one either
+
+pub returns-clause-at_gate : goal.returns-clause-at_gate
+returns-clause-at_gate c = λ journal file front records some at_gate text fit. records_before journal file front records some at_gate text fit

@@ -1,5 +1,5 @@
-use Rattle.disk_model.specs.Calls.{call_on, cut_failed}
-use Rattle.disk_model.proofs.KeptLemmas.{cut_time, cut_seen}
+use Rattle.disk_model.specs.Calls.{call_on, cut_to, cut_failed}
+use Rattle.disk_model.proofs.KeptLemmas.{cut_time, cut_seen, touched_failed}
 use Rattle.disk_model.proofs.memory.MemoryDiskDisk.cut.Goals as goal
 
 pub returns-clause-cut : goal.returns-clause-cut
@@ -7,3 +7,7 @@ returns-clause-cut c = cut_seen c.args.self.now c.keep_cut.new.self c.args.file 
 
 pub returns-clause-time : goal.returns-clause-time
 returns-clause-time c = cut_time c.args.self.now c.keep_cut.new.self c.args.file c.keep_cut.result c.args.len c.keep_cut.ensures.kept
+
+pub returns-clause-touched : goal.returns-clause-touched
+returns-clause-touched c =
+    touched_failed c.args.self.now c.keep_cut.new.self (call_on c.args.file (cut_to c.args.len)) (call_on c.args.file (cut_failed c.args.len)) c.keep_cut.result c.keep_cut.ensures.kept

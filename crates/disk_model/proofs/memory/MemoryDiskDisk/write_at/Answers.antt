@@ -1,6 +1,6 @@
 use Rattle.std.proofs.Common.{length}
-use Rattle.disk_model.specs.Calls.{call_on, write_failed}
-use Rattle.disk_model.proofs.KeptLemmas.{write_time, write_seen}
+use Rattle.disk_model.specs.Calls.{call_on, written, write_failed}
+use Rattle.disk_model.proofs.KeptLemmas.{write_time, write_seen, touched_failed}
 use Rattle.disk_model.proofs.memory.MemoryDiskDisk.write_at.Goals as goal
 
 pub returns-clause-written : goal.returns-clause-written
@@ -10,3 +10,7 @@ returns-clause-written c =
 pub returns-clause-time : goal.returns-clause-time
 returns-clause-time c =
     write_time c.args.self.now c.keep_write.new.self c.args.file c.keep_write.result c.args.at c.args.bytes.now c.requires.inside c.keep_write.ensures.kept
+
+pub returns-clause-touched : goal.returns-clause-touched
+returns-clause-touched c =
+    touched_failed c.args.self.now c.keep_write.new.self (call_on c.args.file (written c.args.at c.args.bytes.now)) (call_on c.args.file (write_failed c.args.at (length c.args.bytes.now))) c.keep_write.result c.keep_write.ensures.kept
