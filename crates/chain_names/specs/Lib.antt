@@ -7,3 +7,4 @@ pub mod Meaning
 pub mod Changes
 pub mod Index
 pub mod Tables
+pub mod Undo

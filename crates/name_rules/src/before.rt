@@ -198,6 +198,7 @@ impl<'v, V: NameView> Before<'v, V> {
         ensures verdict { let before = self.now in said result
             ≡ verdict_by before.profile (V.maps before.view.now) before.height txid.now.0 version (found_inputs spent.now) (found_outputs made.now) }
         ensures cost { steps.new ≤ steps.old + 2 }
+        ensures none { found_outputs made.now ≡ [] → steps.new ≡ steps.old }
     {
         counted(version, spent, made)?;
         match made {

@@ -1,4 +1,4 @@
-ghost use Rattle.std.specs.Prelude.{◌≡◌, ◌+◌, ◌≤◌, ◌^◌, length};
+ghost use Rattle.std.specs.Prelude.{◌≡◌, ◌+◌, ◌≤◌, ◌^◌, [], length};
 ghost use Rattle.full_grammar.specs.Transaction.{txid_of};
 ghost use Rattle.chain_names.specs.Verdict.{verdict};
 ghost use Rattle.chain_names.specs.Meaning.{Means};
@@ -30,6 +30,7 @@ pub fn check<'a, V: NameView, L: Ledger>(
     // What it then says of the coins and of the transaction.
     ensures means { Means profile (V.maps view.now) height tx.now (seen_verdict result) }
     ensures cost { steps.new ≤ steps.old + length tx.now.inputs + 2 }
+    ensures cost_of_inputs { tx.now.outputs ≡ [] → steps.new ≤ steps.old + length tx.now.inputs }
 {
     let spent = name_inputs(view, tx.inputs(), steps);
     let made = name_outputs(tx.outputs());

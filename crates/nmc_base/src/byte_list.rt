@@ -30,6 +30,13 @@ impl Bytes {
         }
     }
 
+    /// The empty list, which takes its memory where this one does. It takes none yet.
+    pub fn empty_alike(&self) -> Bytes
+        ensures { result ≡ [] }
+    {
+        Bytes::new(*self.held.allocator())
+    }
+
     /// A list of the same bytes.
     pub fn copy_of(alloc: Global, bytes: &[u8]) -> Result<Bytes, NoMemory>
         ensures { IfOk result (λ b. b ≡ bytes.now) }
