@@ -1,0 +1,5 @@
+use Rattle.undo_laws.proofs.Beginning.{base_sound}
+use Rattle.undo_laws.proofs.laws.begins_sound.Goals as goal
+
+pub returns : goal.returns
+returns c = base_sound

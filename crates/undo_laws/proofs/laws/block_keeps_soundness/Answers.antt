@@ -1,0 +1,5 @@
+use Rattle.undo_laws.proofs.Soundness.{block_sound}
+use Rattle.undo_laws.proofs.laws.block_keeps_soundness.Goals as goal
+
+pub returns : goal.returns
+returns c = block_sound

@@ -1,0 +1,5 @@
+use Rattle.undo_laws.proofs.BlockState.{block_state}
+use Rattle.undo_laws.proofs.laws.block_keeps_state.Goals as goal
+
+pub returns : goal.returns
+returns c = block_state

@@ -1,0 +1,5 @@
+use Rattle.undo_laws.proofs.Restoring.{restored_due}
+use Rattle.undo_laws.proofs.laws.restored_are_due.Goals as goal
+
+pub returns : goal.returns
+returns c = restored_due

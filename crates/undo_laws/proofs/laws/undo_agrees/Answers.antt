@@ -1,0 +1,5 @@
+use Rattle.undo_laws.proofs.Agreeing.{undo_ops_in-maps}
+use Rattle.undo_laws.proofs.laws.undo_agrees.Goals as goal
+
+pub returns : goal.returns
+returns c = undo_ops_in-maps

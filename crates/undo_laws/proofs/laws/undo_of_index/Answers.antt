@@ -1,0 +1,5 @@
+use Rattle.undo_laws.proofs.Beginning.{undo_by_maps}
+use Rattle.undo_laws.proofs.laws.undo_of_index.Goals as goal
+
+pub returns : goal.returns
+returns c = undo_by_maps

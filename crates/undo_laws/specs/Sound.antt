@@ -1,0 +1,49 @@
+-- Sound states, and the chains that are accepted on a base.
+use Rattle.std.specs.Prelude.{◌≡◌, ℕ, suc, ◌+◌, ◌<◌, ◌≤◌, ◌^◌, List, [], ◌∷◌, length, None}
+use Rattle.full_grammar.specs.Transaction.{Transaction}
+use Rattle.nmc_base.specs.declared.chain_ends.Profile.{Profile}
+use Rattle.chain_names.specs.Coins.{Maps}
+use Rattle.chain_names.specs.Changes.{undone}
+use Rattle.chain_names.specs.Index.{next_height, refused_in}
+use Rattle.chain_names.specs.Log.{behind_coinbase, transactions_in, log_of}
+use Rattle.chain_names.specs.Undo.{UndoRecord}
+use Rattle.undo_laws.specs.State.{highest, IsState}
+use Rattle.undo_laws.specs.Fits.{FitsState}
+use Rattle.undo_laws.specs.Writable.{IsWritable}
+
+-- the base alone: no coin and no item is higher than it, as the state says
+pub record IsBaseState (profile : Profile) (base tip : ℕ) (maps : Maps) : Type 0 where
+  pub at_base : tip ≡ base
+  pub state : IsState profile tip maps
+
+-- the tip's undo record fits the state, and below it is one height less
+pub record IsTipState (profile : Profile) (tip below : ℕ) (u : UndoRecord) (maps : Maps) : Type 0 where
+  pub above : tip ≡ suc below
+  pub state : IsState profile tip maps
+  pub writable : IsWritable u
+  pub fits : FitsState profile tip u maps
+
+-- A state is sound where each undo record fits, from the newest to the oldest, and each state on the way down to the base
+-- is one.
+abbrev pub IsSound : Profile → ℕ → ℕ → Maps → List UndoRecord → Type 0
+IsSound profile base tip maps [] = IsBaseState profile base tip maps
+IsSound profile base tip maps (u ∷ us) = (below : ℕ) × IsTipState profile tip below u maps × IsSound profile base below (undone u.ops u.expired maps) us
+
+-- ---- accepted chains
+
+-- how many outputs the transactions have in all
+abbrev pub count_outputs : List Transaction → ℕ
+count_outputs [] = 0
+count_outputs (t ∷ ts) = length t.outputs + count_outputs ts
+
+-- the block on these blocks: it is no higher than any chain may be, has fewer than 2^32 outputs behind the coinbase, and
+-- none of its transactions is refused
+pub record IsAccepted (profile : Profile) (base : ℕ) (block : List ℕ) (blocks : List (List ℕ)) : Type 0 where
+  pub low : next_height base blocks ≤ highest
+  pub few_outputs : count_outputs (behind_coinbase (transactions_in block)) < 2 ^ 32
+  pub unrefused : refused_in profile (next_height base blocks) 1 (behind_coinbase (transactions_in block)) (log_of base blocks) ≡ None
+
+-- each block on those below it
+abbrev pub AreAccepted : Profile → ℕ → List (List ℕ) → Type 0
+AreAccepted profile base [] = base ≤ highest
+AreAccepted profile base (block ∷ blocks) = IsAccepted profile base block blocks × AreAccepted profile base blocks

@@ -1,0 +1,42 @@
+-- Which undo records are written.
+use Rattle.std.specs.Prelude.{◌<◌, ◌≤◌, ◌^◌, length, Option, Some, None}
+use Rattle.std.specs.List.{AllByRecursion}
+use Rattle.chain_names.specs.declared.coin.Coin.{Coin}
+use Rattle.chain_names.specs.declared.coin.Coin.TheVariants.{New, Named}
+use Rattle.chain_names.specs.declared.coin.HeldCoin.{HeldCoin}
+use Rattle.chain_names.specs.declared.coin.Item.{Item}
+use Rattle.chain_names.specs.declared.undo.UndoOp.{UndoOp}
+use Rattle.chain_names.specs.declared.undo.UndoOp.TheVariants.{New as undo_new, First as undo_first, Update as undo_update}
+use Rattle.chain_names.specs.Undo.{UndoRecord}
+use Rattle.undo_laws.specs.Expired.{IsSortedByPoint}
+
+abbrev pub IsCommitment : Coin → Type 0
+IsCommitment (New hash height) = Unit {0}
+IsCommitment (Named name height) = ⊥
+
+-- the coin of a name of at most 255 bytes
+abbrev pub IsNameCoin : Coin → Type 0
+IsNameCoin (New hash height) = ⊥
+IsNameCoin (Named name height) = length name ≤ 255
+
+-- the value of the item before, where there is one, has at most 1023 bytes
+abbrev pub IsWritableBefore : Option Item → Type 0
+IsWritableBefore None = Unit {0}
+IsWritableBefore (Some item) = length item.value ≤ 1023
+
+-- an operation that opens a name spends a commitment, and one that updates a name spends a name's coin
+abbrev pub IsWritableOp : UndoOp → Type 0
+IsWritableOp (undo_new made) = Unit {0}
+IsWritableOp (undo_first made spent coin name before) = IsCommitment coin × (length name ≤ 255) × IsWritableBefore before
+IsWritableOp (undo_update made spent coin name before) = IsNameCoin coin × (length name ≤ 255) × IsWritableBefore before
+
+abbrev pub HoldsName : HeldCoin → Type 0
+HoldsName held = IsNameCoin held.coin
+
+-- its lists are shorter than 2^32, and what expired are names' coins, in the order of their outpoints
+pub record IsWritable (u : UndoRecord) : Type 0 where
+  pub few_ops : length u.ops < 2 ^ 32
+  pub few_expired : length u.expired < 2 ^ 32
+  pub ops : AllByRecursion IsWritableOp u.ops
+  pub expired : AllByRecursion HoldsName u.expired
+  pub sorted : IsSortedByPoint u.expired
