@@ -1,0 +1,9 @@
+pub mod Loops
+pub mod Laws
+pub mod Choices
+pub mod FieldLaws
+pub mod PartLaws
+pub mod OpLaws
+pub mod CoinLaws
+pub mod RecordLaws
+pub mod ReadAnswers

@@ -1,0 +1,74 @@
+-- The text of the record that undoes a block. Numbers stand with their low byte first.
+use Rattle.std.specs.Prelude.{ℕ, List, [], ◌∷◌, ◌++◌, length, Option, Some, None}
+use Rattle.std.specs.List.{flat_map}
+use Rattle.std.specs.Int.{w16, w32, to_le_bytes}
+use Rattle.nmc_base.specs.declared.hashes.OutPoint.{OutPoint}
+use Rattle.chain_names.specs.declared.coin.Coin.{Coin}
+use Rattle.chain_names.specs.declared.coin.Coin.TheVariants.{New, Named}
+use Rattle.chain_names.specs.declared.coin.HeldCoin.{HeldCoin}
+use Rattle.chain_names.specs.declared.coin.Item.{Item}
+use Rattle.chain_names.specs.declared.undo.UndoOp.{UndoOp}
+use Rattle.chain_names.specs.declared.undo.UndoOp.TheVariants.{New as op_new, First, Update}
+use Rattle.chain_names.specs.Undo.{UndoRecord}
+
+-- +---------+---------+
+-- | txid 32 | index 4 |
+-- +---------+---------+
+unfoldable pub point_text : OutPoint → List ℕ
+point_text point = point.txid.0 ++ to_le_bytes w32 point.index
+
+-- a name behind its length in one byte
+abbrev pub name_text : List ℕ → List ℕ
+name_text name = length name ∷ name
+
+-- +----+----------+---------+         +----+----------+----------+------+
+-- | 01 | height 4 | hash 20 |   or    | 02 | height 4 | length 1 | name |
+-- +----+----------+---------+         +----+----------+----------+------+
+unfoldable pub coin_text : Coin → List ℕ
+coin_text (New hash height) = 1 ∷ (to_le_bytes w32 height ++ hash.0)
+coin_text (Named name height) = 2 ∷ (to_le_bytes w32 height ++ name_text name)
+
+-- +----------+-------------+----------+-------+
+-- | height 4 | outpoint 36 | length 2 | value |
+-- +----------+-------------+----------+-------+
+unfoldable pub item_text : Item → List ℕ
+item_text item = to_le_bytes w32 item.height ++ (point_text item.at ++ (to_le_bytes w16 (length item.value) ++ item.value))
+
+-- 00, or 01 and the item before
+unfoldable pub before_text : Option Item → List ℕ
+before_text None = 0 ∷ []
+before_text (Some item) = 1 ∷ item_text item
+
+-- what the operations on a name have behind their tag: the outpoints made and spent, the coin spent, the name, and
+-- the item before
+pub record Change : Type 0 where
+  pub made : OutPoint
+  pub spent : OutPoint
+  pub coin : Coin
+  pub name : List ℕ
+  pub before : Option Item
+
+unfoldable pub change_text : Change → List ℕ
+change_text c = point_text c.made ++ (point_text c.spent ++ (coin_text c.coin ++ (name_text c.name ++ before_text c.before)))
+
+-- the change in an operation
+abbrev pub change_of : OutPoint → OutPoint → Coin → List ℕ → Option Item → Change
+change_of made spent coin name before = record { made = made; spent = spent; coin = coin; name = name; before = before }
+
+-- The tag is the first opcode of the name script that the operation is: OP_1, OP_2 or OP_3 (Namecoin's OP_NAME_NEW,
+-- OP_NAME_FIRSTUPDATE and OP_NAME_UPDATE).
+unfoldable pub op_text : UndoOp → List ℕ
+op_text (op_new made) = 0x51 ∷ point_text made
+op_text (First made spent coin name before) = 0x52 ∷ change_text (change_of made spent coin name before)
+op_text (Update made spent coin name before) = 0x53 ∷ change_text (change_of made spent coin name before)
+
+unfoldable pub held_text : HeldCoin → List ℕ
+held_text held = point_text held.at ++ coin_text held.coin
+
+-- +---------------+-------------------+------------+-----------------+---------------+
+-- | block hash 32 | operation count 4 | operations | expired count 4 | expired coins |
+-- +---------------+-------------------+------------+-----------------+---------------+
+unfoldable pub undo_text : UndoRecord → List ℕ
+undo_text undo =
+    undo.block.0 ++ (to_le_bytes w32 (length undo.ops) ++ (flat_map op_text undo.ops
+    ++ (to_le_bytes w32 (length undo.expired) ++ flat_map held_text undo.expired)))

@@ -1,0 +1,86 @@
+-- Which records have a text.
+use Rattle.std.specs.Prelude.{◌≡◌, ℕ, ◌<◌, ◌≤◌, ◌^◌, List, [], ◌∷◌, length, Option, Some, None}
+use Rattle.std.specs.List.{AllByRecursion}
+use Rattle.std.specs.declared.cmp.Ordering.TheVariants.{Less}
+use Rattle.nmc_base.specs.declared.hashes.OutPoint.{OutPoint}
+use Rattle.nmc_base.specs.Hash.{outpoint_cmp}
+use Rattle.chain_names.specs.declared.coin.Coin.{Coin}
+use Rattle.chain_names.specs.declared.coin.Coin.TheVariants.{New, Named}
+use Rattle.chain_names.specs.declared.coin.HeldCoin.{HeldCoin}
+use Rattle.chain_names.specs.declared.coin.Item.{Item}
+use Rattle.chain_names.specs.declared.undo.UndoOp.{UndoOp}
+use Rattle.chain_names.specs.declared.undo.UndoOp.TheVariants.{New as op_new, First, Update}
+use Rattle.chain_names.specs.Undo.{UndoRecord}
+use Rattle.undo_records.specs.Text.{Change, change_of}
+
+pub record FitsPoint (point : OutPoint) : Type 0 where
+  pub txid : length point.txid.0 ≡ 32
+  pub index : point.index < 2 ^ 32
+
+abbrev pub FitsName : List ℕ → Type 0
+FitsName name = length name ≤ 255
+
+-- a coin that has no name longer than that
+abbrev pub HasShortName : Coin → Type 0
+HasShortName (New hash height) = Unit {0}
+HasShortName (Named name height) = FitsName name
+
+-- a coin of a commitment
+abbrev pub FitsNewCoin : Coin → Type 0
+FitsNewCoin (New hash height) = (height < 2 ^ 32) × (length hash.0 ≡ 20)
+FitsNewCoin (Named name height) = ⊥
+
+-- a coin of a name
+abbrev pub FitsNamedCoin : Coin → Type 0
+FitsNamedCoin (New hash height) = ⊥
+FitsNamedCoin (Named name height) = (height < 2 ^ 32) × FitsName name
+
+pub record FitsItem (item : Item) : Type 0 where
+  pub height : item.height < 2 ^ 32
+  pub at : FitsPoint item.at
+  pub value : length item.value ≤ 1023
+
+abbrev pub FitsBefore : Option Item → Type 0
+FitsBefore None = Unit {0}
+FitsBefore (Some item) = FitsItem item
+
+-- a change that spends a coin of this kind
+pub record FitsChange (FitsCoin : Coin → Type 0) (c : Change) : Type 0 where
+  pub made : FitsPoint c.made
+  pub spent : FitsPoint c.spent
+  pub coin : FitsCoin c.coin
+  pub name : FitsName c.name
+  pub before : FitsBefore c.before
+
+-- a first change spends a commitment, and an update spends a name
+abbrev pub FitsOp : UndoOp → Type 0
+FitsOp (op_new made) = FitsPoint made
+FitsOp (First made spent coin name before) = FitsChange FitsNewCoin (change_of made spent coin name before)
+FitsOp (Update made spent coin name before) = FitsChange FitsNamedCoin (change_of made spent coin name before)
+
+pub record FitsHeld (held : HeldCoin) : Type 0 where
+  pub at : FitsPoint held.at
+  pub coin : FitsNamedCoin held.coin
+
+-- the outpoint is greater than the one before, if there is one: by the bytes of the txids, and then by the index
+abbrev pub IsAfter : Option OutPoint → OutPoint → Type 0
+IsAfter None point = Unit {0}
+IsAfter (Some last) point = outpoint_cmp last point ≡ Less
+
+-- the outpoint of each coin is greater than the one before
+abbrev pub AreAscending : Option OutPoint → List HeldCoin → Type 0
+AreAscending last [] = Unit {0}
+AreAscending last (held ∷ more) = IsAfter last held.at × AreAscending (Some held.at) more
+
+-- a record with a text, but for the order of the expired coins
+pub record FitsUndo (undo : UndoRecord) : Type 0 where
+  pub block : length undo.block.0 ≡ 32
+  pub op_count : length undo.ops < 2 ^ 32
+  pub ops : AllByRecursion FitsOp undo.ops
+  pub expired_count : length undo.expired < 2 ^ 32
+  pub expired : AllByRecursion FitsHeld undo.expired
+
+-- a record with a text
+pub record IsWritable (undo : UndoRecord) : Type 0 where
+  pub fits : FitsUndo undo
+  pub in_order : AreAscending None undo.expired

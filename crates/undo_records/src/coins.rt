@@ -1,0 +1,94 @@
+//! The readers of coins and items.
+
+ghost use Rattle.std.specs.Prelude.{◌≡◌};
+ghost use Rattle.undo_records.specs.Reading.{new_coin_from, named_coin_from, item_from, before_from, later_point_from};
+ghost use Rattle.undo_records.specs.Fields.{seen, seen_coin, seen_item, seen_before};
+
+use crate::fault::{Fault, FaultKind, cut};
+use crate::fields::{digest_at, name_at, point_at, u32_at, value_at};
+use crate::found::{FoundCoin, FoundItem};
+use nmc_base::{Hash20, OutPoint};
+
+/// The tag of a commitment's coin.
+pub(crate) const NEW: u8 = 1;
+
+/// The tag of a name's coin.
+pub(crate) const NAMED: u8 = 2;
+
+/// The byte of an operation that has an item before it.
+pub(crate) const SOME_BEFORE: u8 = 1;
+
+/// The byte of an operation that has none.
+pub(crate) const NONE_BEFORE: u8 = 0;
+
+/// A tag that isn't allowed stands at the front of these bytes.
+pub(crate) fn bad_tag<'a>(rest: &'a [u8]) -> Fault<'a>
+    ensures kind { result.kind ≡ FaultKind.BadTag }
+    ensures rest { result.rest.now ≡ rest.entry.now }
+{
+    Fault {
+        kind: FaultKind::BadTag,
+        rest,
+    }
+}
+
+/// The coin of a commitment.
+#[tactic(auto, unfolding(crate::specs::Reading::new_coin_from))]
+pub(crate) fn new_coin_at<'a>(bytes: &'a [u8]) -> Result<(FoundCoin<'a>, &'a [u8]), Fault<'a>>
+    ensures { seen (λ x. (seen_coin x.0, x.1.now)) result ≡ new_coin_from bytes.now }
+{
+    let Some((tag, rest)) = bytes.split_first() else {
+        return Err(cut());
+    };
+    if *tag != NEW {
+        return Err(bad_tag(bytes));
+    }
+    let (height, rest) = u32_at(rest)?;
+    let (digest, rest) = digest_at(rest)?;
+    let hash = Hash20(digest);
+    Ok((FoundCoin::New { hash, height }, rest))
+}
+
+/// The coin of a name.
+#[tactic(auto, unfolding(crate::specs::Reading::named_coin_from))]
+pub(crate) fn named_coin_at<'a>(bytes: &'a [u8]) -> Result<(FoundCoin<'a>, &'a [u8]), Fault<'a>>
+    ensures { seen (λ x. (seen_coin x.0, x.1.now)) result ≡ named_coin_from bytes.now }
+{
+    let Some((tag, rest)) = bytes.split_first() else {
+        return Err(cut());
+    };
+    if *tag != NAMED {
+        return Err(bad_tag(bytes));
+    }
+    let (height, rest) = u32_at(rest)?;
+    let (name, rest) = name_at(rest)?;
+    Ok((FoundCoin::Named { name, height }, rest))
+}
+
+#[tactic(auto, unfolding(crate::specs::Reading::item_from))]
+fn item_at<'a>(bytes: &'a [u8]) -> Result<(FoundItem<'a>, &'a [u8]), Fault<'a>>
+    ensures { seen (λ x. (seen_item x.0, x.1.now)) result ≡ item_from bytes.now }
+{
+    let (height, rest) = u32_at(bytes)?;
+    let (at, rest) = point_at(rest)?;
+    let (value, rest) = value_at(rest)?;
+    Ok((FoundItem { height, at, value }, rest))
+}
+
+/// The item before, if there was one.
+#[tactic(auto, unfolding(crate::specs::Reading::before_from))]
+pub(crate) fn before_at<'a>(bytes: &'a [u8]) -> Result<(Option<FoundItem<'a>>, &'a [u8]), Fault<'a>>
+    ensures { seen (λ x. (seen_before x.0, x.1.now)) result ≡ before_from bytes.now }
+{
+    let Some((first, rest)) = bytes.split_first() else {
+        return Err(cut());
+    };
+    if *first == NONE_BEFORE {
+        return Ok((None, rest));
+    }
+    if *first != SOME_BEFORE {
+        return Err(bad_tag(bytes));
+    }
+    let (item, rest) = item_at(rest)?;
+    Ok((Some(item), rest))
+}

@@ -1,0 +1,72 @@
+ghost use Rattle.std.specs.Prelude.{◌≡◌, ◌++◌, List, ℕ, length, IfOk, IfErr};
+ghost use Rattle.chain_names.specs.Undo.{UndoRecord};
+ghost use Rattle.undo_records.specs.Reading.{undo_from};
+ghost use Rattle.undo_records.specs.Fields.{Gives};
+ghost use Rattle.undo_records.specs.Seen.{seen_undo};
+ghost use Rattle.undo_records.specs.Text.{undo_text};
+ghost use Rattle.undo_records.specs.Writable.{IsWritable};
+ghost use Rattle.undo_records.specs.Faults.{BeginsWith, HasFault};
+ghost use Rattle.undo_records.specs.Answers.{placed_fault, GivesUndo, IsCausedBy, AnswersUndo, AnswersFault};
+
+use crate::fault::{FaultKind, Stop, UndoFault};
+use crate::fields::hash_at;
+use crate::lists::{expired_at, ops_at};
+use crate::undo::Undo;
+use nmc_base::Hash32;
+use std::alloc::Global;
+
+/// The record at the front, and the bytes after it.
+#[tactic(auto, unfolding(crate::specs::Reading::undo_from))]
+fn undo_at<'a>(alloc: Global, bytes: &'a [u8]) -> Result<(Undo, &'a [u8]), Stop<'a>>
+    ensures { Gives (λ x. (seen_undo x.0, x.1.now)) result (undo_from bytes.now) }
+{
+    let (block, rest) = hash_at(bytes)?;
+    let (ops, rest) = ops_at(alloc, rest)?;
+    let (expired, rest) = expired_at(alloc, rest)?;
+    let undo = Undo {
+        block: Hash32(block),
+        ops,
+        expired,
+    };
+    Ok((undo, rest))
+}
+
+/// The fault of a kind at a place.
+fn placed_fault(kind: FaultKind, at: usize) -> UndoFault
+    ensures { result ≡ placed_fault kind at }
+{
+    match kind {
+        FaultKind::Cut => UndoFault::Cut { at },
+        FaultKind::BadTag => UndoFault::BadTag { at },
+        FaultKind::Unsorted => UndoFault::Unsorted { at },
+    }
+}
+
+/// The record at the front with its length, or the fault with its place.
+fn read_exactly(alloc: Global, bytes: &[u8]) -> Result<(Undo, usize), UndoFault>
+    ensures { GivesUndo bytes.now result }
+{
+    match undo_at(alloc, bytes) {
+        Ok((undo, rest)) => Ok((undo, bytes.len() - rest.len())),
+        Err(Stop::At(fault)) => Err(placed_fault(fault.kind, bytes.len() - fault.rest.len())),
+        Err(Stop::NoMemory) => Err(UndoFault::NoMemory),
+    }
+}
+
+/// Reads the record at the front, and says how many bytes its text has. Bytes may follow it.
+///
+/// Reading stops at the first fault. Want of memory may stand in the place of every answer. The memory that it takes
+/// goes by the bytes that are read, and not by a number that stands in them.
+pub fn read(alloc: Global, bytes: &[u8]) -> Result<(Undo, usize), UndoFault>
+    // What is read stands at the front, and can be written.
+    ensures read { IfOk result (λ x. BeginsWith bytes.now (seen_undo x.0) x.1) }
+    // What can be written and stands at the front is read.
+    ensures only { (undo : UndoRecord) (more : List ℕ) → IsWritable undo → bytes.now ≡ undo_text undo ++ more → AnswersUndo undo (length (undo_text undo)) result }
+    // Each fault has its cause, and each cause its fault.
+    ensures wrong { IfErr result (IsCausedBy (HasFault bytes.now)) }
+    ensures only_wrong { (fault : UndoFault) → HasFault bytes.now fault → AnswersFault fault result }
+    // The same, by the reader on lists.
+    ensures exact { GivesUndo bytes.now result }
+{
+    read_exactly(alloc, bytes)
+}

@@ -1,0 +1,178 @@
+//! The writers of the parts of a record. Where memory runs out, half a text may stand at the list's end.
+
+ghost use Rattle.std.specs.Prelude.{◌≡◌, ◌++◌, ◌<◌, ◌≤◌, ◌^◌, length, OnOk};
+ghost use Rattle.std.specs.List.{flat_map, AllByRecursion};
+ghost use Rattle.std.specs.Int.{w16, w32, to_le_bytes};
+ghost use Rattle.undo_records.specs.Text.{point_text, name_text, coin_text, item_text, before_text, change_of, change_text, op_text, held_text};
+ghost use Rattle.undo_records.specs.Writable.{FitsName, HasShortName, FitsItem, FitsBefore, FitsOp, FitsHeld};
+
+use crate::coins::{NAMED, NEW, NONE_BEFORE, SOME_BEFORE};
+use crate::ops::{FIRST, MADE, UPDATE};
+use chain_names::{Coin, HeldCoin, Item, UndoOp};
+use nmc_base::{Bytes, NoMemory, OutPoint};
+
+/// A number of 4 bytes, low byte first.
+pub(crate) fn add_u32(out: &mut Bytes, number: u32) -> Result<(), NoMemory>
+    ensures { OnOk result (out.new ≡ out.old ++ to_le_bytes w32 number) }
+{
+    out.extend(&number.to_le_bytes())
+}
+
+#[tactic(auto, unfolding(crate::specs::Text::point_text))]
+fn add_point(out: &mut Bytes, point: &OutPoint) -> Result<(), NoMemory>
+    ensures { OnOk result (out.new ≡ out.old ++ point_text point.now) }
+{
+    out.extend(&point.txid.0)?;
+    add_u32(out, point.index)
+}
+
+/// A name behind its length.
+fn add_name(out: &mut Bytes, name: &[u8]) -> Result<(), NoMemory>
+    requires { FitsName name.now }
+    ensures { OnOk result (out.new ≡ out.old ++ name_text name.now) }
+{
+    out.extend(&[name.len() as u8])?;
+    out.extend(name)
+}
+
+#[tactic(auto, unfolding(crate::specs::Text::coin_text))]
+fn add_coin(out: &mut Bytes, coin: &Coin) -> Result<(), NoMemory>
+    requires { HasShortName coin.now }
+    ensures { OnOk result (out.new ≡ out.old ++ coin_text coin.now) }
+{
+    match coin {
+        Coin::New { hash, height } => {
+            out.extend(&[NEW])?;
+            add_u32(out, *height)?;
+            out.extend(&hash.0)
+        }
+        Coin::Named { name, height } => {
+            out.extend(&[NAMED])?;
+            add_u32(out, *height)?;
+            add_name(out, name.as_slice())
+        }
+    }
+}
+
+/// A value behind its length.
+fn add_value(out: &mut Bytes, value: &[u8]) -> Result<(), NoMemory>
+    requires { length value.now ≤ 1023 }
+    ensures { OnOk result (out.new ≡ out.old ++ (to_le_bytes w16 (length value.now) ++ value.now)) }
+{
+    let len = value.len() as u16;
+    out.extend(&len.to_le_bytes())?;
+    out.extend(value)
+}
+
+#[tactic(auto, unfolding(crate::specs::Text::item_text))]
+fn add_item(out: &mut Bytes, item: &Item) -> Result<(), NoMemory>
+    requires { FitsItem item.now }
+    ensures { OnOk result (out.new ≡ out.old ++ item_text item.now) }
+{
+    add_u32(out, item.height)?;
+    add_point(out, &item.at)?;
+    add_value(out, item.value.as_slice())
+}
+
+/// The item before, if there was one.
+#[tactic(auto, unfolding(crate::specs::Text::before_text))]
+fn add_before(out: &mut Bytes, before: &Option<Item>) -> Result<(), NoMemory>
+    requires { FitsBefore before.now }
+    ensures { OnOk result (out.new ≡ out.old ++ before_text before.now) }
+{
+    match before {
+        Some(item) => {
+            out.extend(&[SOME_BEFORE])?;
+            add_item(out, item)
+        }
+        None => out.extend(&[NONE_BEFORE]),
+    }
+}
+
+/// What stands behind the tag of a first change or of an update.
+#[tactic(auto, unfolding(crate::specs::Text::change_text))]
+fn add_change(
+    out: &mut Bytes,
+    made: &OutPoint,
+    spent: &OutPoint,
+    coin: &Coin,
+    name: &Bytes,
+    before: &Option<Item>,
+) -> Result<(), NoMemory>
+    requires coin { HasShortName coin.now }
+    requires name { FitsName name.now }
+    requires before { FitsBefore before.now }
+    ensures { OnOk result (out.new ≡ out.old ++ change_text (change_of made.now spent.now coin.now name.now before.now)) }
+{
+    add_point(out, made)?;
+    add_point(out, spent)?;
+    add_coin(out, coin)?;
+    add_name(out, name.as_slice())?;
+    add_before(out, before)
+}
+
+#[tactic(auto, unfolding(crate::specs::Text::op_text))]
+fn add_op(out: &mut Bytes, op: &UndoOp) -> Result<(), NoMemory>
+    requires { FitsOp op.now }
+    ensures { OnOk result (out.new ≡ out.old ++ op_text op.now) }
+{
+    match op {
+        UndoOp::New { made } => {
+            out.extend(&[MADE])?;
+            add_point(out, made)
+        }
+        UndoOp::First {
+            made,
+            spent,
+            coin,
+            name,
+            before,
+        } => {
+            out.extend(&[FIRST])?;
+            add_change(out, made, spent, coin, name, before)
+        }
+        UndoOp::Update {
+            made,
+            spent,
+            coin,
+            name,
+            before,
+        } => {
+            out.extend(&[UPDATE])?;
+            add_change(out, made, spent, coin, name, before)
+        }
+    }
+}
+
+pub(crate) fn add_ops(out: &mut Bytes, ops: &[UndoOp]) -> Result<(), NoMemory>
+    requires { AllByRecursion FitsOp ops.now }
+    ensures { OnOk result (out.new ≡ out.old ++ flat_map op_text ops.now) }
+{
+    let mut rest = ops;
+    while let [op, more @ ..] = rest {
+        add_op(out, op)?;
+        rest = more;
+    }
+    Ok(())
+}
+
+#[tactic(auto, unfolding(crate::specs::Text::held_text))]
+fn add_held(out: &mut Bytes, held: &HeldCoin) -> Result<(), NoMemory>
+    requires { FitsHeld held.now }
+    ensures { OnOk result (out.new ≡ out.old ++ held_text held.now) }
+{
+    add_point(out, &held.at)?;
+    add_coin(out, &held.coin)
+}
+
+pub(crate) fn add_expired(out: &mut Bytes, expired: &[HeldCoin]) -> Result<(), NoMemory>
+    requires { AllByRecursion FitsHeld expired.now }
+    ensures { OnOk result (out.new ≡ out.old ++ flat_map held_text expired.now) }
+{
+    let mut rest = expired;
+    while let [held, more @ ..] = rest {
+        add_held(out, held)?;
+        rest = more;
+    }
+    Ok(())
+}
