@@ -1,5 +1,5 @@
 -- Chains, and blocks that are staged on them.
-use Rattle.std.proofs.Common.{◌≡◌, ℕ, suc, ◌+◌, ◌<◌, ◌≤◌, Bool, true, false, cond, List, [], length, refl, sym, ap, subst, ◌∙◌, arith}
+use Rattle.std.proofs.Common.{◌≡◌, ℕ, suc, ◌+◌, ◌<◌, ◌≤◌, ◌^◌, Bool, true, false, cond, List, [], ◌∷◌, ◌++◌, map, reverse, length, refl, sym, ap, subst, ◌∙◌, arith}
 use Rattle.std.proofs.Math.Path.{fun_ext}
 use Rattle.std.specs.Prelude.{Option, Some, None}
 use Rattle.std.specs.Option.{is_some}
@@ -10,25 +10,35 @@ use Rattle.nmc_base.specs.Expiry.{is_expired}
 use Rattle.chain_names.specs.declared.coin.Coin.{Coin}
 use Rattle.chain_names.specs.declared.coin.Coin.TheVariants.{New, Named}
 use Rattle.nmc_base.specs.declared.chain_ends.Base.{Base}
+use Rattle.std.proofs.lemmas.List.{map-append, reverse-append}
+use Rattle.nmc_base.specs.Roomy.{Roomy}
+use Rattle.nmc_base.specs.declared.chain_ends.Tip.{Tip}
+use Rattle.chain_names.specs.declared.undo.UndoOp.{UndoOp}
+use Rattle.undo_laws.specs.Expired.{IsDue}
+use Rattle.undo_laws.specs.Sound.{IsSound, count_outputs}
+use Rattle.undo_laws.proofs.Soundness.{block_sound}
+use Rattle.undo_laws.proofs.Beginning.{base_sound}
+use Rattle.undo_records.specs.Seen.{seen_undo}
+use Rattle.undo_records.specs.declared.undo.Undo.{Undo}
 use Rattle.chain_names.specs.Coins.{Maps, maps_of, unless_expired}
 use Rattle.full_grammar.specs.Transaction.{Transaction}
 use Rattle.full_grammar.specs.Block.{Block, block_root}
 use Rattle.full_grammar.specs.Header.{header_hash}
 use Rattle.nmc_base.specs.declared.hashes.Hash32.{Hash32}
 use Rattle.chain_names.specs.Log.{behind_coinbase}
-use Rattle.chain_names.specs.Changes.{without_expired, back_ops, undo_ops, after_all, first_refused}
+use Rattle.chain_names.specs.Changes.{Refused as RefusedBy, without_expired, back_ops, undo_ops, after_all, after_block, first_refused}
 use Rattle.chain_names.proofs.Blocks.{all_back}
 use Rattle.chain_names.specs.Tables.{AreCoinsFilled, AreNamesFilled, IsQueueFilled, coins_in, coin_places, names_in, queued_in, queue_places, queue_of, FilledBut}
 use Rattle.chain_state.specs.Tables.{maps_by, IsBelow, IsStanding, AreFilled}
-use Rattle.chain_state.specs.Work.{FitsOps, HasSpentPlace, HasSpentRow, may_be_empty, may_be_empty_at, IsWork}
-use Rattle.chain_state.specs.Block.{IsReady, AppliedAll}
+use Rattle.chain_state.specs.Work.{FitsOps, HasSpentPlace, HasSpentRow, may_be_empty, may_be_empty_at, IsWork, maps_before}
+use Rattle.chain_state.specs.Block.{IsReady, HasFewOutputs, AppliedAll, Stopped}
 use Rattle.chain_state.specs.Stage.{Begins, StagesWell, StagesNames, Stages}
-use Rattle.chain_state.specs.declared.stage.Refusal.TheVariants.{NotOnTip, HeightLimit, MerkleMismatch, Rule}
+use Rattle.chain_state.specs.declared.stage.Refusal.TheVariants.{BadBlock, NotOnTip, HeightLimit, MerkleMismatch, Rule, NotTip, AtBase}
 use Rattle.chain_state.specs.declared.stage.StageOutcome.{StageOutcome}
 use Rattle.chain_state.specs.declared.stage.StageOutcome.TheVariants.{Staged, Refused, NoMemory}
 use Rattle.chain_state.proofs.Working.{all-weaker}
-use Rattle.chain_state.specs.Whole.{Finishes, Commits}
-use Rattle.chain_state.specs.Chain.{highest, Indexed, IsIndexed, SameIndex, StagedIndex, IsStagedIndex}
+use Rattle.chain_state.specs.Whole.{Finishes, Commits, maps_before_block}
+use Rattle.chain_state.specs.Chain.{highest, rule_refused, Indexed, IsIndexed, SameIndex, IsStagedIndex, index_of, staged_of, staged_undo, newest_first, newest_hash}
 use Rattle.chain_state.specs.declared.tables.Tables.{Tables}
 use Rattle.chain_state.specs.declared.whole.Committed.{Committed}
 use Rattle.chain_state.specs.declared.whole.Whole.{Whole}
@@ -37,15 +47,70 @@ use Rattle.chain_state.specs.declared.work.Work.{Work}
 next_is : (n : ℕ) → suc n ≡ n + 1
 next_is n = omega arith
 
-pub connected_index : (s : StagedIndex) (c : Committed) → IsStagedIndex s → Commits s.whole c
-    → IsIndexed (record { base = s.base; tip = record { height = s.tip.height + 1; hash = s.hash }; tables = c.tables })
-connected_index s c staged commits = record {
-  height = omega (arith, staged.height);
-  queue = commits.queue;
-  filled = commits.filled;
-  standing = subst (λ n. IsStanding s.base.profile (suc n) (suc n) (maps_by c.tables)) (next_is s.tip.height)
-      (subst (IsStanding s.base.profile (suc (suc s.tip.height)) (suc (suc s.tip.height))) (sym commits.maps) staged.after);
-}
+-- ---- what undoes the blocks
+
+pub newest_more : (undos : List Undo) (undo : Undo) → newest_first (undos ++ undo ∷ []) ≡ seen_undo undo ∷ newest_first undos
+newest_more undos undo = ap reverse (map-append seen_undo undos (undo ∷ [])) ∙ reverse-append (map seen_undo undos) (seen_undo undo ∷ [])
+
+pub few_each : (ts : List Transaction) → count_outputs ts < 2 ^ 32 → AllByRecursion HasFewOutputs ts
+few_each [] few = tt
+few_each (t ∷ ts) few = (omega (arith, few), few_each ts (omega (arith, few)))
+
+-- ---- the same index again
+
+module _ (c : Indexed) (indexed : IsIndexed c) (tables : Tables) (undos : Roomy Undo) (same_undos : newest_first undos.items ≡ c.undos) (same : maps_by tables ≡ maps_by c.tables) where
+  pub returned_index : queued_in tables.queue ≡ queue_of (coins_in tables.coins) → AreFilled tables → IsIndexed (index_of c.base c.tip tables undos)
+  returned_index queue filled = record {
+    height = indexed.height;
+    hash = indexed.hash ∙ sym (ap (newest_hash c.base) same_undos);
+    queue = queue;
+    filled = filled;
+    standing = subst (IsStanding c.base.profile (suc c.tip.height) (suc c.tip.height)) (sym same) indexed.standing;
+    sound = subst (λ us. IsSound c.base.profile c.base.height c.tip.height (maps_by tables) us) (sym same_undos)
+        (subst (λ m. IsSound c.base.profile c.base.height c.tip.height m c.undos) (sym same) indexed.sound);
+  }
+
+  pub returned_same : SameIndex (index_of c.base c.tip tables undos) c
+  returned_same = record { base = refl; tip = refl; maps = same; undos = same_undos }
+
+-- the tables were handed back as they were given
+pub unused_index : (c : Indexed) → IsIndexed c → (tables : Tables) (undos : Roomy Undo) → newest_first undos.items ≡ c.undos → tables ≡ c.tables → IsIndexed (index_of c.base c.tip tables undos)
+unused_index c indexed tables undos same_undos same =
+    returned_index c indexed tables undos same_undos (ap maps_by same)
+    (subst (λ (t : Tables). queued_in t.queue ≡ queue_of (coins_in t.coins)) (sym same) indexed.queue) (subst AreFilled (sym same) indexed.filled)
+
+-- ---- a block is committed, or abandoned
+
+module _ (base : Base) (tip : Tip) (hash : Hash32) (whole : Whole) (undos : Roomy Undo) (staged : IsStagedIndex (staged_of base tip hash whole undos)) where
+  module _ (c : Committed) (commits : Commits whole c) (more : Roomy Undo) (pushed : more.items ≡ undos.items ++ record { block = hash; ops = c.ops; expired = c.expired } ∷ []) where
+    pub undo_added : newest_first more.items ≡ staged_undo hash whole ∷ newest_first undos.items
+    undo_added =
+        ap newest_first pushed ∙ newest_more undos.items (record { block = hash; ops = c.ops; expired = c.expired })
+        ∙ (λ i. record { block = hash; ops = (commits.ops i).items; expired = (commits.expired i).items } ∷ newest_first undos.items)
+
+    pub connected_index : IsIndexed (index_of base (record { height = tip.height + 1; hash = hash }) c.tables more)
+    connected_index = record {
+      height = omega (arith, staged.height);
+      hash = sym (ap (newest_hash base) undo_added);
+      queue = commits.queue;
+      filled = commits.filled;
+      standing = subst (λ n. IsStanding base.profile (suc n) (suc n) (maps_by c.tables)) (next_is tip.height)
+          (subst (IsStanding base.profile (suc (suc tip.height)) (suc (suc tip.height))) (sym commits.maps) staged.after);
+      sound = subst (λ us. IsSound base.profile base.height (tip.height + 1) (maps_by c.tables) us) (sym undo_added)
+          (subst (λ n. IsSound base.profile base.height n (maps_by c.tables) (staged_undo hash whole ∷ newest_first undos.items)) (next_is tip.height)
+          (subst (λ m. IsSound base.profile base.height (suc tip.height) m (staged_undo hash whole ∷ newest_first undos.items)) (sym commits.maps) staged.sound_after));
+    }
+
+  pub abandoned_index : (tables : Tables) → maps_by tables ≡ maps_before_block whole → queued_in tables.queue ≡ queue_of (coins_in tables.coins) → AreFilled tables
+      → IsIndexed (index_of base tip tables undos)
+  abandoned_index tables before queue filled = record {
+    height = omega (arith, staged.height);
+    hash = staged.tip_hash;
+    queue = queue;
+    filled = filled;
+    standing = subst (IsStanding base.profile (suc tip.height) (suc tip.height)) (sym before) staged.before;
+    sound = subst (λ m. IsSound base.profile base.height tip.height m (newest_first undos.items)) (sym before) staged.sound_before;
+  }
 
 -- ---- the next block
 
@@ -85,7 +150,10 @@ higher_next profile at maps standing = record {
 
 -- ---- staging
 
-module _ (c : Indexed) (indexed : IsIndexed c) (low : c.tip.height < highest) (w : Work) (begins : Begins c.tables (c.tip.height + 1) w) where
+module _ (c : Indexed) (indexed : IsIndexed c) (low : c.tip.height < highest) (given : Tables) (given_is : given ≡ c.tables) (w : Work) (begins : Begins given (c.tip.height + 1) w) where
+  tables_are : w.tables ≡ c.tables
+  tables_are = begins.tables_are ∙ given_is
+
   height_is : w.height ≡ suc c.tip.height
   height_is = begins.height_is ∙ sym (next_is c.tip.height)
 
@@ -97,9 +165,9 @@ module _ (c : Indexed) (indexed : IsIndexed c) (low : c.tip.height < highest) (w
 
   begun_work : IsWork w
   begun_work =
-      let filled = subst AreFilled (sym begins.tables_are) indexed.filled in
+      let filled = subst AreFilled (sym tables_are) indexed.filled in
       record {
-        queue = subst (λ (t : Tables). queued_in t.queue ≡ queue_of (coins_in t.coins)) (sym begins.tables_are) indexed.queue;
+        queue = subst (λ (t : Tables). queued_in t.queue ≡ queue_of (coins_in t.coins)) (sym tables_are) indexed.queue;
         fits = subst (λ ops. FitsOps w.height ops (maps_by w.tables)) (sym begins.ops) tt;
         spent_placed = subst (AllByRecursion (HasSpentPlace w.tables)) (sym begins.ops) tt;
         spent_rows = subst (AllByRecursion (HasSpentRow w.tables)) (sym begins.ops) tt;
@@ -110,7 +178,7 @@ module _ (c : Indexed) (indexed : IsIndexed c) (low : c.tip.height < highest) (w
       }
 
   same_maps : maps_by w.tables ≡ maps_by c.tables
-  same_maps = ap maps_by begins.tables_are
+  same_maps = ap maps_by tables_are
 
   pub begun_ready : IsReady c.base.profile w
   begun_ready = record {
@@ -120,6 +188,16 @@ module _ (c : Indexed) (indexed : IsIndexed c) (low : c.tip.height < highest) (w
     standing = subst (λ h. IsStanding c.base.profile h (suc h) (maps_by w.tables)) (sym height_is)
         (subst (IsStanding c.base.profile (suc c.tip.height) (suc (suc c.tip.height))) (sym same_maps) (higher_next c.base.profile (suc c.tip.height) (maps_by c.tables) indexed.standing));
   }
+
+  pub refused_by : (block : Block) (ts : List Transaction) → ts ≡ behind_coinbase block.transactions → (first : Option RefusedBy)
+      → first_refused c.base.profile w.height 1 ts (maps_by w.tables) ≡ first → rule_refused c block ≡ first
+  refused_by block ts ts_are first refusal =
+      ap (λ l. first_refused c.base.profile (suc c.tip.height) 1 l (maps_by c.tables)) (sym ts_are)
+      ∙ ap (λ m. first_refused c.base.profile (suc c.tip.height) 1 ts m) (sym same_maps)
+      ∙ ap (λ h. first_refused c.base.profile h 1 ts (maps_by w.tables)) (sym height_is) ∙ refusal
+
+  pub stopped_back : (done : Work) → Stopped w done → (tables : Tables) → maps_by tables ≡ maps_before done → maps_by tables ≡ maps_by c.tables
+  stopped_back done stopped tables maps = maps ∙ stopped.before ∙ same_maps
 
   module _ (done : Work) (ts : List Transaction) (applied : AppliedAll c.base.profile w done ts) where
     done_height : done.height ≡ suc c.tip.height
@@ -132,49 +210,78 @@ module _ (c : Indexed) (indexed : IsIndexed c) (low : c.tip.height < highest) (w
         ∙ all_back c.base.profile w.height 1 ts (maps_by w.tables) applied.accepted
         ∙ same_maps
 
-    pub given_back : (tables : Tables) → maps_by tables ≡ back_ops done.ops.items (maps_by done.tables) → queued_in tables.queue ≡ queue_of (coins_in tables.coins) → AreFilled tables
-        → IsIndexed (record { base = c.base; tip = c.tip; tables = tables })
-    given_back tables maps queue filled = record {
-      height = indexed.height;
-      queue = queue;
-      filled = filled;
-      standing = subst (IsStanding c.base.profile (suc c.tip.height) (suc c.tip.height)) (sym (maps ∙ done_before)) indexed.standing;
-    }
+    pub given_back : (tables : Tables) → maps_by tables ≡ back_ops done.ops.items (maps_by done.tables) → maps_by tables ≡ maps_by c.tables
+    given_back tables maps = maps ∙ done_before
 
-    pub same_back : (tables : Tables) → maps_by tables ≡ back_ops done.ops.items (maps_by done.tables) → SameIndex (record { base = c.base; tip = c.tip; tables = tables }) c
-    same_back tables maps = record { base = refl; tip = refl; maps = maps ∙ done_before }
+    module _ (hash : Hash32) (whole : Whole) (finishes : Finishes c.base.profile done whole) (undos : Roomy Undo) (same_undos : newest_first undos.items ≡ c.undos) where
+      abbrev maps : Maps
+      maps = maps_by c.tables
 
-    module _ (hash : Hash32) (whole : Whole) (finishes : Finishes c.base.profile done whole) where
-      pub staged_index : IsStagedIndex (record { base = c.base; tip = c.tip; hash = hash; whole = whole })
-      staged_index = record {
+      unrefused : first_refused c.base.profile (suc c.tip.height) 1 ts maps ≡ None
+      unrefused =
+          ap (λ m. first_refused c.base.profile (suc c.tip.height) 1 ts m) (sym same_maps)
+          ∙ ap (λ h. first_refused c.base.profile h 1 ts (maps_by w.tables)) (sym height_is) ∙ applied.accepted
+
+      done_maps : maps_by done.tables ≡ after_all c.base.profile (suc c.tip.height) ts maps
+      done_maps =
+          applied.maps
+          ∙ ap (λ h. after_all c.base.profile h ts (maps_by w.tables)) height_is
+          ∙ ap (after_all c.base.profile (suc c.tip.height) ts) same_maps
+
+      after_is : maps_by whole.work.tables ≡ after_block c.base.profile (suc c.tip.height) ts maps
+      after_is =
+          finishes.maps
+          ∙ ap (λ h. without_expired c.base.profile (suc h) (maps_by done.tables)) done_height
+          ∙ ap (without_expired c.base.profile (suc (suc c.tip.height))) done_maps
+
+      ops_are : whole.work.ops.items ≡ undo_ops c.base.profile (suc c.tip.height) ts maps
+      ops_are =
+          ap (λ (l : Roomy UndoOp). l.items) finishes.ops ∙ applied.ops
+          ∙ ap (λ h. undo_ops c.base.profile h ts (maps_by w.tables)) height_is
+          ∙ ap (undo_ops c.base.profile (suc c.tip.height) ts) same_maps
+
+      due_are : IsDue (after_all c.base.profile (suc c.tip.height) ts maps).coins (after_block c.base.profile (suc c.tip.height) ts maps).coins whole.expired.items
+      due_are =
+          subst (λ (m : Maps). IsDue m.coins (after_block c.base.profile (suc c.tip.height) ts maps).coins whole.expired.items) done_maps
+          (subst (λ (m : Maps). IsDue (coins_in done.tables.coins) m.coins whole.expired.items) after_is finishes.due)
+
+      grown : count_outputs ts < 2 ^ 32 → IsSound c.base.profile c.base.height (suc c.tip.height) (maps_by whole.work.tables) (staged_undo hash whole ∷ newest_first undos.items)
+      grown few =
+          subst (λ us. IsSound c.base.profile c.base.height (suc c.tip.height) (maps_by whole.work.tables) (staged_undo hash whole ∷ us)) (sym same_undos)
+          (subst (λ m. IsSound c.base.profile c.base.height (suc c.tip.height) m (staged_undo hash whole ∷ c.undos)) (sym after_is)
+          (block_sound c.base.profile c.base.height c.tip.height 1 ts maps (staged_undo hash whole) c.undos indexed.sound unrefused low few ops_are due_are finishes.sorted))
+
+      pub staged_index : count_outputs ts < 2 ^ 32 → IsStagedIndex (staged_of c.base c.tip hash whole undos)
+      staged_index few = record {
         height = low;
+        tip_hash = indexed.hash ∙ sym (ap (newest_hash c.base) same_undos);
         work_height = finishes.height ∙ done_height;
         whole = finishes.whole;
         before = subst (IsStanding c.base.profile (suc c.tip.height) (suc c.tip.height)) (sym (finishes.before ∙ done_before)) indexed.standing;
         after = subst (λ h. IsStanding c.base.profile (suc h) (suc h) (maps_by whole.work.tables)) done_height
             (subst (IsStanding c.base.profile (suc done.height) (suc done.height)) (sym finishes.maps)
             (standing_next c.base.profile done.height (maps_by done.tables) applied.ready.standing));
+        sound_before = subst (λ us. IsSound c.base.profile c.base.height c.tip.height (maps_before_block whole) us) (sym same_undos)
+            (subst (λ m. IsSound c.base.profile c.base.height c.tip.height m c.undos) (sym (finishes.before ∙ done_before)) indexed.sound);
+        sound_after = grown few;
       }
 
-      pub staged_well : (block : Block) → ts ≡ behind_coinbase block.transactions → hash.0 ≡ header_hash block.header → StagesWell c block (record { base = c.base; tip = c.tip; hash = hash; whole = whole })
+      pub staged_well : (block : Block) → ts ≡ behind_coinbase block.transactions → hash.0 ≡ header_hash block.header → StagesWell c block (staged_of c.base c.tip hash whole undos)
       staged_well block ts_are hash_is = record {
         on = λ on root. record {
           on_tip = on;
           low = low;
           root = root;
-          accepted = ap (λ l. first_refused c.base.profile (suc c.tip.height) 1 l (maps_by c.tables)) (sym ts_are)
-              ∙ ap (λ m. first_refused c.base.profile (suc c.tip.height) 1 ts m) (sym same_maps)
-              ∙ ap (λ h. first_refused c.base.profile h 1 ts (maps_by w.tables)) (sym height_is) ∙ applied.accepted;
+          accepted = refused_by block ts ts_are None applied.accepted;
           base = refl;
           tip = refl;
           hash = hash_is;
           before = finishes.before ∙ done_before;
-          after = finishes.maps
-              ∙ ap (λ h. without_expired c.base.profile (suc h) (maps_by done.tables)) done_height
-              ∙ ap (without_expired c.base.profile (suc (suc c.tip.height))) (applied.maps
-              ∙ ap (λ h. after_all c.base.profile h ts (maps_by w.tables)) height_is
-              ∙ ap (after_all c.base.profile (suc c.tip.height) ts) same_maps
-              ∙ ap (λ l. after_all c.base.profile (suc c.tip.height) l (maps_by c.tables)) ts_are);
+          after = after_is ∙ ap (λ l. after_block c.base.profile (suc c.tip.height) l maps) ts_are;
+          ops = ops_are ∙ ap (λ l. undo_ops c.base.profile (suc c.tip.height) l maps) ts_are;
+          due = subst (λ l. IsDue (after_all c.base.profile (suc c.tip.height) l maps).coins (after_block c.base.profile (suc c.tip.height) l maps).coins whole.expired.items) ts_are due_are;
+          sorted = finishes.sorted;
+          undos = same_undos;
         };
       }
 
@@ -183,16 +290,22 @@ module _ (c : Indexed) (indexed : IsIndexed c) (low : c.tip.height < highest) (w
 pub stages : (c : Indexed) (block : Block) (outcome : StageOutcome) → block.header.fields.previous ≡ c.tip.hash.0 → c.tip.height < highest → block.header.fields.root ≡ block_root block
     → StagesNames c block outcome → Stages c block outcome
 stages c block (Staged s) on low root names = names.on on root
+stages c block (Refused chain (BadBlock at)) on low root names = absurd names.1
 stages c block (Refused chain (NotOnTip tip)) on low root names = absurd names.1
 stages c block (Refused chain HeightLimit) on low root names = absurd names.1
 stages c block (Refused chain (MerkleMismatch computed)) on low root names = absurd names.1
 stages c block (Refused chain (Rule index refusal)) on low root names = (names.0, (on, low, root, names.1))
-stages c block (NoMemory chain) on low root names = names
+stages c block (Refused chain (NotTip tip)) on low root names = absurd names.1
+stages c block (Refused chain AtBase) on low root names = absurd names.1
+stages c block (NoMemory chain) on low root names = (names, on, low)
 
 pub begun_index : (base : Base) (c : Tables) → base.height ≤ highest → c.coins ≡ [] → c.names ≡ [] → c.queue ≡ []
-    → IsIndexed (record { base = base; tip = record { height = base.height; hash = base.hash }; tables = c })
-begun_index base c low coins names queue = record {
+    → (undos : Roomy Undo) → undos.items ≡ [] → IsIndexed (index_of base (record { height = base.height; hash = base.hash }) c undos)
+begun_index base c low coins names queue undos none = record {
   height = low;
+  hash = sym (ap (λ us. newest_hash base (newest_first us)) none);
+  sound = subst (λ us. IsSound base.profile base.height base.height (maps_by c) (newest_first us)) (sym none)
+      (subst (λ m. IsSound base.profile base.height base.height m []) (sym (λ i. record { coins = coins_in (coins i); names = names_in (names i) })) (base_sound base.profile base.height low));
   queue = ap queued_in queue ∙ sym (ap (λ s. queue_of (coins_in s)) coins);
   filled = record {
     coins = subst AreCoinsFilled (sym coins) (λ point. refl);

@@ -17,7 +17,8 @@ use Rattle.chain_names.proofs.Points.{same_point-Decides}
 use Rattle.chain_names.proofs.Shown.{true_is_not_false}
 use Rattle.chain_state.specs.Tables.{HoldSame, AreFilled}
 use Rattle.chain_state.specs.Work.{spends, spends_at}
-use Rattle.chain_state.specs.Whole.{is_held_at, is_queued_at, IsWhole, Commits}
+use Rattle.undo_laws.specs.Expired.{is_held_at}
+use Rattle.chain_state.specs.Whole.{is_queued_at, IsWhole, Commits}
 use Rattle.chain_state.specs.Clearing.{is_row_of, GivesUp, GivesUpOp, IsClearing}
 use Rattle.chain_state.specs.declared.tables.Tables.{Tables}
 use Rattle.chain_state.specs.declared.whole.Whole.{Whole}
@@ -26,7 +27,7 @@ use Rattle.chain_state.proofs.GivingUp.{coins_all_filled, rows_all_filled}
 
 -- ---- one coin's places
 
-row_changed : (rows : ℕ → OutPoint → Bool) (u v : ℕ) (at point : OutPoint) (kept : Bool) (a b : Bool) → (u == v) ≡ a → same_point at point ≡ b
+pub row_changed : (rows : ℕ → OutPoint → Bool) (u v : ℕ) (at point : OutPoint) (kept : Bool) (a b : Bool) → (u == v) ≡ a → same_point at point ≡ b
     → cond {A = OutPoint → Bool} a (changed same_point (rows u) at kept) (rows v) point ≡ cond (a && b) kept (rows v point)
 row_changed rows u v at point kept true true is same = ap (λ c. cond c kept (rows u point)) same
 row_changed rows u v at point kept true false is same = ap (λ c. cond c kept (rows u point)) same ∙ ap (λ n. rows n point) ((unsigned_Decides u v).0 is)

@@ -19,6 +19,11 @@ use Rattle.chain_names.proofs.Points.{same_point-Decides}
 use Rattle.chain_names.proofs.Shown.{true_is_not_false}
 use Rattle.chain_state.specs.Tables.{TakesCoin}
 use Rattle.chain_state.specs.Expiring.{IsDueCoin, TakesDue, Expires}
+use Rattle.undo_laws.specs.Expired.{is_held_at, points_of}
+use Rattle.chain_state.proofs.Rising.{rising_but}
+use Rattle.std.proofs.lemmas.List.{append-nil, length-append}
+use Rattle.std.specs.List.Sorted.{IsStrictlySortedBy}
+use Rattle.nmc_base.specs.Hash.{outpoint_cmp}
 use Rattle.chain_state.specs.declared.tables.Tables.{Tables}
 use Rattle.chain_state.proofs.Working.{all-more}
 
@@ -26,6 +31,23 @@ pub restored-more : (helds : List HeldCoin) (held : HeldCoin) (coins : OutPoint 
     → restored (helds ++ held ∷ []) coins ≡ restored helds (changed same_point coins held.at (Some held.coin))
 restored-more [] held coins = refl
 restored-more (first ∷ helds) held coins = ap (λ f. changed same_point f first.at (Some first.coin)) (restored-more helds held coins)
+
+points-more : (helds : List HeldCoin) (held : HeldCoin) (points : List OutPoint) → points_of (helds ++ held ∷ []) ++ points ≡ points_of helds ++ held.at ∷ points
+points-more [] held points = refl
+points-more (first ∷ helds) held points = ap (λ l. first.at ∷ l) (points-more helds held points)
+
+-- an outpoint where none was held keeps its coin
+restored_other : (point : OutPoint) (expired : List HeldCoin) (coins : OutPoint → Option Coin) → list_any (is_held_at point) expired ≡ false → restored expired coins point ≡ coins point
+restored_other point [] coins none = refl
+restored_other point (held ∷ expired) coins none = here (same_point held.at point) none (restored_other point expired coins)
+  where
+    here : (b : Bool) → (b || list_any (is_held_at point) expired) ≡ false → (list_any (is_held_at point) expired ≡ false → restored expired coins point ≡ coins point)
+        → cond b (Some held.coin) (restored expired coins point) ≡ coins point
+    here true free rest = absurd cc
+    here false free rest = rest free
+
+pub one_more : {A : Type 0} (xs ys : List A) (x : A) → ys ≡ xs ++ x ∷ [] → length ys ≡ suc (length xs)
+one_more xs ys x e = let long : length (xs ++ x ∷ []) ≡ length xs + 1 = length-append xs (x ∷ []) in omega (arith, ap length e, long)
 
 -- so far
 pub record IsTaking (start now : Tables) (row : ℕ) (points left : List OutPoint) (expired : Roomy HeldCoin) : Type 0 where
@@ -38,10 +60,11 @@ pub record IsTaking (start now : Tables) (row : ℕ) (points left : List OutPoin
   pub places : coin_places now.coins ≡ coin_places start.coins
   pub rows : queue_places now.queue ≡ queue_places start.queue
   pub room : length left ≤ expired.spare
+  pub rising : IsStrictlySortedBy outpoint_cmp (points_of expired.items ++ left)
 
 pub begins_taking : (start : Tables) (row : ℕ) (points : List OutPoint) (expired : Roomy HeldCoin) → queued_in start.queue ≡ queue_of (coins_in start.coins) → expired.items ≡ []
-    → length points ≤ expired.spare → IsTaking start start row points points expired
-begins_taking start row points expired queue none room = record {
+    → length points ≤ expired.spare → IsStrictlySortedBy outpoint_cmp points → IsTaking start start row points points expired
+begins_taking start row points expired queue none room rising = record {
   coins = refl;
   back = ap (λ es. restored es (coins_in start.coins)) none;
   less = λ point coin e. e;
@@ -51,6 +74,7 @@ begins_taking start row points expired queue none room = record {
   places = refl;
   rows = refl;
   room = room;
+  rising = subst (λ es. IsStrictlySortedBy outpoint_cmp (points_of es ++ points)) (sym none) rising;
 }
 
 only_less : (coins : OutPoint → Option Coin) (at point : OutPoint) (coin : Coin) (b : Bool) → cond b None (coins point) ≡ Some coin → coins point ≡ Some coin
@@ -66,6 +90,9 @@ unnamed_kept row coin e = rw e refl
 module _ (start now : Tables) (row : ℕ) (points left more : List OutPoint) (at : OutPoint) (expired : Roomy HeldCoin) (left_is : left ≡ at ∷ more) (taking : IsTaking start now row points left expired) where
   has_room : suc (length more) ≤ expired.spare
   has_room = subst (λ l. length l ≤ expired.spare) left_is taking.room
+
+  rising_here : IsStrictlySortedBy outpoint_cmp (points_of expired.items ++ at ∷ more)
+  rising_here = subst (λ l. IsStrictlySortedBy outpoint_cmp (points_of expired.items ++ l)) left_is taking.rising
 
   pub took : (new : Tables) (coin : Coin) (expired' : Roomy HeldCoin) → queued_in now.queue row at ≡ true → Some coin ≡ coins_in now.coins at → TakesCoin now new at
       → expired'.items ≡ expired.items ++ record { at = at; coin = coin } ∷ [] → expired'.spare + 1 ≡ expired.spare
@@ -89,6 +116,8 @@ module _ (start now : Tables) (row : ℕ) (points left more : List OutPoint) (at
         places = takes.places ∙ taking.places;
         rows = takes.rows ∙ taking.rows;
         room = omega (arith, has_room, spare);
+        rising = subst (λ es. IsStrictlySortedBy outpoint_cmp (points_of es ++ more)) (sym items)
+            (subst (IsStrictlySortedBy outpoint_cmp) (sym (points-more expired.items held_coin more)) rising_here);
       }
 
   pub passed_by : queued_in now.queue row at ≡ false → IsTaking start now row points more expired
@@ -106,6 +135,7 @@ module _ (start now : Tables) (row : ℕ) (points left more : List OutPoint) (at
         places = taking.places;
         rows = taking.rows;
         room = omega (arith, has_room);
+        rising = rising_but (points_of expired.items) more at rising_here;
       }
 
   pub none_queued : None ≡ coins_in now.coins at → queued_in now.queue row at ≡ true → ⊥
@@ -117,6 +147,7 @@ taken_all start now row points left expired none taking = record {
   coins = ap (λ l. cleared row l (coins_in now.coins)) (sym none) ∙ taking.coins;
   back = taking.back;
   each = taking.each;
+  sorted = subst (IsStrictlySortedBy outpoint_cmp) (append-nil (points_of expired.items)) (subst (λ l. IsStrictlySortedBy outpoint_cmp (points_of expired.items ++ l)) none taking.rising);
   names = taking.names;
   queue = taking.queue;
   places = taking.places;
@@ -142,6 +173,8 @@ pub row_expired : (old new : Tables) (row : ℕ) (points : List OutPoint) (expir
     → ((point : OutPoint) → queued_in old.queue row point ≡ true → list_any (same_point point) points ≡ true) → TakesDue old new row points expired → Expires old new row expired
 row_expired old new row points expired queue all takes = record {
   coins = takes.coins ∙ cleared-row row points (coins_in old.coins) (λ q named. all q (ap (λ f. f row q) queue ∙ named));
+  all = λ point queued. listed point queued _ refl;
+  sorted = takes.sorted;
   back = takes.back;
   each = takes.each;
   names = takes.names;
@@ -149,6 +182,18 @@ row_expired old new row points expired queue all takes = record {
   places = takes.places;
   rows = takes.rows;
 }
+  where
+    gone : coins_in new.coins ≡ (λ point. unless_named_at row (coins_in old.coins point))
+    gone = takes.coins ∙ cleared-row row points (coins_in old.coins) (λ q named. all q (ap (λ f. f row q) queue ∙ named))
+
+    listed : (point : OutPoint) → queued_in old.queue row point ≡ true → (b : Bool) → list_any (is_held_at point) expired ≡ b → b ≡ true
+    listed point queued true here = refl
+    listed point queued false none =
+        let named : is_named_at row (coins_in old.coins point) ≡ true = sym (ap (λ f. f row point) queue) ∙ queued in
+        let lost : coins_in old.coins point ≡ None =
+        sym (ap (λ f. f point) takes.back) ∙ restored_other point expired (coins_in new.coins) none
+        ∙ ap (λ f. f point) gone ∙ named_none row (coins_in old.coins point) named in
+        absurd (true_is_not_false (sym named ∙ ap (is_named_at row) lost))
 
 -- ---- the outpoints of a row
 
@@ -166,7 +211,7 @@ key_here : (e : OutPoint × Bool) (row : List (OutPoint × Bool)) (point : OutPo
 key_here e row point rest true = refl
 key_here e row point rest false = rest
 
-any_key : (row : List (OutPoint × Bool)) (point : OutPoint) → is_some (lookup (same_point point) row) ≡ list_any (same_point point) (keys_of row)
+pub any_key : (row : List (OutPoint × Bool)) (point : OutPoint) → is_some (lookup (same_point point) row) ≡ list_any (same_point point) (keys_of row)
 any_key [] point = refl
 any_key (e ∷ row) point = key_here e row point (any_key row point) (same_point point e.0)
 

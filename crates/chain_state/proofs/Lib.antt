@@ -9,8 +9,12 @@ pub mod Standing
 pub mod Applying
 pub mod Looping
 pub mod GivingUp
+pub mod Rising
 pub mod Due
+pub mod Costing
 pub mod Restoring
 pub mod Wholes
 pub mod Clear
+pub mod Places
 pub mod Chains
+pub mod Disconnecting

@@ -4,6 +4,7 @@ use Rattle.std.proofs.Math.Path.{fun_ext}
 use Rattle.std.specs.Prelude.{Option, Some, None, ◌||◌, ◌==◌}
 use Rattle.std.specs.Option.{is_some}
 use Rattle.std.specs.List.{list_any, AllByRecursion}
+use Rattle.std.specs.List.Sorted.{IsStrictlySortedBy}
 use Rattle.std.specs.Cmp.{unsigned_Decides}
 use Rattle.nmc_base.specs.Roomy.{Roomy}
 use Rattle.nmc_base.specs.Expiry.{expiry_depth}
@@ -22,7 +23,8 @@ use Rattle.chain_state.specs.Tables.{maps_by}
 use Rattle.chain_state.specs.Block.{IsReady}
 use Rattle.chain_state.specs.Work.{spends, spends_at, FitsOps, may_be_empty, may_be_empty_at, IsWork}
 use Rattle.chain_state.specs.Expiring.{IsDueCoin, Expires, CanReturn, Restores}
-use Rattle.chain_state.specs.Whole.{is_held_at, is_queued_at, maps_returned, IsWhole, Finishes}
+use Rattle.undo_laws.specs.Expired.{is_held_at, IsGone, IsSortedByPoint}
+use Rattle.chain_state.specs.Whole.{is_queued_at, maps_returned, IsWhole, Finishes}
 use Rattle.chain_state.specs.declared.tables.Tables.{Tables}
 use Rattle.chain_state.specs.declared.work.Work.{Work}
 use Rattle.chain_state.specs.declared.whole.Whole.{Whole}
@@ -100,6 +102,13 @@ free_there t row other (held ∷ helds) point apart all some = by (same_point he
 of_rows : (t : Tables) (row : ℕ) (expired : List HeldCoin) → AllByRecursion (CanReturn t row) expired → AllByRecursion (λ h. is_named_at row (Some h.coin) ≡ true) expired
 of_rows t row [] all = tt
 of_rows t row (held ∷ helds) all = (all.0.of_row, of_rows t row helds all.1)
+
+named_gone : (row : ℕ) (coin : Option Coin) → is_named_at row coin ≡ true → unless_named_at row coin ≡ None
+named_gone row coin e = rw e refl
+
+lost_named : (row : ℕ) (slot : Option Coin) (coin : Coin) → slot ≡ Some coin → unless_named_at row slot ≡ None → (b : Bool) → is_named_at row slot ≡ b → b ≡ true
+lost_named row slot coin some none true is = refl
+lost_named row slot coin some none false is = absurd (let both : Some coin ≡ None = sym some ∙ sym (ap (λ b. cond b None slot) is) ∙ none in cc)
 
 module _ (w : Whole) (tables : Tables) (whole : IsWhole w) (back : Restores w.work.tables tables w.expired.items) where
   abbrev Returned : Work
@@ -255,11 +264,30 @@ module _ (profile : Profile) (old : Work) (tables : Tables) (row : ℕ) (expired
         can_return helds all.1,
       )
 
+  gone_each : (helds : List HeldCoin) → AllByRecursion (IsDueCoin (coins_in old.tables.coins) row) helds → AllByRecursion (IsGone (coins_in old.tables.coins) (coins_in tables.coins)) helds
+  gone_each [] all = tt
+  gone_each (held ∷ helds) all =
+      let was = all.0.held_is in (
+        record {
+          now_is = was;
+          next_is = ap (λ f. f held.at) gone.coins ∙ named_gone row (coins_in old.tables.coins held.at) (ap (is_named_at row) was ∙ all.0.of_row);
+        },
+        gone_each helds all.1,
+      )
+
+  gone_all : (point : OutPoint) (coin : Coin) → coins_in old.tables.coins point ≡ Some coin → coins_in tables.coins point ≡ None → list_any (is_held_at point) expired.items ≡ true
+  gone_all point coin now next =
+      gone.all point (ap (λ q. q row point) ready.work.queue
+      ∙ lost_named row (coins_in old.tables.coins point) coin now (ap (λ f. f point) (sym gone.coins) ∙ next) _ refl)
+
   pub finished : Finishes profile old Done
   finished = record {
     height = refl;
+    ops = refl;
     maps = done_maps;
     before = ap (back_ops old.ops.items) done_returned;
+    due = record { each = gone_each expired.items gone.each; all = gone_all };
+    sorted = gone.sorted;
     whole = record {
       queue = gone.queue;
       fits = subst (FitsOps old.height old.ops.items) (sym done_returned) ready.work.fits;
@@ -283,10 +311,17 @@ or_false false = refl
 
 pub finished_none : (profile : Profile) (old : Work) (expired : Roomy HeldCoin) → IsReady profile old → suc old.height < expiry_depth profile (suc old.height) → expired.items ≡ []
     → Finishes profile old (record { work = old; expired = expired })
+unfolding IsStrictlySortedBy
 finished_none profile old expired ready high none = record {
   height = refl;
+  ops = refl;
   maps = λ i. record { coins = fun_ext (λ point. sym (unless_expired-none profile old.height (coins_in old.tables.coins point) high)) i; names = names_in old.tables.names };
   before = ap (λ es. back_ops old.ops.items (maps_returned old.tables es)) none;
+  due = record {
+    each = subst (AllByRecursion (IsGone (coins_in old.tables.coins) (coins_in old.tables.coins))) (sym none) tt;
+    all = λ point coin now next. absurd (let both : Some coin ≡ None = sym now ∙ next in cc);
+  };
+  sorted = subst IsSortedByPoint (sym none) tt;
   whole = record {
     queue = ready.work.queue;
     fits = subst (λ es. FitsOps old.height old.ops.items (maps_returned old.tables es)) (sym none) ready.work.fits;

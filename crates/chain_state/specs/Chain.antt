@@ -1,14 +1,21 @@
--- The index of a chain: its base and tip, and what its tables say.
-use Rattle.std.specs.Prelude.{◌≡◌, ℕ, suc, ◌<◌, ◌≤◌, [], Option, None}
+-- The index of a chain: its base and tip, what its tables say, and what undoes its blocks.
+use Rattle.std.specs.Prelude.{◌≡◌, ℕ, suc, ◌<◌, ◌≤◌, List, [], ◌∷◌, map, reverse, Option, None}
 use Rattle.full_grammar.specs.Block.{Block, block_root}
 use Rattle.full_grammar.specs.Header.{header_hash}
 use Rattle.nmc_base.specs.declared.chain_ends.Base.{Base}
 use Rattle.nmc_base.specs.declared.chain_ends.Tip.{Tip}
+use Rattle.nmc_base.specs.Roomy.{Roomy}
 use Rattle.nmc_base.specs.declared.hashes.Hash32.{Hash32}
 use Rattle.chain_names.specs.Coins.{maps_of}
 use Rattle.chain_names.specs.Log.{behind_coinbase}
-use Rattle.chain_names.specs.Changes.{Refused, first_refused, after_block}
+use Rattle.chain_names.specs.Changes.{Refused, first_refused, after_all, after_block, undo_ops}
 use Rattle.chain_names.specs.Tables.{coins_in, queued_in, queue_of}
+use Rattle.chain_names.specs.Undo.{UndoRecord}
+use Rattle.undo_laws.specs.Expired.{IsDue, IsSortedByPoint}
+use Rattle.undo_laws.specs.Sound.{IsSound}
+use Rattle.undo_records.specs.Seen.{seen_undo}
+use Rattle.undo_records.specs.declared.parts.Parts.{Parts}
+use Rattle.undo_records.specs.declared.undo.Undo.{Undo}
 use Rattle.chain_state.specs.Tables.{maps_by, IsStanding, AreFilled}
 use Rattle.chain_state.specs.Whole.{IsWhole, maps_before_block}
 use Rattle.chain_state.specs.declared.tables.Tables.{Tables}
@@ -22,19 +29,47 @@ pub record Indexed : Type 0 where
   pub base : Base
   pub tip : Tip
   pub tables : Tables
+  -- what undoes its blocks, the newest first
+  pub undos : List UndoRecord
 
--- the tables stand for the next block, and each place holds something
+-- the records as the code keeps them, the oldest first, without the room of their lists
+abbrev pub newest_first : List Undo → List UndoRecord
+newest_first undos = reverse (map seen_undo undos)
+
+abbrev pub tables_of : Parts → Tables
+tables_of parts = record { coins = parts.coins; names = parts.names; queue = parts.queue }
+
+abbrev pub indexed_of : Base → Tip → Parts → Indexed
+indexed_of base tip parts = record { base = base; tip = tip; tables = tables_of parts; undos = newest_first parts.undos.items }
+
+abbrev pub index_of : Base → Tip → Tables → Roomy Undo → Indexed
+index_of base tip tables undos = record { base = base; tip = tip; tables = tables; undos = newest_first undos.items }
+
+-- the parts of the index
+pub record ArePartsOf (c : Indexed) (parts : Parts) : Type 0 where
+  pub tables : tables_of parts ≡ c.tables
+  pub undos : newest_first parts.undos.items ≡ c.undos
+
+-- the hash of the newest block, or of the base
+abbrev pub newest_hash : Base → List UndoRecord → Hash32
+newest_hash base [] = base.hash
+newest_hash base (undo ∷ undos) = undo.block
+
+-- The tables stand for the next block, each place holds something, and what undoes the blocks fits, down to the base.
 pub record IsIndexed (c : Indexed) : Type 0 where
   pub height : c.tip.height ≤ highest
+  pub hash : c.tip.hash ≡ newest_hash c.base c.undos
   pub queue : queued_in c.tables.queue ≡ queue_of (coins_in c.tables.coins)
   pub filled : AreFilled c.tables
   pub standing : IsStanding c.base.profile (suc c.tip.height) (suc c.tip.height) (maps_by c.tables)
+  pub sound : IsSound c.base.profile c.base.height c.tip.height (maps_by c.tables) c.undos
 
--- the same index: base, tip and maps
+-- the same index: base, tip, maps, and what undoes the blocks
 pub record SameIndex (a b : Indexed) : Type 0 where
   pub base : a.base ≡ b.base
   pub tip : a.tip ≡ b.tip
   pub maps : maps_by a.tables ≡ maps_by b.tables
+  pub undos : a.undos ≡ b.undos
 
 -- the index of a base alone
 pub record IsAtBase (base : Base) (c : Indexed) : Type 0 where
@@ -42,6 +77,7 @@ pub record IsAtBase (base : Base) (c : Indexed) : Type 0 where
   pub height : c.tip.height ≡ base.height
   pub hash : c.tip.hash ≡ base.hash
   pub maps : maps_by c.tables ≡ maps_of base.profile [] (suc base.height)
+  pub undos : c.undos ≡ []
 
 -- ---- a block that is staged
 
@@ -50,13 +86,25 @@ pub record StagedIndex : Type 0 where
   pub tip : Tip
   pub hash : Hash32
   pub whole : Whole
+  -- what undoes the blocks below it, the newest first
+  pub undos : List UndoRecord
+
+-- what undoes the staged block
+abbrev pub staged_undo : Hash32 → Whole → UndoRecord
+staged_undo hash whole = record { block = hash; ops = whole.work.ops.items; expired = whole.expired.items }
+
+abbrev pub staged_of : Base → Tip → Hash32 → Whole → Roomy Undo → StagedIndex
+staged_of base tip hash whole undos = record { base = base; tip = tip; hash = hash; whole = whole; undos = newest_first undos.items }
 
 pub record IsStagedIndex (s : StagedIndex) : Type 0 where
   pub height : s.tip.height < highest
+  pub tip_hash : s.tip.hash ≡ newest_hash s.base s.undos
   pub work_height : s.whole.work.height ≡ suc s.tip.height
   pub whole : IsWhole s.whole
   pub before : IsStanding s.base.profile (suc s.tip.height) (suc s.tip.height) (maps_before_block s.whole)
   pub after : IsStanding s.base.profile (suc (suc s.tip.height)) (suc (suc s.tip.height)) (maps_by s.whole.work.tables)
+  pub sound_before : IsSound s.base.profile s.base.height s.tip.height (maps_before_block s.whole) s.undos
+  pub sound_after : IsSound s.base.profile s.base.height (suc s.tip.height) (maps_by s.whole.work.tables) (staged_undo s.hash s.whole ∷ s.undos)
 
 -- ---- what staging a block answers
 
@@ -75,6 +123,12 @@ pub record IsStagedOn (c : Indexed) (block : Block) (s : StagedIndex) : Type 0 w
   pub hash : s.hash.0 ≡ header_hash block.header
   pub before : maps_before_block s.whole ≡ maps_by c.tables
   pub after : maps_by s.whole.work.tables ≡ after_block c.base.profile (suc c.tip.height) (behind_coinbase block.transactions) (maps_by c.tables)
+  -- what undoes it: its operations in order, and each coin that is expired in the next block, by their outpoints
+  pub ops : s.whole.work.ops.items ≡ undo_ops c.base.profile (suc c.tip.height) (behind_coinbase block.transactions) (maps_by c.tables)
+  pub due : IsDue (after_all c.base.profile (suc c.tip.height) (behind_coinbase block.transactions) (maps_by c.tables)).coins
+      (after_block c.base.profile (suc c.tip.height) (behind_coinbase block.transactions) (maps_by c.tables)).coins s.whole.expired.items
+  pub sorted : IsSortedByPoint s.whole.expired.items
+  pub undos : s.undos ≡ c.undos
 
 -- the chain with the block
 pub record IsConnected (s : StagedIndex) (c : Indexed) : Type 0 where
@@ -82,9 +136,11 @@ pub record IsConnected (s : StagedIndex) (c : Indexed) : Type 0 where
   pub height : c.tip.height ≡ suc s.tip.height
   pub hash : c.tip.hash ≡ s.hash
   pub maps : maps_by c.tables ≡ maps_by s.whole.work.tables
+  pub undos : c.undos ≡ staged_undo s.hash s.whole ∷ s.undos
 
 -- the chain without it
 pub record IsAbandoned (s : StagedIndex) (c : Indexed) : Type 0 where
   pub base : c.base ≡ s.base
   pub tip : c.tip ≡ s.tip
   pub maps : maps_by c.tables ≡ maps_before_block s.whole
+  pub undos : c.undos ≡ s.undos

@@ -11,7 +11,8 @@ use Rattle.chain_names.specs.Points.{same_point, changed}
 use Rattle.chain_names.specs.Tables.{coins_in, coin_places, queued_in, queue_places, is_named_at, FilledBut, AreNamesFilled}
 use Rattle.chain_state.specs.Tables.{HoldSame}
 use Rattle.chain_state.specs.Work.{spends, spends_at}
-use Rattle.chain_state.specs.Whole.{is_held_at, is_queued_at}
+use Rattle.undo_laws.specs.Expired.{is_held_at}
+use Rattle.chain_state.specs.Whole.{is_queued_at}
 use Rattle.chain_state.specs.declared.tables.Tables.{Tables}
 
 -- the coin stood at the outpoint, in a row of this height

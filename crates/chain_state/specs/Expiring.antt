@@ -1,11 +1,12 @@
 -- The coins that are due after a block.
 use Rattle.std.specs.Prelude.{◌≡◌, ℕ, true, false, ◌==◌, List, Option, Some}
-use Rattle.std.specs.List.{AllByRecursion}
+use Rattle.std.specs.List.{list_any, AllByRecursion}
 use Rattle.nmc_base.specs.declared.hashes.OutPoint.{OutPoint}
 use Rattle.chain_names.specs.declared.coin.Coin.{Coin}
 use Rattle.chain_names.specs.declared.coin.HeldCoin.{HeldCoin}
 use Rattle.chain_names.specs.Changes.{unless_named_at, cleared, restored}
 use Rattle.chain_names.specs.Tables.{coins_in, coin_places, queued_in, queue_places, queue_of, is_named_at}
+use Rattle.undo_laws.specs.Expired.{is_held_at, IsSortedByPoint}
 use Rattle.chain_state.specs.declared.tables.Tables.{Tables}
 
 -- the coin was there, and is one of the row's
@@ -18,6 +19,7 @@ pub record TakesDue (old new : Tables) (row : ℕ) (points : List OutPoint) (exp
   pub coins : coins_in new.coins ≡ cleared row points (coins_in old.coins)
   pub back : restored expired (coins_in new.coins) ≡ coins_in old.coins
   pub each : AllByRecursion (IsDueCoin (coins_in old.coins) row) expired
+  pub sorted : IsSortedByPoint expired
   pub names : new.names ≡ old.names
   pub queue : queued_in new.queue ≡ queue_of (coins_in new.coins)
   pub places : coin_places new.coins ≡ coin_places old.coins
@@ -26,6 +28,8 @@ pub record TakesDue (old new : Tables) (row : ℕ) (points : List OutPoint) (exp
 -- the row's coins are gone, and can be put back
 pub record Expires (old new : Tables) (row : ℕ) (expired : List HeldCoin) : Type 0 where
   pub coins : coins_in new.coins ≡ (λ point. unless_named_at row (coins_in old.coins point))
+  pub all : (point : OutPoint) → queued_in old.queue row point ≡ true → list_any (is_held_at point) expired ≡ true
+  pub sorted : IsSortedByPoint expired
   pub back : restored expired (coins_in new.coins) ≡ coins_in old.coins
   pub each : AllByRecursion (IsDueCoin (coins_in old.coins) row) expired
   pub names : new.names ≡ old.names

@@ -1,8 +1,12 @@
 pub mod Tables
 pub mod Work
+pub mod Cost
 pub mod Block
 pub mod Expiring
 pub mod Whole
 pub mod Clearing
 pub mod Chain
 pub mod Stage
+pub mod Placing
+pub mod Back
+pub mod StageBack

@@ -1,11 +1,12 @@
 -- What staging a block answers.
-use Rattle.std.specs.Prelude.{◌≡◌, ◌≢◌, ℕ, ◌<◌, ◌≤◌, [], Some}
+use Rattle.std.specs.Prelude.{◌≡◌, ◌≢◌, ℕ, ◌+◌, ◌*◌, ◌<◌, ◌≤◌, [], length, Some}
 use Rattle.full_grammar.specs.Block.{Block, block_root}
 use Rattle.chain_state.specs.Chain.{highest, Indexed, SameIndex, StagedIndex, rule_refused, IsStagedOn}
+use Rattle.chain_state.specs.Cost.{touched_by}
 use Rattle.chain_state.specs.declared.tables.Tables.{Tables}
 use Rattle.chain_state.specs.declared.work.Work.{Work}
 use Rattle.chain_state.specs.declared.stage.Refusal.{Refusal}
-use Rattle.chain_state.specs.declared.stage.Refusal.TheVariants.{NotOnTip, HeightLimit, MerkleMismatch, Rule}
+use Rattle.chain_state.specs.declared.stage.Refusal.TheVariants.{BadBlock, NotOnTip, HeightLimit, MerkleMismatch, Rule, NotTip, AtBase}
 use Rattle.chain_state.specs.declared.stage.StageOutcome.{StageOutcome}
 use Rattle.chain_state.specs.declared.stage.StageOutcome.TheVariants.{Staged, Refused, NoMemory}
 
@@ -21,27 +22,43 @@ pub record Begins (tables : Tables) (height : ℕ) (w : Work) : Type 0 where
 pub record StagesWell (old : Indexed) (block : Block) (s : StagedIndex) : Type 0 where
   pub on : block.header.fields.previous ≡ old.tip.hash.0 → block.header.fields.root ≡ block_root block → IsStagedOn old block s
 
+-- the steps that its commit takes at most
+abbrev pub commit_steps : StagedIndex → ℕ
+commit_steps s = 2 * length s.whole.work.ops.items + 2 * length s.whole.expired.items
+
+-- where a block was staged, with its commit: eight steps for each input, each output and each coin that became due, and eight
+abbrev pub IsCheap : Block → StageOutcome → ℕ → ℕ → Type 0
+IsCheap block (Staged s) before after = after + commit_steps s ≤ before + 8 * (touched_by block + length s.whole.expired.items) + 8
+IsCheap block (Refused c refusal) before after = Unit {0}
+IsCheap block (NoMemory c) before after = Unit {0}
+
 abbrev pub IsRefusal : Indexed → Block → Refusal → Type 0
+IsRefusal c block (BadBlock at) = ⊥
 IsRefusal c block (NotOnTip tip) = (block.header.fields.previous ≢ c.tip.hash.0) × (tip ≡ c.tip.hash)
 IsRefusal c block HeightLimit = (block.header.fields.previous ≡ c.tip.hash.0) × (highest ≤ c.tip.height)
 IsRefusal c block (MerkleMismatch computed) =
     (block.header.fields.previous ≡ c.tip.hash.0) × (c.tip.height < highest) × (block.header.fields.root ≢ computed.0) × (computed.0 ≡ block_root block)
 IsRefusal c block (Rule index refusal) =
     (block.header.fields.previous ≡ c.tip.hash.0) × (c.tip.height < highest) × (block.header.fields.root ≡ block_root block) × (rule_refused c block ≡ Some (index, refusal))
+IsRefusal c block (NotTip tip) = ⊥
+IsRefusal c block AtBase = ⊥
 
 abbrev pub IsNamesRefusal : Indexed → Block → Refusal → Type 0
+IsNamesRefusal c block (BadBlock at) = ⊥
 IsNamesRefusal c block (NotOnTip tip) = ⊥
 IsNamesRefusal c block HeightLimit = ⊥
 IsNamesRefusal c block (MerkleMismatch computed) = ⊥
 IsNamesRefusal c block (Rule index refusal) = rule_refused c block ≡ Some (index, refusal)
+IsNamesRefusal c block (NotTip tip) = ⊥
+IsNamesRefusal c block AtBase = ⊥
 
 abbrev pub StagesNames : Indexed → Block → StageOutcome → Type 0
 StagesNames old block (Staged s) = StagesWell old block s
 StagesNames old block (Refused c refusal) = SameIndex c old × IsNamesRefusal old block refusal
 StagesNames old block (NoMemory c) = SameIndex c old
 
--- the block is staged, or refused by the first condition that holds, or memory ran out
+-- the block is staged, or refused by the first condition that holds, or memory ran out, for which the first two don't hold
 abbrev pub Stages : Indexed → Block → StageOutcome → Type 0
 Stages old block (Staged s) = IsStagedOn old block s
 Stages old block (Refused c refusal) = SameIndex c old × IsRefusal old block refusal
-Stages old block (NoMemory c) = SameIndex c old
+Stages old block (NoMemory c) = SameIndex c old × (block.header.fields.previous ≡ old.tip.hash.0) × (old.tip.height < highest)

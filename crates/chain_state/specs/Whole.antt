@@ -13,16 +13,13 @@ use Rattle.chain_names.specs.Tables.{coins_in, coin_places, names_in, queued_in,
 use Rattle.chain_state.specs.Tables.{maps_by, AreFilled}
 use Rattle.chain_state.specs.Work.{FitsOps, HasSpentPlace, HasSpentRow, may_be_empty, may_be_empty_at}
 use Rattle.chain_state.specs.Expiring.{CanReturn}
+use Rattle.undo_laws.specs.Expired.{is_held_at, IsDue, IsSortedByPoint}
 use Rattle.chain_state.specs.declared.tables.Tables.{Tables}
 use Rattle.chain_state.specs.declared.work.Work.{Work}
 use Rattle.chain_state.specs.declared.whole.Whole.{Whole}
 use Rattle.chain_state.specs.declared.whole.Committed.{Committed}
 
--- the coin expired at this outpoint
-abbrev pub is_held_at : OutPoint → HeldCoin → Bool
-is_held_at point held = same_point held.at point
-
--- and was a name's of this height
+-- the coin expired at this outpoint, and was a name's of this height
 abbrev pub is_queued_at : ℕ → OutPoint → HeldCoin → Bool
 is_queued_at height point held = same_point held.at point && is_named_at height (Some held.coin)
 
@@ -46,8 +43,11 @@ pub record IsWhole (w : Whole) : Type 0 where
 -- the block's work is whole: the coins that are expired in the next block are gone, and can be put back
 pub record Finishes (profile : Profile) (old : Work) (w : Whole) : Type 0 where
   pub height : w.work.height ≡ old.height
+  pub ops : w.work.ops ≡ old.ops
   pub maps : maps_by w.work.tables ≡ without_expired profile (suc old.height) (maps_by old.tables)
   pub before : back_ops w.work.ops.items (maps_returned w.work.tables w.expired.items) ≡ back_ops old.ops.items (maps_by old.tables)
+  pub due : IsDue (coins_in old.tables.coins) (coins_in w.work.tables.coins) w.expired.items
+  pub sorted : IsSortedByPoint w.expired.items
   pub whole : IsWhole w
 
 -- the maps before the block

@@ -1,6 +1,7 @@
-ghost use Rattle.std.specs.Prelude.{◌≡◌, ◌<◌, ◌≤◌, ◌^◌, [], length};
+ghost use Rattle.std.specs.Prelude.{◌≡◌, ◌+◌, ◌*◌, ◌<◌, ◌≤◌, ◌^◌, [], length};
 ghost use Rattle.std.specs.List.{AllByRecursion};
 ghost use Rattle.chain_names.specs.Log.{behind_coinbase};
+ghost use Rattle.chain_state.specs.Cost.{WhereAccepted, owed_for, touched, all_touched};
 ghost use Rattle.chain_state.specs.Block.{IsReady, Applies, AppliesAll, HasFewOutputs};
 
 use crate::view::View;
@@ -24,7 +25,8 @@ impl Work {
     ) -> Result<Option<RuleRefusal>, NoMemory>
         requires ready { IsReady profile self.old }
         requires outputs { length tx.now.outputs ≤ 2 ^ 32 }
-        ensures { Applies profile self.old self.new tx.now result }
+        ensures applies { Applies profile self.old self.new tx.now result }
+        ensures cost { WhereAccepted result (steps.new + owed_for self.new.ops.items ≤ steps.old + owed_for self.old.ops.items + 8 * touched tx.now) }
     {
         let txid = txid(tx);
         let view = View {
@@ -87,7 +89,8 @@ impl Work {
         requires fresh { self.old.ops.items ≡ [] }
         requires outputs { AllByRecursion HasFewOutputs txs }
         requires count { length txs < 4294967295 }
-        ensures { AppliesAll profile self.old self.new txs.entry result }
+        ensures applies { AppliesAll profile self.old self.new txs.entry result }
+        ensures cost { WhereAccepted result (steps.new + owed_for self.new.ops.items ≤ steps.old + 8 * all_touched txs.entry) }
     {
         let mut index = 1;
         for tx in txs {

@@ -1,32 +1,34 @@
-ghost use Rattle.std.specs.Prelude.{◌≡◌, ◌≤◌, IfOk};
-ghost use Rattle.chain_state.specs.Chain.{IsAtBase, IsConnected, IsAbandoned};
+ghost use Rattle.std.specs.Prelude.{◌≡◌, ◌+◌, ◌≤◌, IfOk};
+ghost use Rattle.chain_state.specs.Chain.{IsAtBase, IsIndexed, IsConnected, IsAbandoned, ArePartsOf, index_of};
+ghost use Rattle.chain_state.specs.Stage.{commit_steps};
 
 use crate::tables::Tables;
 use crate::whole::Whole;
 use expiry_queue::Queue;
 use name_coins::Coins;
 use name_table::Table;
-use nmc_base::{Base, Hash32, NoMemory, Steps, Tip};
+use nmc_base::{Base, Hash32, NoMemory, RoomyList, Steps, Tip};
 use std::alloc::Global;
 use std::marker::Model;
 use std::sync::ledger::Ledger;
+use undo_records::{Parts, Undo};
 
-/// The index of a chain: which coins and names its blocks left.
+/// The index of a chain: which coins and names its blocks left, and what undoes each of them.
 #[derive(Drop)]
 pub struct Chain {
     pub(crate) base: Base,
     pub(crate) tip: Tip,
-    pub(crate) tables: Tables,
+    pub(crate) parts: Parts,
 }
 
 impl Model for Chain {
-    ghost use Rattle.chain_state.specs.Chain.{Indexed, IsIndexed};
+    ghost use Rattle.chain_state.specs.Chain.{Indexed, IsIndexed, indexed_of};
 
     ghost Value = { Indexed };
 
-    ghost view = { λ c. record { base = c.base; tip = c.tip; tables = c.tables } };
+    ghost view = { λ c. indexed_of c.base c.tip c.parts };
 
-    ghost invariant = { λ c. IsIndexed (record { base = c.base; tip = c.tip; tables = c.tables }) };
+    ghost invariant = { λ c. IsIndexed (indexed_of c.base c.tip c.parts) };
 }
 
 /// A block that was staged on a chain: the chain with it is there, and so is what undoes it.
@@ -36,16 +38,19 @@ pub struct StagedChain {
     pub(crate) tip: Tip,
     pub(crate) hash: Hash32,
     pub(crate) whole: Whole,
+    /// What undoes the blocks below it, with room for one more.
+    pub(crate) undos: RoomyList<Undo>,
 }
 
 impl Model for StagedChain {
-    ghost use Rattle.chain_state.specs.Chain.{StagedIndex, IsStagedIndex};
+    ghost use Rattle.std.specs.Prelude.{◌<◌};
+    ghost use Rattle.chain_state.specs.Chain.{StagedIndex, IsStagedIndex, staged_of};
 
     ghost Value = { StagedIndex };
 
-    ghost view = { λ s. record { base = s.base; tip = s.tip; hash = s.hash; whole = s.whole } };
+    ghost view = { λ s. staged_of s.base s.tip s.hash s.whole s.undos };
 
-    ghost invariant = { λ s. IsStagedIndex (record { base = s.base; tip = s.tip; hash = s.hash; whole = s.whole }) };
+    ghost invariant = { λ s. IsStagedIndex (staged_of s.base s.tip s.hash s.whole s.undos) × (0 < s.undos.spare) };
 }
 
 impl Chain {
@@ -63,7 +68,21 @@ impl Chain {
             height: base.height,
             hash: base.hash,
         };
-        Ok(Chain { base, tip, tables })
+        Ok(Chain::joined(base, tip, tables, RoomyList::new(alloc)))
+    }
+
+    /// The chain that has these tables, and these records of what undoes its blocks.
+    pub(crate) fn joined(base: Base, tip: Tip, tables: Tables, undos: RoomyList<Undo>) -> Chain
+        requires { IsIndexed (index_of base tip tables undos) }
+        ensures { result ≡ index_of base tip tables undos }
+    {
+        let parts = Parts {
+            coins: tables.coins,
+            names: tables.names,
+            queue: tables.queue,
+            undos,
+        };
+        Chain { base, tip, parts }
     }
 
     /// The base of the chain.
@@ -79,33 +98,47 @@ impl Chain {
     {
         self.tip
     }
+
+    /// The coins, the histories, the queue and the undo records, that of the oldest block first.
+    pub fn parts(&self) -> &Parts
+        ensures { ArePartsOf self.now result.now }
+    {
+        &self.parts
+    }
 }
 
 impl StagedChain {
     /// The chain with the block. It can't fail, and takes no memory.
     pub fn commit<L: Ledger>(self, steps: &mut Steps<L>) -> Chain
-        ensures { IsConnected self result }
+        ensures connected { IsConnected self result }
+        ensures cost { steps.new ≤ steps.old + commit_steps self }
     {
-        let height = self.tip.height + 1;
-        let committed = self.whole.commit(steps);
-        Chain {
-            base: self.base,
-            tip: Tip {
-                height,
-                hash: self.hash,
-            },
-            tables: committed.tables,
-        }
+        let StagedChain {
+            base,
+            tip,
+            hash: block,
+            whole,
+            undos,
+        } = self;
+        let committed = whole.commit(steps);
+        let mut undos = undos;
+        undos.push(Undo {
+            block,
+            ops: committed.ops,
+            expired: committed.expired,
+        });
+        let tip = Tip {
+            height: tip.height + 1,
+            hash: block,
+        };
+        Chain::joined(base, tip, committed.tables, undos)
     }
 
     /// The chain as it was before the block. It can't fail, and takes no memory.
     pub fn abandon<L: Ledger>(self, steps: &mut Steps<L>) -> Chain
         ensures { IsAbandoned self result }
     {
-        Chain {
-            base: self.base,
-            tip: self.tip,
-            tables: self.whole.abandon(steps),
-        }
+        let tables = self.whole.abandon(steps);
+        Chain::joined(self.base, self.tip, tables, self.undos)
     }
 }

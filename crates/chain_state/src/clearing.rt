@@ -1,4 +1,4 @@
-ghost use Rattle.std.specs.Prelude.{◌+◌, ◌≤◌, List, []};
+ghost use Rattle.std.specs.Prelude.{◌+◌, ◌*◌, ◌≤◌, List, [], length};
 ghost use Rattle.chain_names.specs.declared.coin.HeldCoin.{HeldCoin};
 ghost use Rattle.chain_state.specs.declared.tables.Tables.{Tables};
 ghost use Rattle.chain_state.specs.Clearing.{GivesUp, GivesUpOp, IsClearing};
@@ -35,7 +35,8 @@ impl Tables {
 
     /// Gives the places up of what these operations spent.
     pub(crate) fn clear_spent<L: Ledger>(&mut self, ops: &[UndoOp], steps: &mut Steps<L>)
-        ensures { (start : Tables) (expired : List HeldCoin) → IsClearing start self.old ops.now expired → IsClearing start self.new [] expired }
+        ensures clearing { (start : Tables) (expired : List HeldCoin) → IsClearing start self.old ops.now expired → IsClearing start self.new [] expired }
+        ensures cost { steps.new ≤ steps.old + 2 * length ops.now }
     {
         let mut rest = ops;
         while let [op, more @ ..] = rest {
@@ -46,7 +47,8 @@ impl Tables {
 
     /// Gives the places up of these coins.
     pub(crate) fn clear_expired<L: Ledger>(&mut self, expired: &[HeldCoin], steps: &mut Steps<L>)
-        ensures { (start : Tables) → IsClearing start self.old [] expired.now → IsClearing start self.new [] [] }
+        ensures clearing { (start : Tables) → IsClearing start self.old [] expired.now → IsClearing start self.new [] [] }
+        ensures cost { steps.new ≤ steps.old + 2 * length expired.now }
     {
         let mut rest = expired;
         while let [held, more @ ..] = rest {

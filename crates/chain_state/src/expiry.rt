@@ -1,7 +1,9 @@
-ghost use Rattle.std.specs.Prelude.{◌≡◌, ℕ, ◌+◌, ◌<◌, ◌≤◌, [], suc, length, true, IfSome, IfNone, IfOk, OnErr};
-ghost use Rattle.std.specs.List.{list_any, AllByRecursion};
+ghost use Rattle.std.specs.Prelude.{◌≡◌, ℕ, ◌+◌, ◌*◌, ◌<◌, ◌≤◌, [], suc, length, true, IfSome, IfNone, IfOk, OnErr};
+ghost use Rattle.std.specs.List.{list_any, AllByRecursion, IsDistinct};
 ghost use Rattle.nmc_base.specs.Expiry.{expiry_depth};
 ghost use Rattle.nmc_base.specs.declared.hashes.OutPoint.{OutPoint};
+ghost use Rattle.std.specs.List.Sorted.{IsStrictlySortedBy};
+ghost use Rattle.nmc_base.specs.Hash.{outpoint_cmp};
 ghost use Rattle.chain_names.specs.Points.{same_point};
 ghost use Rattle.chain_names.specs.Tables.{coins_in, queued_in, queue_places, queue_of, row_points};
 ghost use Rattle.chain_state.specs.Expiring.{TakesDue, Expires, CanReturn, Restores};
@@ -32,6 +34,8 @@ impl Tables {
         steps: &mut Steps<L>,
     ) -> Result<Vec<OutPoint>, NoMemory>
         ensures points { IfOk result (λ points. points.items ≡ row_points self.now.queue row) }
+        ensures distinct { IfOk result (λ points. IsDistinct same_point points.items) }
+        ensures cost { IfOk result (λ points. steps.new ≤ steps.old + 1 + length points.items) }
     {
         let mut points = Vec::new(alloc);
         for i in 0..self.queue.row_len(row, steps) {
@@ -54,7 +58,9 @@ impl Tables {
         requires queue { queued_in self.old.queue ≡ queue_of (coins_in self.old.coins) }
         requires none { expired.old.items ≡ [] }
         requires room { length points.now ≤ expired.old.spare }
-        ensures { TakesDue self.old self.new row points.now expired.new.items }
+        requires rising { IsStrictlySortedBy outpoint_cmp points.now }
+        ensures due { TakesDue self.old self.new row points.now expired.new.items }
+        ensures cost { steps.new ≤ steps.old + length points.now + 2 * length expired.new.items }
     {
         let mut rest = points;
         while let [at, more @ ..] = rest {
@@ -68,7 +74,7 @@ impl Tables {
         }
     }
 
-    /// The outpoints that have a place in a row, in their order.
+    /// The outpoints that have a place in a row, each once and in their order.
     fn due_points<L: Ledger>(
         &self,
         alloc: Global,
@@ -76,6 +82,10 @@ impl Tables {
         steps: &mut Steps<L>,
     ) -> Result<Vec<OutPoint>, NoMemory>
         ensures all { IfOk result (λ points. (point : OutPoint) → queued_in self.now.queue row point ≡ true → list_any (same_point point) points.items ≡ true) }
+        ensures rising { IfOk result (λ points. IsStrictlySortedBy outpoint_cmp points.items) }
+        ensures count { IfOk result (λ points. length points.items ≡ length (row_points self.now.queue row)) }
+        ensures distinct { IfOk result (λ points. IsDistinct same_point (row_points self.now.queue row)) }
+        ensures cost { IfOk result (λ points. steps.new ≤ steps.old + 1 + length points.items) }
     {
         let mut points = self.row_points(alloc, row, steps)?;
         points.sort()?;
@@ -93,6 +103,8 @@ impl Tables {
         requires queue { queued_in self.old.queue ≡ queue_of (coins_in self.old.coins) }
         ensures ok { IfOk result (λ expired. Expires self.old self.new row expired.items) }
         ensures err { OnErr result (self.new ≡ self.old) }
+        ensures distinct { IfOk result (λ expired. IsDistinct same_point (row_points self.old.queue row)) }
+        ensures cost { IfOk result (λ expired. steps.new ≤ steps.old + 1 + 2 * length (row_points self.old.queue row) + 2 * length expired.items) }
     {
         let points = self.due_points(alloc, row, steps)?;
         let mut expired = RoomyList::new(alloc);
@@ -105,7 +117,8 @@ impl Tables {
     pub(crate) fn restore<L: Ledger>(&mut self, expired: RoomyList<HeldCoin>, steps: &mut Steps<L>)
         requires queue { queued_in self.old.queue ≡ queue_of (coins_in self.old.coins) }
         requires expired { (row : ℕ) × AllByRecursion (CanReturn self.old row) expired.items }
-        ensures { Restores self.old self.new expired.items }
+        ensures back { Restores self.old self.new expired.items }
+        ensures cost { steps.new ≤ steps.old + 2 * length expired.items }
     {
         let mut expired = expired;
         while let Some(HeldCoin { at, coin }) = expired.pop() {

@@ -1,16 +1,20 @@
 //! The index of a chain in memory: it connects and disconnects blocks in two steps, of which the second can't fail.
 #![tactic(auto)]
 
+mod back;
 mod block;
 mod chain;
 mod clearing;
 mod expiry;
+mod live;
+mod placing;
 mod stage;
 mod tables;
 mod view;
 mod whole;
 mod work;
 
+pub use back::{BackOutcome, StagedBack};
 pub use chain::{Chain, StagedChain};
 pub use stage::{Refusal, StageOutcome};
 pub use tables::Tables;

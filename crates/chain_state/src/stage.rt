@@ -1,7 +1,8 @@
-ghost use Rattle.std.specs.Prelude.{◌≡◌, ◌<◌, length, IfOk, IfErr};
-ghost use Rattle.std.specs.List.{AllByRecursion};
-ghost use Rattle.chain_state.specs.Block.{HasFewOutputs};
-ghost use Rattle.chain_state.specs.Stage.{Begins, StagesNames, Stages};
+ghost use Rattle.std.specs.Prelude.{◌≡◌, ◌<◌, ◌^◌, length, IfOk, IfErr, IsOk};
+ghost use Rattle.chain_names.specs.Log.{behind_coinbase};
+ghost use Rattle.undo_laws.specs.Sound.{count_outputs};
+ghost use Rattle.chain_state.specs.Chain.{tables_of};
+ghost use Rattle.chain_state.specs.Stage.{Begins, StagesNames, Stages, IsCheap};
 
 use crate::block::behind_coinbase;
 use crate::chain::{Chain, StagedChain};
@@ -12,13 +13,16 @@ use name_rules::RuleRefusal;
 use nmc_base::{Hash32, RoomyList, Steps};
 use std::alloc::Global;
 use std::sync::ledger::Ledger;
+use undo_records::{Parts, Undo};
 
 /// No chain is higher.
 const HIGHEST: u32 = 2_000_000_000;
 
-/// Why a block isn't staged.
+/// Why a block, or the disconnect of one, isn't staged.
 #[derive(Clone, Copy, PartialEq, Eq, Debug)]
 pub enum Refusal {
+    /// Its bytes are no block: at this place no block can go on so. A block that was read has not this refusal.
+    BadBlock { at: u32 },
     /// Its previous hash isn't the tip's.
     NotOnTip { tip: Hash32 },
     /// The tip has the greatest height.
@@ -27,6 +31,10 @@ pub enum Refusal {
     MerkleMismatch { computed: Hash32 },
     /// The transaction with this index breaks a rule on names. The coinbase has the index 0.
     Rule { tx: u32, refusal: RuleRefusal },
+    /// A disconnect names another block than the tip, whose hash is told.
+    NotTip { tip: Hash32 },
+    /// A disconnect where the chain has no block on its base.
+    AtBase,
 }
 
 /// What came of staging a block. A chain that is handed back is the one that was given.
@@ -37,14 +45,45 @@ pub enum StageOutcome {
     NoMemory(Chain),
 }
 
+/// The tables among the parts of a chain, and what undoes its blocks.
+pub(crate) fn split(parts: Parts) -> (Tables, RoomyList<Undo>)
+    ensures tables { result.0 ≡ tables_of parts }
+    ensures undos { result.1 ≡ parts.undos }
+{
+    let Parts {
+        coins,
+        names,
+        queue,
+        undos,
+    } = parts;
+    let tables = Tables {
+        coins,
+        names,
+        queue,
+    };
+    (tables, undos)
+}
+
 impl Work {
-    /// The beginning of a block's work, or the tables where there is no memory for it.
-    fn begin(alloc: Global, tables: Tables, height: u32) -> Result<Work, Tables>
+    /// The beginning of a block's work, or the tables where there is no memory for it. There is room for one undo record
+    /// more then.
+    fn begin(
+        alloc: Global,
+        tables: Tables,
+        height: u32,
+        undos: &mut RoomyList<Undo>,
+    ) -> Result<Work, Tables>
         ensures ok { IfOk result (λ work. Begins tables height work) }
         ensures err { IfErr result (λ same. same ≡ tables) }
+        ensures undos { undos.new.items ≡ undos.old.items }
+        ensures room { IsOk result → 0 < undos.new.spare }
     {
         let mut empty = RoomyList::new(alloc);
-        match empty.reserve(1) {
+        let room = match undos.reserve(1) {
+            Ok(()) => empty.reserve(1),
+            Err(error) => Err(error),
+        };
+        match room {
             Ok(()) => Ok(Work {
                 tables,
                 ops: RoomyList::new(alloc),
@@ -65,25 +104,27 @@ impl Chain {
         steps: &mut Steps<L>,
     ) -> StageOutcome
         requires low { self.tip.height < 2000000000 }
-        requires outputs { AllByRecursion HasFewOutputs block.now.transactions }
+        requires outputs { count_outputs (behind_coinbase block.now.transactions) < 2 ^ 32 }
         requires count { length block.now.transactions < 4294967296 }
-        ensures { StagesNames self block.now result }
+        ensures names { StagesNames self block.now result }
+        ensures cost { IsCheap block.now result steps.old steps.new }
     {
-        let Chain { base, tip, tables } = self;
-        let mut work = match Work::begin(alloc, tables, tip.height + 1) {
+        let Chain { base, tip, parts } = self;
+        let (tables, undos) = split(parts);
+        let mut undos = undos;
+        let mut work = match Work::begin(alloc, tables, tip.height + 1, &mut undos) {
             Ok(work) => work,
-            Err(tables) => return StageOutcome::NoMemory(Chain { base, tip, tables }),
+            Err(tables) => return StageOutcome::NoMemory(Chain::joined(base, tip, tables, undos)),
         };
         match work.apply_all(alloc, behind_coinbase(block.txs()), base.profile, steps) {
             Ok(None) => {}
             Ok(Some((tx, refusal))) => {
-                let tables = work.abandon(steps);
-                let chain = Chain { base, tip, tables };
+                let chain = Chain::joined(base, tip, work.abandon(steps), undos);
                 return StageOutcome::Refused(chain, Refusal::Rule { tx, refusal });
             }
             Err(_) => {
                 let tables = work.abandon(steps);
-                return StageOutcome::NoMemory(Chain { base, tip, tables });
+                return StageOutcome::NoMemory(Chain::joined(base, tip, tables, undos));
             }
         }
         match work.finish(alloc, base.profile, steps) {
@@ -94,11 +135,12 @@ impl Chain {
                     tip,
                     hash,
                     whole,
+                    undos,
                 })
             }
             Err(work) => {
                 let tables = work.abandon(steps);
-                StageOutcome::NoMemory(Chain { base, tip, tables })
+                StageOutcome::NoMemory(Chain::joined(base, tip, tables, undos))
             }
         }
     }
@@ -113,8 +155,10 @@ impl Chain {
         block: &Block<'_>,
         steps: &mut Steps<L>,
     ) -> StageOutcome
-        requires { AllByRecursion HasFewOutputs block.now.transactions }
-        ensures { Stages self block.now result }
+        requires { count_outputs (behind_coinbase block.now.transactions) < 2 ^ 32 }
+        ensures stages { Stages self block.now result }
+        // With the steps of its commit.
+        ensures cost { IsCheap block.now result steps.old steps.new }
     {
         // The count says that an index of a transaction fits its number.
         let _count = block.count();

@@ -1,4 +1,4 @@
-ghost use Rattle.std.specs.Prelude.{◌≡◌, IfOk, IfErr};
+ghost use Rattle.std.specs.Prelude.{◌≡◌, ◌+◌, ◌*◌, ◌≤◌, length, IfOk, IfErr};
 ghost use Rattle.chain_names.specs.Tables.{coins_in, queued_in, queue_of};
 ghost use Rattle.chain_state.specs.Block.{IsReady};
 ghost use Rattle.chain_state.specs.Tables.{maps_by, AreFilled};
@@ -38,6 +38,7 @@ impl Work {
         requires { IsReady profile self }
         ensures ok { IfOk result (λ whole. Finishes profile self whole) }
         ensures err { IfErr result (λ work. work ≡ self) }
+        ensures cost { IfOk result (λ whole. steps.new ≤ steps.old + 1 + 2 * length whole.work.ops.items + 4 * length whole.expired.items) }
     {
         let mut work = self;
         match due_row(profile, work.height) {
@@ -60,6 +61,7 @@ impl Whole {
         ensures before { maps_by result ≡ maps_before_block self }
         ensures queue { queued_in result.queue ≡ queue_of (coins_in result.coins) }
         ensures filled { AreFilled result }
+        ensures cost { steps.new ≤ steps.old + 8 * length self.work.ops.items + 2 * length self.work.empty.items + 2 * length self.expired.items }
     {
         let mut work = self.work;
         work.tables.restore(self.expired, steps);
@@ -69,7 +71,8 @@ impl Whole {
     /// Gives the places up that the block emptied. It can't fail, and takes no memory.
     pub(crate) fn commit<L: Ledger>(self, steps: &mut Steps<L>) -> Committed
         requires { IsWhole self }
-        ensures { Commits self result }
+        ensures commits { Commits self result }
+        ensures cost { steps.new ≤ steps.old + 2 * length self.work.ops.items + 2 * length self.expired.items }
     {
         let mut work = self.work;
         let expired = self.expired;

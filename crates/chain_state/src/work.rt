@@ -1,4 +1,4 @@
-ghost use Rattle.std.specs.Prelude.{◌≡◌, ◌+◌, ◌≤◌, ◌∷◌, [], length, None, Some, IfOk, OnOk, OnErr};
+ghost use Rattle.std.specs.Prelude.{◌≡◌, ◌+◌, ◌*◌, ◌≤◌, ◌∷◌, [], length, None, Some, IfOk, OnOk, OnErr};
 ghost use Rattle.chain_names.specs.declared.undo.UndoOp.TheVariants.{New as undo_new};
 ghost use Rattle.chain_names.specs.declared.coin.Coin.{Coin};
 ghost use Rattle.chain_names.specs.Tables.{coins_in, queued_in, queue_of};
@@ -141,7 +141,9 @@ impl Work {
     /// Takes a commitment back, whose undo operation was taken off the list.
     fn undo_commitment<L: Ledger>(&mut self, made: OutPoint, steps: &mut Steps<L>)
         requires { IsWork (with_op self.old (undo_new made)) }
-        ensures { GoesBack self.old self.new (back_op (undo_new made) (maps_by self.old.tables)) self.old.ops.items }
+        ensures back { GoesBack self.old self.new (back_op (undo_new made) (maps_by self.old.tables)) self.old.ops.items }
+        ensures emptied { length self.new.empty.items ≤ length self.old.empty.items + 1 }
+        ensures cost { steps.new ≤ steps.old + 1 }
     {
         drop(self.tables.coins.take(&made, steps));
         self.empty.push(made);
@@ -157,7 +159,9 @@ impl Work {
         steps: &mut Steps<L>,
     )
         requires { Undoes self.old made spent coin name.now }
-        ensures { GoesBack self.old self.new (moved_back (maps_by self.old.tables) made spent coin name.now) self.old.ops.items }
+        ensures back { GoesBack self.old self.new (moved_back (maps_by self.old.tables) made spent coin name.now) self.old.ops.items }
+        ensures emptied { length self.new.empty.items ≤ length self.old.empty.items + 1 }
+        ensures cost { steps.new ≤ steps.old + 6 }
     {
         self.tables.shift_back(&spent, coin, &made, name, steps);
         self.empty.push(made);
@@ -166,7 +170,9 @@ impl Work {
     /// Undoes the last operation, which was taken off the list.
     fn undo<L: Ledger>(&mut self, op: UndoOp, steps: &mut Steps<L>)
         requires { IsWork (with_op self.old op) }
-        ensures { GoesBack self.old self.new (back_op op (maps_by self.old.tables)) self.old.ops.items }
+        ensures back { GoesBack self.old self.new (back_op op (maps_by self.old.tables)) self.old.ops.items }
+        ensures emptied { length self.new.empty.items ≤ length self.old.empty.items + 1 }
+        ensures cost { steps.new ≤ steps.old + 6 }
     {
         match op {
             UndoOp::New { made } => self.undo_commitment(made, steps),
@@ -196,7 +202,9 @@ impl Work {
     /// Undoes all operations, from the last to the first.
     pub(crate) fn undo_all<L: Ledger>(&mut self, steps: &mut Steps<L>)
         requires { IsWork self.old }
-        ensures { GoesBack self.old self.new (back_ops self.old.ops.items (maps_by self.old.tables)) [] }
+        ensures back { GoesBack self.old self.new (back_ops self.old.ops.items (maps_by self.old.tables)) [] }
+        ensures emptied { length self.new.empty.items ≤ length self.old.empty.items + length self.old.ops.items }
+        ensures cost { steps.new ≤ steps.old + 6 * length self.old.ops.items }
     {
         while let Some(op) = self.ops.pop() {
             self.undo(op, steps);
@@ -209,6 +217,7 @@ impl Work {
         requires none_left { self.old.ops.items ≡ [] }
         ensures same { HoldSame self.old.tables self.new.tables }
         ensures filled { AreFilled self.new.tables }
+        ensures cost { steps.new ≤ steps.old + 2 * length self.old.empty.items }
     {
         while let Some(at) = self.empty.pop() {
             self.tables.coins.unplace(&at, steps);
@@ -222,6 +231,7 @@ impl Work {
         ensures before { maps_by result ≡ maps_before self }
         ensures queue { queued_in result.queue ≡ queue_of (coins_in result.coins) }
         ensures filled { AreFilled result }
+        ensures cost { steps.new ≤ steps.old + 8 * length self.ops.items + 2 * length self.empty.items }
     {
         let mut work = self;
         work.undo_all(steps);

@@ -1,5 +1,7 @@
 use Rattle.chain_state.proofs.Chains.{connected_index}
 use Rattle.chain_state.proofs.chain.StagedChain.commit.Goals as goal
 
-pub invariant_of-result : goal.invariant_of-result
-invariant_of-result g c = connected_index (record { base = c.self.inside.base; tip = c.self.inside.tip; hash = c.self.inside.hash; whole = c.self.inside.whole }) c.commit-committed.result c.self.invariant c.commit-committed.ensures
+pub joined-requires : goal.joined-requires
+joined-requires g c =
+    let staged = c.self.inside in
+    connected_index staged.base staged.tip staged.hash staged.whole staged.undos c.self.invariant.0 c.commit-committed.result c.commit-committed.ensures.commits c.push.new.self c.push.ensures.items

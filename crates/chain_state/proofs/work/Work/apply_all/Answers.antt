@@ -1,5 +1,6 @@
 use Rattle.std.proofs.Common.{rules, subst, sym, arith}
 use Rattle.chain_state.proofs.Looping.{IsOn, begins, few_here, counted_here, went_on_at, declined_at, stopped_at, ended_at}
+use Rattle.chain_state.proofs.Costing.{begun_paid, more_paid}
 use Rattle.chain_state.proofs.work.Work.apply_all.Goals as goal
 
 pub loop-tx-init : goal.loop-tx-init
@@ -8,6 +9,7 @@ loop-tx-init g c = (
   search rules,
   subst (λ left. IsOn c.args.profile c.args.self.now c.args.self.now c.args.txs left 1) (sym c.into_iter-tx-iterator.ensures.into_iter_gives)
       (begins c.args.profile c.args.self.now c.args.txs c.requires.ready c.requires.fresh c.requires.outputs c.requires.count),
+  begun_paid c.args.steps.now c.args.txs c.into_iter-tx-iterator.result c.args.self.now.ops.items c.into_iter-tx-iterator.ensures.into_iter_gives c.requires.fresh,
 )
 
 pub apply-requires-clause-ready : goal.apply-requires-clause-ready
@@ -16,11 +18,11 @@ apply-requires-clause-ready g c = c.loop-tx.invariant.2.ready
 pub apply-requires-clause-outputs : goal.apply-requires-clause-outputs
 apply-requires-clause-outputs g c = few_here _ _ _ _ _ _ _ _ c.in-Some.ensures.steps c.loop-tx.invariant.2
 
-pub returns-in-Err : goal.returns-in-Err
-returns-in-Err g c = stopped_at _ _ _ c.apply.new.self _ _ _ _ _ c.in-Some.ensures.steps c.loop-tx.invariant.2 c.in-Err.ensures
+pub returns-in-Err-clause-applies : goal.returns-in-Err-clause-applies
+returns-in-Err-clause-applies g c = stopped_at _ _ _ c.apply.new.self _ _ _ _ _ c.in-Some.ensures.steps c.loop-tx.invariant.2 c.in-Err.ensures.applies
 
-pub returns-in-Ok-Some : goal.returns-in-Ok-Some
-returns-in-Ok-Some g c = declined_at _ _ _ c.apply.new.self _ _ _ _ _ c.in-Some.ensures.steps c.loop-tx.invariant.2 _ (rw c.in-Ok-Some.field-0-is at c.in-Ok-Some.ensures)
+pub returns-in-Ok-Some-clause-applies : goal.returns-in-Ok-Some-clause-applies
+returns-in-Ok-Some-clause-applies g c = declined_at _ _ _ c.apply.new.self _ _ _ _ _ c.in-Some.ensures.steps c.loop-tx.invariant.2 _ (rw c.in-Ok-Some.field-0-is at c.in-Ok-Some.ensures.applies)
 
 pub overflow_add-index : goal.overflow_add-index
 overflow_add-index g c = omega (arith, counted_here _ _ _ _ _ _ _ _ c.in-Some.ensures.steps c.loop-tx.invariant.2)
@@ -29,8 +31,12 @@ pub loop-tx-preserved : goal.loop-tx-preserved
 loop-tx-preserved g c = (
   search rules,
   search rules,
-  went_on_at _ _ _ c.apply.new.self _ _ _ _ _ c.in-Some.ensures.steps c.loop-tx.invariant.2 (rw c.in-Ok-None.field-0-is at c.in-Ok-None.ensures),
+  went_on_at _ _ _ c.apply.new.self _ _ _ _ _ c.in-Some.ensures.steps c.loop-tx.invariant.2 (rw c.in-Ok-None.field-0-is at c.in-Ok-None.ensures.applies),
+  more_paid c.args.steps.now c.loop-tx.steps c.apply.new.steps c.args.txs c.loop-tx.tx-iterator _ _ c.loop-tx.self.ops.items c.apply.new.self.ops.items c.in-Some.ensures.steps c.loop-tx.invariant.3 (rw c.in-Ok-None.field-0-is at c.in-Ok-None.ensures.cost),
 )
 
-pub returns : goal.returns
-returns g c = ended_at _ _ _ _ _ _ c.in-None.ensures.steps.0 c.loop-tx.invariant.2
+pub returns-clause-applies : goal.returns-clause-applies
+returns-clause-applies g c = ended_at _ _ _ _ _ _ c.in-None.ensures.steps.0 c.loop-tx.invariant.2
+
+pub returns-clause-cost : goal.returns-clause-cost
+returns-clause-cost g c = omega (arith, c.loop-tx.invariant.3)

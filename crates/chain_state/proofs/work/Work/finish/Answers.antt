@@ -1,7 +1,8 @@
-use Rattle.std.proofs.Common.{ap}
+use Rattle.std.proofs.Common.{ap, arith}
 use Rattle.nmc_base.specs.Roomy.{Roomy}
 use Rattle.chain_names.specs.declared.coin.HeldCoin.{HeldCoin}
 use Rattle.chain_state.proofs.Wholes.{finished, finished_none}
+use Rattle.chain_state.proofs.Costing.{row_count}
 use Rattle.chain_state.proofs.work.Work.finish.Goals as goal
 
 pub returns-in-None-clause-ok : goal.returns-in-None-clause-ok
@@ -11,3 +12,7 @@ returns-in-None-clause-ok g c =
 pub returns-in-Ok-clause-ok : goal.returns-in-Ok-clause-ok
 returns-in-Ok-clause-ok g c =
     finished c.args.profile c.args.self c.expire.new.self c.in-Some.row c.in-Ok.expired c.requires c.in-Some.ensures.some c.in-Ok.ensures.ok
+
+pub returns-in-Ok-clause-cost : goal.returns-in-Ok-clause-cost
+returns-in-Ok-clause-cost g c =
+    omega (arith, c.in-Ok.ensures.cost, row_count c.args.profile c.args.self c.requires c.in-Some.row c.expire.new.self c.in-Ok.expired.items c.in-Ok.ensures.ok c.in-Ok.ensures.distinct)

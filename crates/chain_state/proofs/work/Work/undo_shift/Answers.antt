@@ -1,7 +1,8 @@
-use Rattle.std.proofs.Common.{refl}
+use Rattle.std.proofs.Common.{refl, arith}
 use Rattle.chain_state.specs.Work.{with_op}
 use Rattle.chain_state.proofs.Backing.{unmoved_work}
 use Rattle.chain_state.proofs.Undone.{spent_free, spent_place, spent_row}
+use Rattle.chain_state.proofs.Due.{one_more}
 use Rattle.chain_state.proofs.work.Work.undo_shift.Goals as goal
 
 pub shift_back-requires-clause-free : goal.shift_back-requires-clause-free
@@ -13,8 +14,8 @@ shift_back-requires-clause-place g c = spent_place c.args.self.now c.args.made c
 pub shift_back-requires-clause-row : goal.shift_back-requires-clause-row
 shift_back-requires-clause-row g c = spent_row c.args.self.now c.args.made c.args.spent c.args.coin c.args.name.now c.requires
 
-pub returns : goal.returns
-returns g c =
+pub returns-clause-back : goal.returns-clause-back
+returns-clause-back g c =
     let back = c.shift_back.ensures.back in
     let is = c.requires.is_undo in
     record {
@@ -26,3 +27,6 @@ returns g c =
           c.requires.work refl refl c.push.ensures.items c.push.ensures.spare is.back is.fits is.spends is.spends_at
           back.coins back.places back.names back.names_filled back.queue back.rows;
     }
+
+pub returns-clause-emptied : goal.returns-clause-emptied
+returns-clause-emptied g c = omega (arith, one_more _ _ _ c.push.ensures.items)

@@ -1,0 +1,43 @@
+use Rattle.std.proofs.Common.{◌≡◌, ◌-◌, List, [], length, refl, sym, subst, ◌∙◌}
+use Rattle.std.specs.Prelude.{Some, slice_get}
+use Rattle.undo_records.specs.declared.undo.Undo.{Undo}
+use Rattle.chain_state.specs.Back.{block_work}
+use Rattle.chain_state.specs.Chain.{Indexed, SameIndex, index_of}
+use Rattle.chain_state.specs.Clearing.{IsClearing}
+use Rattle.chain_state.specs.Whole.{IsWhole}
+use Rattle.chain_state.specs.declared.whole.Whole.{Whole}
+use Rattle.chain_state.proofs.Clear.{whole_clearing, committed}
+use Rattle.chain_state.proofs.Disconnecting.{EndsIn, ends_in, none_last, never_none, whole_back, abandoned_back}
+use Rattle.chain_state.proofs.back.StagedBack.abandon.Goals as goal
+
+pub unreachable-requires : goal.unreachable-requires
+unreachable-requires g c =
+    let s = c.self.inside in
+    never_none s.base s.tip s.tables s.undos s.empty c.self.invariant
+    (sym c.as_slice.ensures ∙ none_last c.as_slice.result.now (sym c.in_default.ensures.value))
+
+pub joined-requires : goal.joined-requires
+joined-requires g c =
+    let s = c.self.inside in
+    let undo = c.in-Some.undo.now in
+    let ends : EndsIn s.undos.items undo = ends_in s.undos.items undo (subst (λ (l : List Undo). slice_get l (length l - 1) ≡ Some undo) c.as_slice.ensures (sym c.in-Some.ensures.value)) in
+    let work : Whole = block_work s.tables undo.ops undo.expired s.empty s.tip.height in
+    let whole : IsWhole work = whole_back s.base s.tip s.tables s.undos s.empty c.self.invariant undo ends.front ends.is in
+    let spent = c.clear_spent.ensures.clearing s.tables undo.expired.items (subst (λ ops. IsClearing s.tables s.tables ops undo.expired.items) (sym c.as_slice-2.ensures) (whole_clearing work whole)) in
+    let cleared = c.clear_expired.ensures.clearing s.tables (subst (λ held. IsClearing s.tables c.clear_spent.new.self [] held) (sym c.as_slice-3.ensures) spent) in
+    let commits = committed work c.clear_expired.new.self whole cleared in
+    abandoned_back s.base s.tip s.tables s.undos s.empty c.self.invariant c.clear_expired.new.self commits.maps commits.queue commits.filled
+
+pub returns : goal.returns
+returns g c =
+    let s = c.self.inside in
+    let undo = c.in-Some.undo.now in
+    let ends : EndsIn s.undos.items undo = ends_in s.undos.items undo (subst (λ (l : List Undo). slice_get l (length l - 1) ≡ Some undo) c.as_slice.ensures (sym c.in-Some.ensures.value)) in
+    let work : Whole = block_work s.tables undo.ops undo.expired s.empty s.tip.height in
+    let whole : IsWhole work = whole_back s.base s.tip s.tables s.undos s.empty c.self.invariant undo ends.front ends.is in
+    let spent = c.clear_spent.ensures.clearing s.tables undo.expired.items (subst (λ ops. IsClearing s.tables s.tables ops undo.expired.items) (sym c.as_slice-2.ensures) (whole_clearing work whole)) in
+    let cleared = c.clear_expired.ensures.clearing s.tables (subst (λ held. IsClearing s.tables c.clear_spent.new.self [] held) (sym c.as_slice-3.ensures) spent) in
+    let commits = committed work c.clear_expired.new.self whole cleared in
+    let same : SameIndex (index_of s.base s.tip c.clear_expired.new.self s.undos) (index_of s.base s.tip s.tables s.undos) = record { base = refl; tip = refl; maps = commits.maps; undos = refl } in
+    subst (λ (x : Indexed). SameIndex c.joined.result x) c.self.view_is
+    (subst (λ (x : Indexed). SameIndex x (index_of s.base s.tip s.tables s.undos)) (sym c.joined.ensures) same)

@@ -1,0 +1,37 @@
+use Rattle.std.proofs.Common.{length, refl, sym, ap, subst, ◌∙◌, arith}
+use Rattle.chain_state.specs.Chain as index
+use Rattle.chain_state.specs.Chain.{Indexed}
+use Rattle.chain_state.specs.StageBack.{IsDisconnected, back_commit_steps}
+use Rattle.chain_state.proofs.Disconnecting.{whole_back, disconnected_index, disconnected, steps_are}
+use Rattle.chain_state.proofs.back.StagedBack.commit.Goals as goal
+
+pub abandon-tables-requires : goal.abandon-tables-requires
+abandon-tables-requires g c =
+    let s = c.self.inside in
+    whole_back s.base s.tip s.tables s.undos s.empty c.self.invariant c.in-Some.undo c.pop.new.self.items c.in-Some.ensures.some
+
+pub joined-requires : goal.joined-requires
+joined-requires g c =
+    let s = c.self.inside in
+    disconnected_index s.base s.tip s.tables s.undos s.empty c.self.invariant c.in-Some.undo c.pop.new.self.items c.in-Some.ensures.some
+    c.pop.new.self refl c.abandon-tables.result c.abandon-tables.ensures.before c.newest_hash.result
+    (c.newest_hash.ensures ∙ ap (λ us. index.newest_hash s.base (index.newest_first us)) c.as_slice.ensures)
+    c.abandon-tables.ensures.queue c.abandon-tables.ensures.filled
+
+pub returns-clause-disconnected : goal.returns-clause-disconnected
+returns-clause-disconnected g c =
+    let s = c.self.inside in
+    subst (λ (x : Indexed). IsDisconnected x c.joined.result) c.self.view_is
+    (subst (λ (x : Indexed). IsDisconnected (index.index_of s.base s.tip s.tables s.undos) x) (sym c.joined.ensures)
+    (disconnected s.base s.tip s.tables s.undos s.empty c.self.invariant c.in-Some.undo c.pop.new.self.items c.in-Some.ensures.some
+    c.pop.new.self refl c.abandon-tables.result c.abandon-tables.ensures.before c.newest_hash.result
+    (c.newest_hash.ensures ∙ ap (λ us. index.newest_hash s.base (index.newest_first us)) c.as_slice.ensures)))
+
+pub returns-clause-cost : goal.returns-clause-cost
+returns-clause-cost g c =
+    let s = c.self.inside in
+    let steps = ap (λ (x : Indexed). back_commit_steps x.undos) (sym c.self.view_is)
+    ∙ steps_are s.base s.tip s.tables s.undos s.empty c.self.invariant c.in-Some.undo c.pop.new.self.items c.in-Some.ensures.some in
+    let whole = whole_back s.base s.tip s.tables s.undos s.empty c.self.invariant c.in-Some.undo c.pop.new.self.items c.in-Some.ensures.some in
+    let none = ap length whole.none_empty in
+    omega (arith, steps, none, c.abandon-tables.ensures.cost)

@@ -1,0 +1,24 @@
+use Rattle.std.proofs.Common.{◌≡◌, ◌<◌, sym, ap, subst, ◌∙◌, arith}
+use Rattle.full_grammar.specs.Block.{Block, block_root}
+use Rattle.full_grammar.specs.Header.{Header}
+use Rattle.nmc_base.specs.declared.hashes.Hash32.{Hash32}
+use Rattle.chain_state.specs.Chain.{Indexed, highest}
+use Rattle.chain_state.proofs.Chains.{stages}
+use Rattle.chain_state.proofs.Disconnecting.{is_the_tip}
+use Rattle.chain_state.proofs.chain.Chain.stage.Goals as goal
+
+pub returns-clause-stages : goal.returns-clause-stages
+returns-clause-stages g c =
+    let s = c.self.inside in
+    let block : Block = c.args.block.now in
+    let on : block.header.fields.previous ≡ c.args.self.tip.hash.0 =
+    sym (c.previous.ensures ∙ ap (λ (h : Header). h.fields.previous) c.header-header.ensures)
+    ∙ ap (λ (h : Hash32). h.0) (is_the_tip c.previous.result s.tip.hash (sym c.if-ne.false ∙ c.ne.ensures))
+    ∙ ap (λ (x : Indexed). x.tip.hash.0) c.self.view_is in
+    let low : c.args.self.tip.height < highest =
+    subst (λ (x : Indexed). x.tip.height < highest) c.self.view_is (omega (arith, c.if-self-ge-HIGHEST.false)) in
+    let root : block.header.fields.root ≡ block_root block =
+    sym (c.root.ensures ∙ ap (λ (h : Header). h.fields.root) c.header-header.ensures)
+    ∙ ap (λ (h : Hash32). h.0) (is_the_tip c.root.result c.in-Ok.root (sym c.if-ne-2.false ∙ c.ne-2.ensures))
+    ∙ c.in-Ok.ensures in
+    stages c.args.self block c.stage_names.result on low root c.stage_names.ensures.names

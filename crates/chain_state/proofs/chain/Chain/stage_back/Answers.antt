@@ -1,0 +1,52 @@
+use Rattle.std.proofs.Common.{◌≡◌, ◌≢◌, ◌-◌, List, [], length, refl, sym, ap, subst, ◌∙◌}
+use Rattle.std.specs.Prelude.{Some, slice_get}
+use Rattle.nmc_base.specs.Roomy.{Roomy}
+use Rattle.undo_records.specs.declared.undo.Undo.{Undo}
+use Rattle.undo_records.specs.Seen.{seen_undo}
+use Rattle.chain_state.specs.Chain.{Indexed, SameIndex, indexed_of, index_of, newest_first}
+use Rattle.chain_state.specs.Clearing.{IsClearing}
+use Rattle.chain_state.specs.StageBack.{IsBackRefusal}
+use Rattle.chain_state.specs.declared.tables.Tables.{Tables}
+use Rattle.chain_state.specs.declared.stage.Refusal.TheVariants.{NotTip}
+use Rattle.chain_state.proofs.Disconnecting.{EndsIn, ends_in, newest_is, not_the_tip, staged_back, stage_again, same_again, newest_none, is_the_tip}
+use Rattle.chain_state.proofs.chain.Chain.stage_back.Goals as goal
+
+pub returns-then-ne-clause-stages : goal.returns-then-ne-clause-stages
+returns-then-ne-clause-stages g c =
+    let s = c.self.inside in
+    subst (λ (x : Indexed). SameIndex x x × IsBackRefusal x c.args.hash (NotTip s.tip.hash)) c.self.view_is
+    (not_the_tip (indexed_of s.base s.tip s.parts) s.parts.undos.items c.args.hash refl (λ none. c.if-len-eq0.false (c.len.ensures ∙ none)) c.if-ne.ensures)
+
+pub invariant_of-result : goal.invariant_of-result
+invariant_of-result g c =
+    let s = c.self.inside in
+    let undo = c.in-Some.undo.now in
+    let undos = c.split-tables.result.1 in
+    let ends : EndsIn undos.items undo = ends_in undos.items undo (subst (λ (l : List Undo). slice_get l (length l - 1) ≡ Some undo) c.as_slice.ensures (sym c.in-Some.ensures.value)) in
+    let same : newest_first undos.items ≡ newest_first s.parts.undos.items = ap (λ (l : Roomy Undo). newest_first l.items) c.split-tables.ensures.undos in
+    let placed = c.in-Ok.ensures.ok in
+    staged_back (indexed_of s.base s.tip s.parts) c.self.invariant (seen_undo undo) (newest_first ends.front) (sym same ∙ newest_is undos.items undo ends)
+    c.make_room.new.self (subst (λ (t : Tables). IsClearing t c.make_room.new.self undo.ops.items undo.expired.items) c.split-tables.ensures.tables placed.2)
+    placed.3 placed.4 c.in-Ok.empty placed.0 placed.1 undos same
+
+pub joined-requires : goal.joined-requires
+joined-requires g c =
+    let s = c.self.inside in
+    let undos = c.split-tables.result.1 in
+    let held = c.in-Err.ensures.err in
+    let from : c.split-tables.result.0 ≡ (indexed_of s.base s.tip s.parts).tables = c.split-tables.ensures.tables in
+    stage_again (indexed_of s.base s.tip s.parts) c.self.invariant c.split-tables.result.0 from c.make_room.new.self undos
+    (ap (λ (l : Roomy Undo). newest_first l.items) c.split-tables.ensures.undos) held.0 held.1
+
+pub returns-in-Err-clause-stages : goal.returns-in-Err-clause-stages
+returns-in-Err-clause-stages g c =
+    let s = c.self.inside in
+    let undos = c.split-tables.result.1 in
+    let whole : Indexed = indexed_of s.base s.tip s.parts in
+    let from : c.split-tables.result.0 ≡ whole.tables = c.split-tables.ensures.tables in
+    let held = c.in-Err.ensures.err in
+    let same : SameIndex (index_of s.base s.tip c.make_room.new.self undos) whole =
+    same_again whole c.split-tables.result.0 from c.make_room.new.self undos (ap (λ (l : Roomy Undo). newest_first l.items) c.split-tables.ensures.undos) held.0 in
+    let some : whole.undos ≢ [] = λ none. c.if-len-eq0.false (c.len.ensures ∙ newest_none s.parts.undos.items none) in
+    subst (λ (x : Indexed). SameIndex c.joined.result x × (x.undos ≢ []) × (c.args.hash ≡ x.tip.hash)) c.self.view_is
+    (subst (λ (x : Indexed). SameIndex x whole) (sym c.joined.ensures) same, some, is_the_tip c.args.hash s.tip.hash c.if-ne.ensures)
