@@ -1,0 +1,128 @@
+-- The index follows the chain.
+use Rattle.std.proofs.Common.{◌≡◌, ℕ, suc, ◌+◌, List, [], ◌∷◌, refl, sym, ap, subst, ◌∙◌, arith}
+use Rattle.std.specs.Prelude.{None}
+use Rattle.full_grammar.specs.Block.{Block, IsBlock}
+use Rattle.full_grammar.specs.Transaction.{Transaction}
+use Rattle.full_grammar.proofs.Blocks.{block_again}
+use Rattle.nmc_base.specs.declared.chain_ends.Base.{Base}
+use Rattle.nmc_base.specs.declared.chain_ends.Profile.{Profile}
+use Rattle.nmc_base.specs.declared.hashes.Hash32.{Hash32}
+use Rattle.chain_names.specs.Coins.{Maps, maps_of}
+use Rattle.chain_names.specs.Log.{behind_coinbase, transactions_read, transactions_in, log_of}
+use Rattle.chain_names.specs.Index.{index_maps, next_height, refused_in}
+use Rattle.chain_names.specs.Changes.{first_refused, after_all, after_block, undo_ops, undone}
+use Rattle.chain_names.specs.Undo.{UndoRecord}
+use Rattle.chain_names.proofs.Blocks.{refused_in-maps, index_maps-next}
+use Rattle.undo_laws.specs.Expired.{IsDue}
+use Rattle.undo_laws.specs.UndoOf.{hash_read, IsUndoOf, AreUndos}
+use Rattle.undo_laws.proofs.Beginning.{undo_by_maps, index_undone}
+use Rattle.chain_state.specs.Tables.{maps_by}
+use Rattle.chain_state.specs.Chain.{Indexed, IsAtBase, StagedIndex, rule_refused, IsStagedOn, IsConnected, staged_undo, newest_hash}
+use Rattle.chain_state.specs.StageBack.{IsStagedBackOn, IsDisconnected}
+use Rattle.chain_laws.specs.Standing.{hash_of, StandsForChain}
+
+pub base_stands : (base : Base) (c : Indexed) → IsAtBase base c → StandsForChain base [] c
+base_stands base c at = record {
+  base_is = at.base_is;
+  height = omega (arith, at.height);
+  hash = ap (λ (h : Hash32). h.0) at.hash;
+  maps = at.maps ∙ ap (λ (n : ℕ). maps_of_none n) (sym (plus_none base.height));
+  undos = subst (AreUndos base.profile base.height []) (sym at.undos) tt;
+  valid = tt;
+}
+  where
+    plus_none : (n : ℕ) → suc (n + 0) ≡ suc n
+    plus_none n = omega arith
+
+    maps_of_none : ℕ → Maps
+    maps_of_none n = maps_of base.profile [] n
+
+-- ---- the chain's next block
+
+module _ (base : Base) (blocks : List (List ℕ)) (c : Indexed) (s : StandsForChain base blocks c) (bytes : List ℕ) (b : Block) (is : IsBlock bytes b) where
+  -- what the index says of its next block is so on the chain
+  next_alike : {X : Type 0} (said : Profile → ℕ → List Transaction → Maps → X)
+      → said c.base.profile (suc c.tip.height) (behind_coinbase b.transactions) (maps_by c.tables)
+      ≡ said base.profile (next_height base.height blocks) (behind_coinbase (transactions_in bytes)) (index_maps base.profile base.height blocks)
+  next_alike said =
+      let ts = behind_coinbase b.transactions in
+      ap (λ (x : Base). said x.profile (suc c.tip.height) ts (maps_by c.tables)) s.base_is
+      ∙ ap (λ (h : ℕ). said base.profile (suc h) ts (maps_by c.tables)) s.height
+      ∙ ap (said base.profile (next_height base.height blocks) ts) s.maps
+      ∙ ap (λ (l : List Transaction). said base.profile (next_height base.height blocks) (behind_coinbase l) (index_maps base.profile base.height blocks))
+      (sym (ap transactions_read (block_again bytes b is)))
+
+  -- the refusal by the tables is the one by the log
+  pub refused_alike : rule_refused c b ≡ refused_in base.profile (next_height base.height blocks) 1 (behind_coinbase (transactions_in bytes)) (log_of base.height blocks)
+  refused_alike =
+      next_alike (λ p h ts m. first_refused p h 1 ts m)
+      ∙ sym (refused_in-maps base.profile (next_height base.height blocks) 1 (behind_coinbase (transactions_in bytes)) (log_of base.height blocks))
+
+  module _ (staged : StagedIndex) (on : IsStagedOn c b staged) where
+    unrefused : refused_in base.profile (next_height base.height blocks) 1 (behind_coinbase (transactions_in bytes)) (log_of base.height blocks) ≡ None
+    unrefused = sym refused_alike ∙ on.accepted
+
+    undo_joined : IsUndoOf base.profile base.height bytes blocks (staged_undo staged.hash staged.whole)
+    undo_joined =
+        undo_by_maps base.profile base.height bytes blocks unrefused (staged_undo staged.hash staged.whole)
+        (on.hash ∙ sym (ap hash_read (block_again bytes b is)))
+        (on.ops ∙ next_alike undo_ops)
+        (subst (λ (m : Maps). IsDue m.coins (after_block base.profile (next_height base.height blocks) (behind_coinbase (transactions_in bytes)) (index_maps base.profile base.height blocks)).coins staged.whole.expired.items)
+        (next_alike after_all)
+        (subst (λ (m : Maps). IsDue (after_all c.base.profile (suc c.tip.height) (behind_coinbase b.transactions) (maps_by c.tables)).coins m.coins staged.whole.expired.items)
+        (next_alike after_block) on.due))
+        on.sorted
+
+    pub connects : (new : Indexed) → IsConnected staged new → StandsForChain base (bytes ∷ blocks) new
+    connects new connected = record {
+      base_is = connected.base ∙ on.base ∙ s.base_is;
+      height = omega (arith, connected.height, ap (λ t. t.height) on.tip, s.height);
+      hash = ap (λ (h : Hash32). h.0) connected.hash ∙ on.hash ∙ sym (ap hash_read (block_again bytes b is));
+      maps = connected.maps ∙ on.after ∙ next_alike after_block ∙ sym (index_maps-next base.profile base.height bytes blocks unrefused);
+      undos = subst (AreUndos base.profile base.height (bytes ∷ blocks)) (sym (connected.undos ∙ ap (λ us. staged_undo staged.hash staged.whole ∷ us) on.undos)) (undo_joined, s.undos);
+      valid = (
+        record {
+          block = b;
+          is_block = is;
+          on_tip = on.on_tip ∙ s.hash;
+          low = omega (arith, on.low, s.height);
+          root = on.root;
+          unrefused = unrefused;
+        },
+        s.valid,
+      );
+    }
+
+-- ---- the chain without its newest block
+
+-- the hash of the newest block by the undo records
+newest_is : (base : Base) (blocks : List (List ℕ)) (undos : List UndoRecord) → AreUndos base.profile base.height blocks undos → (newest_hash base undos).0 ≡ hash_of base blocks
+newest_is base [] [] are = refl
+newest_is base [] (u ∷ us) are = absurd are
+newest_is base (block ∷ blocks) [] are = absurd are
+newest_is base (block ∷ blocks) (u ∷ us) are = are.0.hash
+
+module _ (old staged new : Indexed) (hash : Hash32) (on : IsStagedBackOn old hash staged) (gone : IsDisconnected staged new) where
+  old_undos : old.undos ≡ gone.undo ∷ gone.below
+  old_undos = sym on.same.undos ∙ gone.undos_were
+
+  pub none_below : (base : Base) → StandsForChain base [] old → ⊥
+  none_below base s = subst (AreUndos base.profile base.height []) old_undos s.undos
+
+  module _ (base : Base) (bytes : List ℕ) (blocks : List (List ℕ)) (s : StandsForChain base (bytes ∷ blocks) old) where
+    undos_are : AreUndos base.profile base.height (bytes ∷ blocks) (gone.undo ∷ gone.below)
+    undos_are = subst (AreUndos base.profile base.height (bytes ∷ blocks)) old_undos s.undos
+
+    base_same : staged.base ≡ base
+    base_same = on.same.base ∙ s.base_is
+
+    pub disconnects : StandsForChain base blocks new
+    disconnects = record {
+      base_is = gone.base ∙ base_same;
+      height = omega (arith, gone.height, ap (λ t. t.height) on.same.tip, s.height);
+      hash = ap (λ (h : Hash32). h.0) (gone.hash ∙ ap (λ x. newest_hash x gone.below) base_same) ∙ newest_is base blocks gone.below undos_are.1;
+      maps = gone.maps ∙ ap (undone gone.undo.ops gone.undo.expired) (on.same.maps ∙ s.maps)
+          ∙ index_undone base.profile base.height bytes blocks gone.undo s.valid.0.unrefused undos_are.0;
+      undos = subst (AreUndos base.profile base.height blocks) (sym gone.undos) undos_are.1;
+      valid = s.valid.1;
+    }

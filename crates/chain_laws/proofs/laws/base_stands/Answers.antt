@@ -1,0 +1,5 @@
+use Rattle.chain_laws.proofs.Following.{base_stands}
+use Rattle.chain_laws.proofs.laws.base_stands.Goals as goal
+
+pub returns : goal.returns
+returns c = base_stands
