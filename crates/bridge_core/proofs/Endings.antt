@@ -7,7 +7,7 @@ use Rattle.byte_io.specs.Source.{HasRead}
 use Rattle.byte_io.proofs.SourceLemmas.{HasRead_append}
 use Rattle.byte_io.proofs.SinkLemmas.{HasTaken_append}
 use Rattle.machine.specs.Frames.{IsBadFrame, IsPartialFrame}
-use Rattle.bridge_core.specs.Accepted.{Accepted}
+use Rattle.chain_state.specs.Chain.{Indexed}
 use Rattle.bridge_core.specs.Causes.{SourceCause, SinkCause}
 use Rattle.bridge_core.specs.Filling.{AtEnd, FillsPiece, FillFails}
 use Rattle.bridge_core.specs.Answering.{SoFar, Breaks}
@@ -16,10 +16,10 @@ use Rattle.bridge_core.specs.declared.status.Status.TheVariants.{Done, BadFrame,
 use Rattle.bridge_core.proofs.Delivering.{since}
 use Rattle.bridge_core.proofs.Following.{IsAt, IsFresh, left_within}
 
-answered : (read rest written : List ℕ) (bridge : Accepted) → SoFar read rest written bridge → Answered read written rest
+answered : (read rest written : List ℕ) (bridge : Indexed) → SoFar read rest written bridge → Answered read written rest
 answered read rest written bridge s = record { events = s.events; replies = s.replies; chain = s.chain; split = s.split; run = s.run; told = s.told }
 
-pub at_bad_frame : {S K : Type 0} (left : S → Option (List ℕ)) (source_faults : S → Faults) (taken : K → Option (List ℕ)) (sink_faults : K → Faults) (source_cause sink_cause : Type 0) (source source' : S) (sink sink' : K) (limit count : ℕ) (rest : List ℕ) (bridge : Accepted)
+pub at_bad_frame : {S K : Type 0} (left : S → Option (List ℕ)) (source_faults : S → Faults) (taken : K → Option (List ℕ)) (sink_faults : K → Faults) (source_cause sink_cause : Type 0) (source source' : S) (sink sink' : K) (limit count : ℕ) (rest : List ℕ) (bridge : Indexed)
     → IsAt left source_faults taken sink_faults source source' sink sink' limit count rest bridge → IsBadFrame rest
     → Transcript (left source) (left source') (taken sink) (taken sink') limit source_cause sink_cause (BadFrame (count - length rest))
 at_bad_frame left source_faults taken sink_faults source_cause sink_cause source source' sink sink' limit count rest bridge a bad =
@@ -33,7 +33,7 @@ at_bad_frame left source_faults taken sink_faults source_cause sink_cause source
       ending = record { rest = rest; answered = answered a.read rest a.written bridge a.so_far; bad = bad; offset_is = omega (arith, a.counted, inside) };
     }
 
-pub at_limit : {S K : Type 0} (left : S → Option (List ℕ)) (source_faults : S → Faults) (taken : K → Option (List ℕ)) (sink_faults : K → Faults) (source_cause sink_cause : Type 0) (source source' : S) (sink sink' : K) (limit count : ℕ) (rest : List ℕ) (bridge : Accepted)
+pub at_limit : {S K : Type 0} (left : S → Option (List ℕ)) (source_faults : S → Faults) (taken : K → Option (List ℕ)) (sink_faults : K → Faults) (source_cause sink_cause : Type 0) (source source' : S) (sink sink' : K) (limit count : ℕ) (rest : List ℕ) (bridge : Indexed)
     → IsAt left source_faults taken sink_faults source source' sink sink' limit count rest bridge → IsPartialFrame rest → limit ≤ count
     → Transcript (left source) (left source') (taken sink) (taken sink') limit source_cause sink_cause InputLimit
 at_limit left source_faults taken sink_faults source_cause sink_cause source source' sink sink' limit count rest bridge a cut reached = record {
@@ -45,7 +45,7 @@ at_limit left source_faults taken sink_faults source_cause sink_cause source sou
   ending = record { rest = rest; answered = answered a.read rest a.written bridge a.so_far; partial = cut; at_limit = omega (arith, a.counted, a.within) };
 }
 
-pub at_sink : {S K : Type 0} (left : S → Option (List ℕ)) (source_faults : S → Faults) (taken : K → Option (List ℕ)) (sink_faults : K → Faults) (failed stalled : K → Type 0) (source_cause : Type 0) (source source' : S) (sink mid new : K) (limit count : ℕ) (before after : List ℕ) (from : Accepted)
+pub at_sink : {S K : Type 0} (left : S → Option (List ℕ)) (source_faults : S → Faults) (taken : K → Option (List ℕ)) (sink_faults : K → Faults) (failed stalled : K → Type 0) (source_cause : Type 0) (source source' : S) (sink mid new : K) (limit count : ℕ) (before after : List ℕ) (from : Indexed)
     → IsAt left source_faults taken sink_faults source source' sink mid limit count before from → IsFresh before → Breaks taken sink_faults failed stalled mid new before after from
     → Transcript (left source) (left source') (taken sink) (taken new) limit source_cause (SinkCause sink_faults failed stalled sink new) SinkFault
 at_sink left source_faults taken sink_faults failed stalled source_cause source source' sink mid new limit count before after from a fresh b =
@@ -64,7 +64,7 @@ at_sink left source_faults taken sink_faults failed stalled source_cause source 
       };
     }
 
-pub at_source : {S K : Type 0} (left : S → Option (List ℕ)) (source_faults : S → Faults) (failed : S → Type 0) (taken : K → Option (List ℕ)) (sink_faults : K → Faults) (sink_cause : Type 0) (source mid new : S) (sink sink' : K) (limit count : ℕ) (before after : List ℕ) (bridge : Accepted)
+pub at_source : {S K : Type 0} (left : S → Option (List ℕ)) (source_faults : S → Faults) (failed : S → Type 0) (taken : K → Option (List ℕ)) (sink_faults : K → Faults) (sink_cause : Type 0) (source mid new : S) (sink sink' : K) (limit count : ℕ) (before after : List ℕ) (bridge : Indexed)
     → IsAt left source_faults taken sink_faults source mid sink sink' limit count before bridge → IsPartialFrame before → count < limit → FillFails left source_faults failed mid new before after
     → Transcript (left source) (left new) (taken sink) (taken sink') limit (SourceCause source_faults failed source new) sink_cause SourceFault
 at_source left source_faults failed taken sink_faults sink_cause source mid new sink sink' limit count before after bridge a cut below f = record {
@@ -101,7 +101,7 @@ ended left faults source mid new most n before after read given f none some =
       at_end = end_of (left source) (left mid) (left new) read given (f.ended none some);
     }
 
-pub at_end : {S K : Type 0} (left : S → Option (List ℕ)) (source_faults : S → Faults) (taken : K → Option (List ℕ)) (sink_faults : K → Faults) (source_cause sink_cause : Type 0) (source mid new : S) (sink sink' : K) (limit count most n : ℕ) (before after : List ℕ) (bridge : Accepted)
+pub at_end : {S K : Type 0} (left : S → Option (List ℕ)) (source_faults : S → Faults) (taken : K → Option (List ℕ)) (sink_faults : K → Faults) (source_cause sink_cause : Type 0) (source mid new : S) (sink sink' : K) (limit count most n : ℕ) (before after : List ℕ) (bridge : Indexed)
     → IsAt left source_faults taken sink_faults source mid sink sink' limit count before bridge → count < limit → FillsPiece left source_faults mid new most before after n → n ≡ 0 → 0 < most → length before ≡ 0
     → Transcript (left source) (left new) (taken sink) (taken sink') limit source_cause sink_cause Done
 at_end left source_faults taken sink_faults source_cause sink_cause source mid new sink sink' limit count most n before after bridge a below f none some nothing_left =
@@ -119,7 +119,7 @@ at_end left source_faults taken sink_faults source_cause sink_cause source mid n
       };
     }
 
-pub in_frame : {S K : Type 0} (left : S → Option (List ℕ)) (source_faults : S → Faults) (taken : K → Option (List ℕ)) (sink_faults : K → Faults) (source_cause sink_cause : Type 0) (source mid new : S) (sink sink' : K) (limit count most n : ℕ) (before after : List ℕ) (bridge : Accepted)
+pub in_frame : {S K : Type 0} (left : S → Option (List ℕ)) (source_faults : S → Faults) (taken : K → Option (List ℕ)) (sink_faults : K → Faults) (source_cause sink_cause : Type 0) (source mid new : S) (sink sink' : K) (limit count most n : ℕ) (before after : List ℕ) (bridge : Indexed)
     → IsAt left source_faults taken sink_faults source mid sink sink' limit count before bridge → IsPartialFrame before → count < limit → FillsPiece left source_faults mid new most before after n → n ≡ 0 → 0 < most → 0 < length before
     → Transcript (left source) (left new) (taken sink) (taken sink') limit source_cause sink_cause (CutFrame (count - length before))
 in_frame left source_faults taken sink_faults source_cause sink_cause source mid new sink sink' limit count most n before after bridge a cut below f none some some_left =

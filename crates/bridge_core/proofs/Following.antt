@@ -10,13 +10,13 @@ use Rattle.std.specs.Int.{w32, to_le_bytes}
 use Rattle.machine.specs.Chain.{on_base, regtest_base}
 use Rattle.machine.specs.Frames.{frames, Splits, IsPartialFrame, nothing, header_cut, payload_cut}
 use Rattle.machine.proofs.Splitting.{splits_nothing, splits_more}
-use Rattle.bridge_core.specs.Accepted.{Accepted}
+use Rattle.chain_state.specs.Chain.{Indexed}
 use Rattle.bridge_core.specs.Bridge.{StandsFor}
 use Rattle.bridge_core.specs.Filling.{FillsPiece}
 use Rattle.bridge_core.specs.Answering.{SoFar, Continues}
 
 -- what was read and written since the start, and the run that it stands for
-pub record IsAt {S K : Type 0} (left : S → Option (List ℕ)) (source_faults : S → Faults) (taken : K → Option (List ℕ)) (sink_faults : K → Faults) (source source' : S) (sink sink' : K) (limit count : ℕ) (rest : List ℕ) (bridge : Accepted) : Type 0 where
+pub record IsAt {S K : Type 0} (left : S → Option (List ℕ)) (source_faults : S → Faults) (taken : K → Option (List ℕ)) (sink_faults : K → Faults) (source source' : S) (sink sink' : K) (limit count : ℕ) (rest : List ℕ) (bridge : Indexed) : Type 0 where
   pub read : List ℕ
   pub written : List ℕ
   pub given : HasRead (left source) (left source') read
@@ -36,11 +36,11 @@ pub record IsFresh (rest : List ℕ) : Type 0 where
   pub one_piece : length piece ≤ 65536
 
 -- the same before the frames behind the last piece are answered
-pub record Follows {S K : Type 0} (left : S → Option (List ℕ)) (source_faults : S → Faults) (taken : K → Option (List ℕ)) (sink_faults : K → Faults) (source source' : S) (sink sink' : K) (limit count : ℕ) (rest : List ℕ) (bridge : Accepted) : Type 0 where
+pub record Follows {S K : Type 0} (left : S → Option (List ℕ)) (source_faults : S → Faults) (taken : K → Option (List ℕ)) (sink_faults : K → Faults) (source source' : S) (sink sink' : K) (limit count : ℕ) (rest : List ℕ) (bridge : Indexed) : Type 0 where
   pub at : IsAt left source_faults taken sink_faults source source' sink sink' limit count rest bridge
   pub fresh : IsFresh rest
 
-pub begins : {S K : Type 0} (left : S → Option (List ℕ)) (source_faults : S → Faults) (taken : K → Option (List ℕ)) (sink_faults : K → Faults) (source : S) (sink : K) (limit : ℕ) (rest : List ℕ) (bridge : Accepted)
+pub begins : {S K : Type 0} (left : S → Option (List ℕ)) (source_faults : S → Faults) (taken : K → Option (List ℕ)) (sink_faults : K → Faults) (source : S) (sink : K) (limit : ℕ) (rest : List ℕ) (bridge : Indexed)
     → StandsFor bridge (on_base regtest_base) → rest ≡ [] → Follows left source_faults taken sink_faults source source sink sink limit 0 rest bridge
 begins left source_faults taken sink_faults source sink limit rest bridge stands empty = record {
   at = record {
@@ -66,7 +66,7 @@ begins left source_faults taken sink_faults source sink limit rest bridge stands
 }
 
 -- the whole frames were answered
-pub moves : {S K : Type 0} (left : S → Option (List ℕ)) (source_faults : S → Faults) (taken : K → Option (List ℕ)) (sink_faults : K → Faults) (source source' : S) (sink mid new : K) (limit count : ℕ) (before after : List ℕ) (from to : Accepted)
+pub moves : {S K : Type 0} (left : S → Option (List ℕ)) (source_faults : S → Faults) (taken : K → Option (List ℕ)) (sink_faults : K → Faults) (source source' : S) (sink mid new : K) (limit count : ℕ) (before after : List ℕ) (from to : Indexed)
     → IsAt left source_faults taken sink_faults source source' sink mid limit count before from → Continues taken sink_faults mid new before after from to
     → IsAt left source_faults taken sink_faults source source' sink new limit count after to
 moves left source_faults taken sink_faults source source' sink mid new limit count before after from to a continues =
@@ -84,7 +84,7 @@ moves left source_faults taken sink_faults source source' sink mid new limit cou
     }
 
 -- what is left is a part of what was read
-pub left_within : {S K : Type 0} (left : S → Option (List ℕ)) (source_faults : S → Faults) (taken : K → Option (List ℕ)) (sink_faults : K → Faults) (source source' : S) (sink sink' : K) (limit count : ℕ) (rest : List ℕ) (bridge : Accepted)
+pub left_within : {S K : Type 0} (left : S → Option (List ℕ)) (source_faults : S → Faults) (taken : K → Option (List ℕ)) (sink_faults : K → Faults) (source source' : S) (sink sink' : K) (limit count : ℕ) (rest : List ℕ) (bridge : Indexed)
     → IsAt left source_faults taken sink_faults source source' sink sink' limit count rest bridge → length rest ≤ count
 left_within left source_faults taken sink_faults source source' sink sink' limit count rest bridge a =
     omega (arith, a.counted, ap length a.so_far.split.whole, length-append (frames a.so_far.events) rest)
@@ -96,7 +96,7 @@ room_behind p (header_cut kind rest e known short) = omega (arith, ap length e)
 room_behind p (payload_cut kind n payload e known allowed short) = omega (arith, ap length e, length-append (to_le_bytes w32 n) payload)
 
 -- one more piece was read
-pub reads_on : {S K : Type 0} (left : S → Option (List ℕ)) (source_faults : S → Faults) (taken : K → Option (List ℕ)) (sink_faults : K → Faults) (source mid new : S) (sink sink' : K) (limit count most n : ℕ) (before after : List ℕ) (bridge : Accepted)
+pub reads_on : {S K : Type 0} (left : S → Option (List ℕ)) (source_faults : S → Faults) (taken : K → Option (List ℕ)) (sink_faults : K → Faults) (source mid new : S) (sink sink' : K) (limit count most n : ℕ) (before after : List ℕ) (bridge : Indexed)
     → IsAt left source_faults taken sink_faults source mid sink sink' limit count before bridge → IsPartialFrame before → FillsPiece left source_faults mid new most before after n → most ≤ 65536 → count + most ≤ limit
     → Follows left source_faults taken sink_faults source new sink sink' limit (count + n) after bridge
 reads_on left source_faults taken sink_faults source mid new sink sink' limit count most n before after bridge a cut f one_piece below = record {

@@ -1,31 +1,12 @@
 -- When a block has a refusal, and when it has none.
-use Rattle.std.proofs.Common.{◌≡◌, ◌≢◌, ℕ, ◌<◌, ◌≤◌, Bool, true, false, List, ◌++◌, length, refl, sym, ap, ◌∙◌, length-append, arith}
-use Rattle.std.specs.Prelude.{IsTrue}
-use Rattle.block_grammar.specs.Transaction.{counted_list}
-use Rattle.block_grammar.specs.Header as plain
-use Rattle.full_grammar.specs.Transaction.{transaction_text}
-use Rattle.full_grammar.specs.Header.{Header, header_text, merged_text}
-use Rattle.full_grammar.specs.Block.{Block, IsBlock, block_text, block_root}
+use Rattle.std.proofs.Common.{◌≡◌, ◌≢◌, ℕ, ◌<◌, ◌≤◌, List, Some, None, sym, ap, ◌∙◌, arith}
+use Rattle.full_grammar.specs.Block.{Block, IsBlock, block_root}
 use Rattle.full_grammar.specs.Fault.{IsFaultPlace}
+use Rattle.chain_names.specs.declared.refusal.RuleRefusal.{RuleRefusal}
+use Rattle.chain_names.specs.Changes.{Refused}
 use Rattle.machine.specs.Chain.{Chain, tip_hash, height_of, highest}
-use Rattle.machine.specs.Refusal.{Refusal, BadBlock, NotOnTip, HeightLimit, MerkleMismatch, NotBuilt, IsOffTip, HasOtherRoot, MayCarryNames, may_carry_names, Holds, order_of, Refuses, IsValid, TakesMemory}
+use Rattle.machine.specs.Refusal.{Refusal, BadBlock, NotOnTip, HeightLimit, MerkleMismatch, Rule, NotTip, AtBase, IsOffTip, HasOtherRoot, BreaksRule, refused_on, Holds, order_of, Refuses, IsValid, TakesMemory}
 use Rattle.machine.proofs.Refusals.{one_block}
-
-length-plain_header : (h : plain.Header) → plain.FitsHeader h → length (plain.header_text h) ≡ 80
-unfolding plain.header_text
-length-plain_header h fits = simp length-append (omega (arith, fits.previous, fits.root))
-
--- a block's bytes hold the 80 bytes of a header
-pub header_there : (bytes : List ℕ) (b : Block) → IsBlock bytes b → 80 ≤ length bytes
-unfolding block_text header_text
-header_there bytes b is =
-    omega (
-      arith,
-      ap length is.text,
-      length-append (plain.header_text b.header.fields ++ merged_text b.header.merged) (counted_list transaction_text b.transactions),
-      length-append (plain.header_text b.header.fields) (merged_text b.header.merged),
-      length-plain_header b.header.fields is.fits.header.fields,
-    )
 
 -- what is known of a block, as far as it was looked at
 pub record IsOn (chain : Chain) (bytes : List ℕ) (block : Block) : Type 0 where
@@ -44,7 +25,9 @@ before_tip chain bytes b is (BadBlock place) lt h = h.no_block b is
 before_tip chain bytes b is (NotOnTip tip) lt h = absurd (omega arith)
 before_tip chain bytes b is HeightLimit lt h = absurd (omega arith)
 before_tip chain bytes b is (MerkleMismatch computed) lt h = absurd (omega arith)
-before_tip chain bytes b is NotBuilt lt h = absurd (omega arith)
+before_tip chain bytes b is (Rule index refusal) lt h = absurd (omega arith)
+before_tip chain bytes b is (NotTip tip) lt h = h
+before_tip chain bytes b is AtBase lt h = h
 
 pub off_tip_refused : (chain : Chain) (bytes tip : List ℕ) (b : Block) → IsBlock bytes b → tip ≡ tip_hash chain → b.header.fields.previous ≢ tip → Refuses chain bytes (NotOnTip tip)
 off_tip_refused chain bytes tip b is same off = record {
@@ -57,7 +40,9 @@ before_height chain bytes b is on (BadBlock place) lt h = h.no_block b is
 before_height chain bytes b is on (NotOnTip tip) lt h = not_off chain bytes b is on h.0
 before_height chain bytes b is on HeightLimit lt h = absurd (omega arith)
 before_height chain bytes b is on (MerkleMismatch computed) lt h = absurd (omega arith)
-before_height chain bytes b is on NotBuilt lt h = absurd (omega arith)
+before_height chain bytes b is on (Rule index refusal) lt h = absurd (omega arith)
+before_height chain bytes b is on (NotTip tip) lt h = h
+before_height chain bytes b is on AtBase lt h = h
 
 pub too_high : (chain : Chain) (bytes : List ℕ) (b : Block) → IsBlock bytes b → b.header.fields.previous ≡ tip_hash chain → highest ≤ height_of chain → Refuses chain bytes HeightLimit
 too_high chain bytes b is on high = record { holds = high; first = before_height chain bytes b is on }
@@ -67,7 +52,9 @@ before_root chain bytes b on (BadBlock place) lt h = h.no_block b on.is_block
 before_root chain bytes b on (NotOnTip tip) lt h = not_off chain bytes b on.is_block on.on_tip h.0
 before_root chain bytes b on HeightLimit lt h = omega (arith, on.low)
 before_root chain bytes b on (MerkleMismatch computed) lt h = absurd (omega arith)
-before_root chain bytes b on NotBuilt lt h = absurd (omega arith)
+before_root chain bytes b on (Rule index refusal) lt h = absurd (omega arith)
+before_root chain bytes b on (NotTip tip) lt h = h
+before_root chain bytes b on AtBase lt h = h
 
 pub memory_taken : (chain : Chain) (bytes : List ℕ) (b : Block) → IsOn chain bytes b → TakesMemory chain bytes
 memory_taken chain bytes b on = record { none = before_root chain bytes b on }
@@ -88,24 +75,32 @@ before_names chain bytes b on same (BadBlock place) lt h = h.no_block b on.is_bl
 before_names chain bytes b on same (NotOnTip tip) lt h = not_off chain bytes b on.is_block on.on_tip h.0
 before_names chain bytes b on same HeightLimit lt h = omega (arith, on.low)
 before_names chain bytes b on same (MerkleMismatch computed) lt h = no_other_root bytes computed b on.is_block same h
-before_names chain bytes b on same NotBuilt lt h = absurd (omega arith)
+before_names chain bytes b on same (Rule index refusal) lt h = absurd (omega arith)
+before_names chain bytes b on same (NotTip tip) lt h = h
+before_names chain bytes b on same AtBase lt h = h
 
-pub names_refused : (chain : Chain) (bytes : List ℕ) (b : Block) → IsOn chain bytes b → b.header.fields.root ≡ block_root b → IsTrue (may_carry_names b.transactions) → Refuses chain bytes NotBuilt
-names_refused chain bytes b on same names = record { holds = record { block = b; is_block = on.is_block; names = names }; first = before_names chain bytes b on same }
+pub rule_broken : (chain : Chain) (bytes : List ℕ) (b : Block) (index : ℕ) (refusal : RuleRefusal) → IsOn chain bytes b → b.header.fields.root ≡ block_root b → refused_on chain b ≡ Some (index, refusal)
+    → Refuses chain bytes (Rule index refusal)
+rule_broken chain bytes b index refusal on same broken = record {
+  holds = record { block = b; is_block = on.is_block; refused = broken };
+  first = before_names chain bytes b on same;
+}
 
-true_is_not_false : true ≡ false → ⊥
-true_is_not_false e = cc
+some_is_not_none : (r : Refused) → Some r ≡ None → ⊥
+some_is_not_none r e = cc
 
-no_names : (bytes : List ℕ) (b : Block) → IsBlock bytes b → may_carry_names b.transactions ≡ false → MayCarryNames bytes → ⊥
-no_names bytes b is none h =
-    true_is_not_false (sym h.names ∙ ap (λ (x : Block). may_carry_names x.transactions) (one_block bytes h.block b h.is_block is) ∙ none)
+none_broken : (chain : Chain) (bytes : List ℕ) (b : Block) (index : ℕ) (refusal : RuleRefusal) → IsBlock bytes b → refused_on chain b ≡ None → BreaksRule chain bytes index refusal → ⊥
+none_broken chain bytes b index refusal is none h =
+    some_is_not_none (index, refusal) (sym h.refused ∙ ap (refused_on chain) (one_block bytes h.block b h.is_block is) ∙ none)
 
-none_at_all : (chain : Chain) (bytes : List ℕ) (b : Block) → IsOn chain bytes b → b.header.fields.root ≡ block_root b → may_carry_names b.transactions ≡ false → (r : Refusal) → Holds chain bytes r → ⊥
+none_at_all : (chain : Chain) (bytes : List ℕ) (b : Block) → IsOn chain bytes b → b.header.fields.root ≡ block_root b → refused_on chain b ≡ None → (r : Refusal) → Holds chain bytes r → ⊥
 none_at_all chain bytes b on same none (BadBlock place) h = h.no_block b on.is_block
 none_at_all chain bytes b on same none (NotOnTip tip) h = not_off chain bytes b on.is_block on.on_tip h.0
 none_at_all chain bytes b on same none HeightLimit h = omega (arith, on.low)
 none_at_all chain bytes b on same none (MerkleMismatch computed) h = no_other_root bytes computed b on.is_block same h
-none_at_all chain bytes b on same none NotBuilt h = no_names bytes b on.is_block none h
+none_at_all chain bytes b on same none (Rule index refusal) h = none_broken chain bytes b index refusal on.is_block none h
+none_at_all chain bytes b on same none (NotTip tip) h = h
+none_at_all chain bytes b on same none AtBase h = h
 
-pub is_valid : (chain : Chain) (bytes : List ℕ) (b : Block) → IsOn chain bytes b → b.header.fields.root ≡ block_root b → may_carry_names b.transactions ≡ false → IsValid chain bytes
+pub is_valid : (chain : Chain) (bytes : List ℕ) (b : Block) → IsOn chain bytes b → b.header.fields.root ≡ block_root b → refused_on chain b ≡ None → IsValid chain bytes
 is_valid chain bytes b on same none = record { none = none_at_all chain bytes b on same none }

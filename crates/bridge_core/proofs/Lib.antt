@@ -1,6 +1,9 @@
-pub mod Tips
+pub mod Standing
 pub mod Judging
 pub mod Turning
+pub mod Parting
+pub mod JudgingBack
+pub mod TurningBack
 pub mod Buffers
 pub mod Delivering
 pub mod Fillings

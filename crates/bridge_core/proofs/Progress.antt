@@ -10,7 +10,7 @@ use Rattle.machine.specs.Reply.{Reply, reply_text}
 use Rattle.machine.specs.Frames.{frame, Splits, IsBadFrame, IsPartialFrame, nothing}
 use Rattle.machine.proofs.Splitting.{partial_is_shorter, splits_push}
 use Rattle.machine.proofs.Runs.{run_push}
-use Rattle.bridge_core.specs.Accepted.{Accepted}
+use Rattle.chain_state.specs.Chain.{Indexed}
 use Rattle.bridge_core.specs.Bridge.{Turns}
 use Rattle.bridge_core.specs.Front.{BeginsWith}
 use Rattle.bridge_core.specs.Delivery.{TookAll, TookPart}
@@ -21,7 +21,7 @@ use Rattle.bridge_core.specs.declared.answering.Halt.TheVariants.{Partial, Bad, 
 use Rattle.bridge_core.proofs.Delivering.{since}
 
 -- no frame was answered
-pub stays : {K : Type 0} (taken : K → Option (List ℕ)) (faults : K → Faults) (old : K) (before : List ℕ) (from : Accepted) → Continues taken faults old old before before from from
+pub stays : {K : Type 0} (taken : K → Option (List ℕ)) (faults : K → Faults) (old : K) (before : List ℕ) (from : Indexed) → Continues taken faults old old before before from from
 stays taken faults old before from = record {
   later = NeverFell_refl (faults old);
   advances = none refl;
@@ -43,7 +43,7 @@ behind_one before after event front dropped = record {
       omega (arith, short, ap length same, ap length e, ap length front.whole, length-append partial piece, length-append (frame event) front.rest);
 }
 
-grown_split : (read before after written : List ℕ) (from : Accepted) (event : Event) (front : BeginsWith before event) → after ≡ drop (length (frame event)) before
+grown_split : (read before after written : List ℕ) (from : Indexed) (event : Event) (front : BeginsWith before event) → after ≡ drop (length (frame event)) before
     → (s : SoFar read before written from) → Splits read (s.events ++ event ∷ []) after
 grown_split read before after written from event front dropped s =
     let same = rest_is before after event front.rest front.whole dropped in
@@ -51,7 +51,7 @@ grown_split read before after written from event front dropped s =
     subst (λ (q : List ℕ). Splits read (s.events ++ event ∷ []) q) (sym same) (splits_push read s.events event front.rest front.framed split)
 
 -- a frame was answered and its reply given to the sink
-pub answered_one : {K : Type 0} (taken : K → Option (List ℕ)) (faults : K → Faults) (old new : K) (before after : List ℕ) (from to : Accepted) (event : Event) (reply : Reply)
+pub answered_one : {K : Type 0} (taken : K → Option (List ℕ)) (faults : K → Faults) (old new : K) (before after : List ℕ) (from to : Indexed) (event : Event) (reply : Reply)
     → BeginsWith before event → after ≡ drop (length (frame event)) before → Turns from event reply to → TookAll taken faults old new (reply_text reply)
     → AnswersOne taken faults old new before after from to
 answered_one taken faults old new before after from to event reply front dropped turns took = record {
@@ -78,7 +78,7 @@ answered_one taken faults old new before after from to event reply front dropped
 }
 
 -- a frame was answered, and the sink didn't take its whole reply
-pub broke : {K : Type 0} (taken : K → Option (List ℕ)) (faults : K → Faults) (failed stalled : K → Type 0) (old new : K) (before after : List ℕ) (from to : Accepted) (event : Event) (reply : Reply)
+pub broke : {K : Type 0} (taken : K → Option (List ℕ)) (faults : K → Faults) (failed stalled : K → Type 0) (old new : K) (before after : List ℕ) (from to : Indexed) (event : Event) (reply : Reply)
     → BeginsWith before event → after ≡ drop (length (frame event)) before → Turns from event reply to → TookPart taken faults failed stalled old new (reply_text reply)
     → Breaks taken faults failed stalled old new before after from
 broke taken faults failed stalled old new before after from to event reply front dropped turns took = record {
@@ -124,7 +124,7 @@ advances_then : (a b c : List ℕ) → Advances a b → Advances b c → Advance
 advances_then a b c first (none same) = subst (λ (q : List ℕ). Advances a q) (sym same) first
 advances_then a b c first (some second) = some (advances_then_behind a b c first second)
 
-grows_then : {K : Type 0} (taken : K → Option (List ℕ)) (old mid new : K) (read b c written : List ℕ) (to end : Accepted) → (g : Grows taken old mid read b written to)
+grows_then : {K : Type 0} (taken : K → Option (List ℕ)) (old mid new : K) (read b c written : List ℕ) (to end : Indexed) → (g : Grows taken old mid read b written to)
     → Grows taken mid new read c (written ++ g.more) end → Grows taken old new read c written end
 grows_then taken old mid new read b c written to end g h = record {
   more = g.more ++ h.more;
@@ -132,7 +132,7 @@ grows_then taken old mid new read b c written to end g h = record {
   so_far = subst (λ (w : List ℕ). SoFar read c w end) (append_assoc written g.more h.more) h.so_far;
 }
 
-stops_then : {K : Type 0} (taken : K → Option (List ℕ)) (old mid new : K) (read b c written : List ℕ) (to : Accepted) → (g : Grows taken old mid read b written to)
+stops_then : {K : Type 0} (taken : K → Option (List ℕ)) (old mid new : K) (read b c written : List ℕ) (to : Indexed) → (g : Grows taken old mid read b written to)
     → Stops taken mid new read c (written ++ g.more) → Stops taken old new read c written
 stops_then taken old mid new read b c written to g h = record {
   more = g.more ++ h.more;
@@ -140,7 +140,7 @@ stops_then taken old mid new read b c written to g h = record {
   interrupted = subst (λ (w : List ℕ). Interrupted read w c) (append_assoc written g.more h.more) h.interrupted;
 }
 
-pub one_more : {K : Type 0} (taken : K → Option (List ℕ)) (faults : K → Faults) (old mid new : K) (a b c : List ℕ) (from to end : Accepted)
+pub one_more : {K : Type 0} (taken : K → Option (List ℕ)) (faults : K → Faults) (old mid new : K) (a b c : List ℕ) (from to end : Indexed)
     → Continues taken faults old mid a b from to → AnswersOne taken faults mid new b c to end → Continues taken faults old new a c from end
 one_more taken faults old mid new a b c from to end first second = record {
   later = NeverFell_trans (faults old) (faults mid) (faults new) first.later second.continues.later;
@@ -151,7 +151,7 @@ one_more taken faults old mid new a b c from to end first second = record {
 }
 
 -- no frame is answered any more
-pub halts : (P : List ℕ → Type 0) {K : Type 0} (taken : K → Option (List ℕ)) (faults : K → Faults) (old mid new : K) (a b c : List ℕ) (from to end : Accepted)
+pub halts : (P : List ℕ → Type 0) {K : Type 0} (taken : K → Option (List ℕ)) (faults : K → Faults) (old mid new : K) (a b c : List ℕ) (from to end : Indexed)
     → Continues taken faults old mid a b from to → HaltsAt P taken faults mid new b c to end → HaltsAt P taken faults old new a c from end
 halts P taken faults old mid new a b c from to end first second = record {
   continues = record {
@@ -164,7 +164,7 @@ halts P taken faults old mid new a b c from to end first second = record {
   left = second.left;
 }
 
-pub breaks_then : {K : Type 0} (taken : K → Option (List ℕ)) (faults : K → Faults) (failed stalled : K → Type 0) (old mid new : K) (a b c : List ℕ) (from to : Accepted)
+pub breaks_then : {K : Type 0} (taken : K → Option (List ℕ)) (faults : K → Faults) (failed stalled : K → Type 0) (old mid new : K) (a b c : List ℕ) (from to : Indexed)
     → Continues taken faults old mid a b from to → Breaks taken faults failed stalled mid new b c to → Breaks taken faults failed stalled old new a c from
 breaks_then taken faults failed stalled old mid new a b c from to first second = record {
   later = NeverFell_trans (faults old) (faults mid) (faults new) first.later second.later;
@@ -175,7 +175,7 @@ breaks_then taken faults failed stalled old mid new a b c from to first second =
       stops_then taken old mid new read b c written to g (second.stops read (written ++ g.more) g.so_far);
 }
 
-pub finishes : {K : Type 0} (taken : K → Option (List ℕ)) (faults : K → Faults) (failed stalled : K → Type 0) (old mid new : K) (a b c : List ℕ) (from to end : Accepted) (halt : Halt)
+pub finishes : {K : Type 0} (taken : K → Option (List ℕ)) (faults : K → Faults) (failed stalled : K → Type 0) (old mid new : K) (a b c : List ℕ) (from to end : Indexed) (halt : Halt)
     → Continues taken faults old mid a b from to → AnswersAll taken faults failed stalled mid new b c to end halt → AnswersAll taken faults failed stalled old new a c from end halt
 finishes taken faults failed stalled old mid new a b c from to end Partial first second = halts IsPartialFrame taken faults old mid new a b c from to end first second
 finishes taken faults failed stalled old mid new a b c from to end Bad first second = halts IsBadFrame taken faults old mid new a b c from to end first second

@@ -1,4 +1,3 @@
-pub mod Accepted
 pub mod Views
 pub mod Bridge
 pub mod Front

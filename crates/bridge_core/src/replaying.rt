@@ -1,4 +1,4 @@
-ghost use Rattle.std.specs.Prelude.{◌≡◌, ◌≤◌, ◌^◌, [], IfOk};
+ghost use Rattle.std.specs.Prelude.{◌≡◌, ◌<◌, ◌≤◌, ◌^◌, [], IfOk};
 ghost use Rattle.machine.specs.Chain.{on_base, regtest_base};
 ghost use Rattle.byte_io.specs.Faults.{NeverFell, Rose};
 ghost use Rattle.bridge_core.specs.Bridge.{StandsFor};
@@ -12,10 +12,12 @@ use crate::frame_buffer::{FrameBuffer, PIECE};
 use crate::reply::ReplyBuf;
 use crate::status::Status;
 use byte_io::{Sink, Source};
-use nmc_base::NoMemory;
+use nmc_base::{NoMemory, Steps};
 use std::alloc::Global;
+use std::marker::Brand;
+use std::sync::ledger::{Blank, Ledger};
 
-/// All that a replay keeps: its memory is taken at once, but for the hashes of accepted blocks.
+/// All that a replay keeps: its memory is taken at once, but for what the index holds.
 #[derive(Drop)]
 struct Follower {
     bridge: Bridge,
@@ -34,12 +36,13 @@ fn start(alloc: Global) -> Result<Follower, NoMemory>
 }
 
 /// Reads frames and answers each before the next piece is read, up to the end, a fault or the limit.
-fn follow<S: Source, K: Sink>(
+fn follow<S: Source, K: Sink, L: Ledger>(
     alloc: Global,
     follower: Follower,
     source: &mut S,
     sink: &mut K,
     limit: u64,
+    steps: &mut Steps<L>,
 ) -> Status
     requires limit { limit ≤ 2 ^ 40 }
     requires base { StandsFor follower.bridge (on_base regtest_base) }
@@ -56,7 +59,7 @@ fn follow<S: Source, K: Sink>(
     } = follower;
     let mut read: u64 = 0;
     'pieces: loop {
-        let (next, halt) = answer_all(alloc, bridge, &mut frames, &mut reply, sink);
+        let (next, halt) = answer_all(alloc, bridge, &mut frames, &mut reply, sink, steps);
         bridge = next;
         let pending = frames.pending().len() as u64;
         match halt {
@@ -89,16 +92,26 @@ fn follow<S: Source, K: Sink>(
     }
 }
 
-/// A replay whose contract is its transcript alone.
-fn followed<S: Source, K: Sink>(alloc: Global, source: &mut S, sink: &mut K, limit: u64) -> Status
-    requires { limit ≤ 2 ^ 40 }
+/// A replay whose contract is its transcript alone. Its steps are counted in the ledger of the blank.
+fn followed<S: Source, K: Sink, L: Ledger>(
+    alloc: Global,
+    source: &mut S,
+    sink: &mut K,
+    limit: u64,
+    blank: Blank,
+) -> Status
+    requires limit { limit ≤ 2 ^ 40 }
+    requires name { blank.name ≡ L.name }
+    requires parts { blank.parts ≡ L.parts }
+    requires some { 0 < blank.parts }
     ensures transcript { Transcript (S.left source.old) (S.left source.new) (K.taken sink.old) (K.taken sink.new) limit
         (SourceCause S.faults S.failed source.old source.new) (SinkCause K.faults K.failed K.stalled sink.old sink.new) result }
     ensures source_later { NeverFell (S.faults source.old) (S.faults source.new) }
     ensures sink_later { NeverFell (K.faults sink.old) (K.faults sink.new) }
 {
+    let mut steps = Steps::<L>::new(blank);
     match start(alloc) {
-        Ok(follower) => follow(alloc, follower, source, sink, limit),
+        Ok(follower) => follow(alloc, follower, source, sink, limit, &mut steps),
         Err(NoMemory) => Status::NoMemory,
     }
 }
@@ -119,5 +132,5 @@ pub fn replay<S: Source, K: Sink>(alloc: Global, source: &mut S, sink: &mut K, l
     ensures source_later { NeverFell (S.faults source.old) (S.faults source.new) }
     ensures sink_later { NeverFell (K.faults sink.old) (K.faults sink.new) }
 {
-    followed(alloc, source, sink, limit)
+    followed::<S, K, Brand>(alloc, source, sink, limit, Blank::new(1))
 }

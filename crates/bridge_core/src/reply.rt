@@ -3,7 +3,7 @@ ghost use Rattle.machine.specs.Reply.{Reply, reply_text, refusal_reply, no_memor
 ghost use Rattle.std.specs.Int.{w32, to_le_bytes};
 ghost use Rattle.bridge_core.specs.Views.{refusal_of};
 
-use crate::refusal::Refusal;
+use chain_state::Refusal;
 use nmc_base::{NoMemory, Tip};
 use std::alloc::Global;
 use std::marker::Model;
@@ -107,7 +107,9 @@ impl ReplyBuf {
             Refusal::NotOnTip { tip } => self.set(2, &tip.0, &[]),
             Refusal::HeightLimit => self.set(4, &[], &[]),
             Refusal::MerkleMismatch { computed } => self.set(3, &computed.0, &[]),
-            Refusal::NotBuilt => self.set(9, &[], &[]),
+            Refusal::NotTip { tip } => self.set(6, &tip.0, &[]),
+            Refusal::AtBase => self.set(7, &[], &[]),
+            Refusal::Rule { tx, refusal } => self.set(refusal.number(), &tx.to_le_bytes(), &[]),
         }
     }
 

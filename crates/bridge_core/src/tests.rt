@@ -1,6 +1,7 @@
-ghost use Rattle.std.specs.Prelude.{◌≤◌, ◌^◌};
+ghost use Rattle.std.specs.Prelude.{◌≡◌, ◌<◌, ◌≤◌, ◌^◌};
 
 mod calls;
+mod disconnects;
 mod faults;
 mod first_block;
 mod made_blocks;
@@ -10,10 +11,12 @@ use crate::{Bridge, Event, ReplyBuf, Status, replay};
 use block_reader::{merkle_root, read_block};
 use byte_io::{MemorySink, SteadySource};
 use first_block::{FIRST_BLOCK, FIRST_HASH};
-use made_blocks::{MERGED, NAME_FIRST, NAME_THEN_OTHER_ROOT, NONE_THEN_BAD_TRANSACTION};
-use nmc_base::Hash32;
+use made_blocks::{MERGED, NAME_THEN_OTHER_ROOT, NONE_THEN_BAD_TRANSACTION, RULES_THEN_TWO};
+use nmc_base::{Hash32, Steps};
 use std::alloc::{AllocError, Global};
+use std::marker::Brand;
 use std::process::Abort;
+use std::sync::ledger::{Blank, Ledger};
 use std::test::Fail;
 
 /// The most bytes that a replay may read.
@@ -183,7 +186,7 @@ fn tells_where_frames_end(rt: HostRuntime) -> Result<(), Fail> {
     let rows: [(&[u8], &[u8], Status, &'static str); 8] = [
         (&[7], &[], Status::BadFrame { offset: 0 }, "bad frame at 0"),
         (
-            &[2, 32, 0, 0, 0],
+            &[3, 32, 0, 0, 0],
             &[],
             Status::BadFrame { offset: 0 },
             "bad frame at 0",
@@ -273,8 +276,8 @@ fn answers_as_another_program_did(rt: HostRuntime) -> Result<(), Fail> {
     let alloc = rt.alloc();
     for made in [
         NONE_THEN_BAD_TRANSACTION,
+        RULES_THEN_TWO,
         NAME_THEN_OTHER_ROOT,
-        NAME_FIRST,
         MERGED,
     ] {
         let input = decoded(alloc, made.frames)?;
@@ -285,7 +288,7 @@ fn answers_as_another_program_did(rt: HostRuntime) -> Result<(), Fail> {
 }
 
 /// The Merkle root of the block that the bytes are.
-fn root_of<R: Abort>(rt: &R, alloc: Global, bytes: &[u8]) -> Result<Hash32, Fail> {
+fn root_of(rt: &impl Abort, alloc: Global, bytes: &[u8]) -> Result<Hash32, Fail> {
     assert!(rt; bytes.len() <= 1000);
     match read_block(bytes) {
         Ok(block) => Ok(merkle_root(alloc, &block)?),
@@ -294,7 +297,7 @@ fn root_of<R: Abort>(rt: &R, alloc: Global, bytes: &[u8]) -> Result<Hash32, Fail
 }
 
 /// The first block with a second transaction, which differs from the first in its version alone.
-fn with_second<R: Abort>(rt: &R, alloc: Global, version: &[u8; 4]) -> Result<Vec<u8>, Fail> {
+fn with_second(rt: &impl Abort, alloc: Global, version: &[u8; 4]) -> Result<Vec<u8>, Fail> {
     let coinbase = &FIRST_BLOCK[81..];
     let rest = &FIRST_BLOCK[85..];
     let other_root = joined(alloc, &[&FIRST_BLOCK[..80], &[2], coinbase, version, rest])?;
@@ -308,29 +311,43 @@ fn with_second<R: Abort>(rt: &R, alloc: Global, version: &[u8; 4]) -> Result<Vec
 }
 
 /// The code that answers a block on the beginning of the chain.
-fn code_of<R: Abort>(rt: &R, alloc: Global, block: &[u8]) -> Result<u8, Fail> {
+fn code_of<L: Ledger>(
+    rt: &impl Abort,
+    alloc: Global,
+    block: &[u8],
+    steps: &mut Steps<L>,
+) -> Result<u8, Fail> {
     assert!(rt; block.len() <= 1000);
     let bridge = Bridge::at_base(alloc)?;
     let mut reply = ReplyBuf::new(alloc)?;
-    let _bridge = bridge.turn(alloc, Event::Connect(block), &mut reply);
+    let _bridge = bridge.turn(alloc, Event::Connect(block), &mut reply, steps);
     Ok(reply.code())
 }
 
-#[test]
-fn tells_a_name_by_its_version_alone(rt: HostRuntime) -> Result<(), Fail> {
-    let alloc = rt.alloc();
+/// A second transaction without a name output is refused where its version is 0x7100, and at no other version.
+fn codes_by_version<L: Ledger>(rt: &impl Abort, alloc: Global, blank: Blank) -> Result<(), Fail>
+    requires name { blank.name ≡ L.name }
+    requires parts { blank.parts ≡ L.parts }
+    requires some { 0 < blank.parts }
+{
+    let mut steps = Steps::<L>::new(blank);
     let rows: [([u8; 4], u8); 4] = [
-        ([0, 0x71, 0, 0], 9),
+        ([0, 0x71, 0, 0], 14),
         ([0, 0x71, 1, 0], 0),
         ([1, 0x71, 0, 0], 0),
         ([0, 0, 0x71, 0], 0),
     ];
     for (version, wanted) in rows {
-        let block = with_second(&rt, alloc, &version)?;
-        let code = code_of(&rt, alloc, &block)?;
+        let block = with_second(rt, alloc, &version)?;
+        let code = code_of(rt, alloc, &block, &mut steps)?;
         assert_eq!(rt; code, wanted, "version {version:?}");
     }
     Ok(())
+}
+
+#[test]
+fn tells_a_name_by_its_version_alone(rt: HostRuntime) -> Result<(), Fail> {
+    codes_by_version::<Brand>(&rt, rt.alloc(), Blank::new(1))
 }
 
 #[test]

@@ -1,57 +1,70 @@
 -- Bytes are whole frames and a rest in one way.
-use Rattle.std.proofs.Common.{◌≡◌, ℕ, ◌+◌, ◌<◌, ◌≤◌, ◌^◌, List, [], ◌∷◌, ◌++◌, length, refl, sym, ap, subst, ◌∙◌, append_assoc, length-append, arith}
+use Rattle.std.proofs.Common.{◌≡◌, ℕ, ◌+◌, ◌<◌, ◌^◌, List, [], ◌∷◌, ◌++◌, length, refl, sym, ap, subst, ◌∙◌, append_assoc, length-append, arith, inl, inr}
 use Rattle.std.specs.List.{AllByRecursion}
 use Rattle.std.specs.Int.{w32, to_le_bytes, from_le_bytes}
 use Rattle.std.proofs.lemmas.Nat.{from_le_bytes-to_le_bytes_4}
 use Rattle.std.proofs.lemmas.List.{flat_map_more, append-nil}
-use Rattle.machine.specs.Chain.{longest_block}
-use Rattle.machine.specs.Event.{Event, Connect}
-use Rattle.machine.specs.Frames.{connect_kind, framed, frame, frames, IsFramed, IsBadFrame, unknown_kind, wrong_length, IsPartialFrame, nothing, header_cut, payload_cut, Splits, IsRest, bad, partial}
+use Rattle.machine.specs.Event.{Event, Connect, Disconnect}
+use Rattle.machine.specs.Frames.{IsKind, IsLength, framed, kind_of, payload_of, frame, frames, IsFramed, IsBadFrame, unknown_kind, wrong_length, IsPartialFrame, nothing, header_cut, payload_cut, Splits, IsRest, bad, partial}
 use Rattle.machine.proofs.Lists.{same_parts}
 
 same_number : (m n : ℕ) → m < 2 ^ 32 → n < 2 ^ 32 → to_le_bytes w32 m ≡ to_le_bytes w32 n → m ≡ n
 same_number m n fm fn e = sym (from_le_bytes-to_le_bytes_4 m fm) ∙ ap (from_le_bytes w32) e ∙ from_le_bytes-to_le_bytes_4 n fn
 
+-- only the lengths of a kind are allowed
+pub known : (kind n : ℕ) → IsLength kind n → IsKind kind
+known kind n (inl h) = inl h.0
+known kind n (inr h) = inr h.0
+
+-- and these fit the four bytes
+pub short : (kind n : ℕ) → IsLength kind n → n < 2 ^ 32
+short kind n (inl h) = omega (arith, h.1)
+short kind n (inr h) = omega (arith, h.1)
+
 -- a frame's first byte, length and payload stand in the bytes that begin with it
-record Front (kind n : ℕ) (after : List ℕ) (block more : List ℕ) : Type 0 where
-  kind_is : kind ≡ connect_kind
-  length_is : n ≡ length block
-  after_is : after ≡ block ++ more
+record Front (kind n : ℕ) (after : List ℕ) (own : ℕ) (payload more : List ℕ) : Type 0 where
+  kind_is : kind ≡ own
+  length_is : n ≡ length payload
+  after_is : after ≡ payload ++ more
 
-front_of : (kind n : ℕ) (after block more : List ℕ) → n < 2 ^ 32 → length block ≤ longest_block
-    → kind ∷ (to_le_bytes w32 n ++ after) ≡ framed connect_kind block ++ more → Front kind n after block more
-front_of kind n after block more fits short e =
-    let head : kind ≡ connect_kind = cc in
-    let tail : to_le_bytes w32 n ++ after ≡ (to_le_bytes w32 (length block) ++ block) ++ more = cc in
-    let parts = same_parts (to_le_bytes w32 n) after (to_le_bytes w32 (length block)) (block ++ more) refl (tail ∙ append_assoc (to_le_bytes w32 (length block)) block more) in
-    let small : length block < 2 ^ 32 = omega arith in
-    record { kind_is = head; length_is = same_number n (length block) fits small parts.front; after_is = parts.rest }
+front_of : (kind n : ℕ) (after : List ℕ) (own : ℕ) (payload more : List ℕ) → n < 2 ^ 32 → length payload < 2 ^ 32
+    → kind ∷ (to_le_bytes w32 n ++ after) ≡ framed own payload ++ more → Front kind n after own payload more
+front_of kind n after own payload more fits small e =
+    let head : kind ≡ own = cc in
+    let tail : to_le_bytes w32 n ++ after ≡ (to_le_bytes w32 (length payload) ++ payload) ++ more = cc in
+    let parts = same_parts (to_le_bytes w32 n) after (to_le_bytes w32 (length payload)) (payload ++ more) refl (tail ∙ append_assoc (to_le_bytes w32 (length payload)) payload more) in
+    record { kind_is = head; length_is = same_number n (length payload) fits small parts.front; after_is = parts.rest }
 
-length-frame : (block : List ℕ) → length (framed connect_kind block) ≡ 5 + length block
-length-frame block = omega (arith, length-append (to_le_bytes w32 (length block)) block)
+length-framed : (kind : ℕ) (payload : List ℕ) → length (framed kind payload) ≡ 5 + length payload
+length-framed kind payload = omega (arith, length-append (to_le_bytes w32 (length payload)) payload)
 
 -- what is bad begins no frame, however it goes on
+begins_none : (p x : List ℕ) (own : ℕ) (payload more : List ℕ) → IsBadFrame p → IsLength own (length payload) → p ++ x ≡ framed own payload ++ more → ⊥
+begins_none p x own payload more (unknown_kind kind rest p-is odd) fits e =
+    let e' : kind ∷ (rest ++ x) ≡ framed own payload ++ more = subst (λ (q : List ℕ). q ++ x ≡ framed own payload ++ more) p-is e in
+    let head : own ≡ kind = cc in
+    odd (subst IsKind head (known own (length payload) fits))
+begins_none p x own payload more (wrong_length kind n rest p-is fits-n is-kind odd) fits e =
+    let e' : kind ∷ ((to_le_bytes w32 n ++ rest) ++ x) ≡ framed own payload ++ more = subst (λ (q : List ℕ). q ++ x ≡ framed own payload ++ more) p-is e in
+    let e'' : kind ∷ (to_le_bytes w32 n ++ (rest ++ x)) ≡ framed own payload ++ more = ap (λ (q : List ℕ). kind ∷ q) (sym (append_assoc (to_le_bytes w32 n) rest x)) ∙ e' in
+    let f = front_of kind n (rest ++ x) own payload more fits-n (short own (length payload) fits) e'' in
+    odd (subst (λ (k : ℕ). IsLength k n) (sym f.kind_is) (subst (IsLength own) (sym f.length_is) fits))
+
 pub bad_begins_none : (p x : List ℕ) (event : Event) (more : List ℕ) → IsBadFrame p → IsFramed event → p ++ x ≡ frame event ++ more → ⊥
-bad_begins_none p x (Connect block) more (unknown_kind kind rest p-is odd) fits e =
-    let e' : kind ∷ (rest ++ x) ≡ framed connect_kind block ++ more = subst (λ (q : List ℕ). q ++ x ≡ framed connect_kind block ++ more) p-is e in
-    let head : kind ≡ connect_kind = cc in
-    odd head
-bad_begins_none p x (Connect block) more (wrong_length kind n rest p-is fits-n known odd) fits e =
-    let e' : kind ∷ ((to_le_bytes w32 n ++ rest) ++ x) ≡ framed connect_kind block ++ more = subst (λ (q : List ℕ). q ++ x ≡ framed connect_kind block ++ more) p-is e in
-    let e'' : kind ∷ (to_le_bytes w32 n ++ (rest ++ x)) ≡ framed connect_kind block ++ more = ap (λ (q : List ℕ). kind ∷ q) (sym (append_assoc (to_le_bytes w32 n) rest x)) ∙ e' in
-    let f = front_of kind n (rest ++ x) block more fits-n fits e'' in
-    let long : n ≤ longest_block = subst (λ (k : ℕ). k ≤ longest_block) (sym f.length_is) fits in
-    odd long
+bad_begins_none p x event more h fits e = begins_none p x (kind_of event) (payload_of event) more h fits e
 
 -- what is partial is shorter than the frame that it begins
+shorter : (p x : List ℕ) (own : ℕ) (payload more : List ℕ) → IsPartialFrame p → IsLength own (length payload) → p ++ x ≡ framed own payload ++ more → length p < length (framed own payload)
+shorter p x own payload more (nothing p-is) fits e = omega (arith, ap length p-is, length-framed own payload)
+shorter p x own payload more (header_cut kind rest p-is is-kind cut) fits e = omega (arith, ap length p-is, length-framed own payload)
+shorter p x own payload more (payload_cut kind n part p-is is-kind allowed cut) fits e =
+    let e' : kind ∷ ((to_le_bytes w32 n ++ part) ++ x) ≡ framed own payload ++ more = subst (λ (q : List ℕ). q ++ x ≡ framed own payload ++ more) p-is e in
+    let e'' : kind ∷ (to_le_bytes w32 n ++ (part ++ x)) ≡ framed own payload ++ more = ap (λ (q : List ℕ). kind ∷ q) (sym (append_assoc (to_le_bytes w32 n) part x)) ∙ e' in
+    let f = front_of kind n (part ++ x) own payload more (short kind n allowed) (short own (length payload) fits) e'' in
+    omega (arith, ap length p-is, length-framed own payload, length-append (to_le_bytes w32 n) part, f.length_is)
+
 pub partial_is_shorter : (p x : List ℕ) (event : Event) (more : List ℕ) → IsPartialFrame p → IsFramed event → p ++ x ≡ frame event ++ more → length p < length (frame event)
-partial_is_shorter p x (Connect block) more (nothing p-is) fits e = omega (arith, ap length p-is, length-frame block)
-partial_is_shorter p x (Connect block) more (header_cut kind rest p-is known short) fits e = omega (arith, ap length p-is, length-frame block)
-partial_is_shorter p x (Connect block) more (payload_cut kind n payload p-is known allowed short) fits e =
-    let e' : kind ∷ ((to_le_bytes w32 n ++ payload) ++ x) ≡ framed connect_kind block ++ more = subst (λ (q : List ℕ). q ++ x ≡ framed connect_kind block ++ more) p-is e in
-    let e'' : kind ∷ (to_le_bytes w32 n ++ (payload ++ x)) ≡ framed connect_kind block ++ more = ap (λ (q : List ℕ). kind ∷ q) (sym (append_assoc (to_le_bytes w32 n) payload x)) ∙ e' in
-    let f = front_of kind n (payload ++ x) block more (omega arith) fits e'' in
-    omega (arith, ap length p-is, length-frame block, length-append (to_le_bytes w32 n) payload, f.length_is)
+partial_is_shorter p x event more h fits e = shorter p x (kind_of event) (payload_of event) more h fits e
 
 pub rest_begins_none : (p : List ℕ) (event : Event) (more : List ℕ) → IsRest p → IsFramed event → p ≡ frame event ++ more → ⊥
 rest_begins_none p event more (bad b) fits e = bad_begins_none p [] event more b fits (append-nil p ∙ e)
@@ -63,12 +76,21 @@ record SameFrames (a : Event) (x : List ℕ) (b : Event) (y : List ℕ) : Type 0
   event : a ≡ b
   rest : x ≡ y
 
+-- an event is its kind and its payload
+same_event : (a b : Event) → kind_of a ≡ kind_of b → payload_of a ≡ payload_of b → a ≡ b
+same_event (Connect a) (Connect b) kinds payloads = ap Connect payloads
+same_event (Disconnect a) (Disconnect b) kinds payloads = ap Disconnect payloads
+same_event (Connect a) (Disconnect b) kinds payloads = absurd (omega arith)
+same_event (Disconnect a) (Connect b) kinds payloads = absurd (omega arith)
+
 same_frames : (a : Event) (x : List ℕ) (b : Event) (y : List ℕ) → IsFramed a → IsFramed b → frame a ++ x ≡ frame b ++ y → SameFrames a x b y
-same_frames (Connect a) x (Connect b) y fits-a fits-b e =
-    let e' : connect_kind ∷ (to_le_bytes w32 (length a) ++ (a ++ x)) ≡ framed connect_kind b ++ y = ap (λ (q : List ℕ). connect_kind ∷ q) (sym (append_assoc (to_le_bytes w32 (length a)) a x)) ∙ e in
-    let f = front_of connect_kind (length a) (a ++ x) b y (omega arith) fits-b e' in
-    let parts = same_parts a x b y f.length_is f.after_is in
-    record { event = ap Connect parts.front; rest = parts.rest }
+same_frames a x b y fits-a fits-b e =
+    let p = payload_of a in
+    let q = payload_of b in
+    let e' : kind_of a ∷ (to_le_bytes w32 (length p) ++ (p ++ x)) ≡ framed (kind_of b) q ++ y = ap (λ (l : List ℕ). kind_of a ∷ l) (sym (append_assoc (to_le_bytes w32 (length p)) p x)) ∙ e in
+    let f = front_of (kind_of a) (length p) (p ++ x) (kind_of b) q y (short (kind_of a) (length p) fits-a) (short (kind_of b) (length q) fits-b) e' in
+    let parts = same_parts p x q y f.length_is f.after_is in
+    record { event = same_event a b f.kind_is parts.front; rest = parts.rest }
 
 pub record SameSplitting (es : List Event) (r : List ℕ) (fs : List Event) (s : List ℕ) : Type 0 where
   pub events : es ≡ fs

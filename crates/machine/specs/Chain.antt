@@ -1,9 +1,12 @@
 -- The chain of blocks that an index follows.
-use Rattle.std.specs.Prelude.{ℕ, ◌+◌, List, [], ◌∷◌, ◌++◌, length, replicate}
+use Rattle.std.specs.Prelude.{ℕ, ◌+◌, List, [], ◌∷◌, ◌++◌, length, drop, replicate}
 use Rattle.block_grammar.specs.Header.{block_hash}
+use Rattle.nmc_base.specs.declared.chain_ends.Profile.{Profile}
+use Rattle.nmc_base.specs.declared.chain_ends.Profile.TheVariants.{Regtest}
 
--- where the index starts: the height and the hash of the block before the first one that it is given
+-- where the index starts: the network, and the height and the hash of the block before the first one that it is given
 pub record Base : Type 0 where
+  pub profile : Profile
   pub height : ℕ
   pub hash : List ℕ
 
@@ -20,6 +23,10 @@ highest = 2000000000
 abbrev pub longest_block : ℕ
 longest_block = 8388608
 
+-- the hash of a block has so many bytes
+abbrev pub hash_length : ℕ
+hash_length = 32
+
 abbrev pub height_of : Chain → ℕ
 height_of chain = chain.base.height + length chain.blocks
 
@@ -31,11 +38,17 @@ newest_hash base (block ∷ blocks) = block_hash block
 abbrev pub tip_hash : Chain → List ℕ
 tip_hash chain = newest_hash chain.base chain.blocks
 
+abbrev pub chain_of : Base → List (List ℕ) → Chain
+chain_of base blocks = record { base = base; blocks = blocks }
+
 abbrev pub on_base : Base → Chain
-on_base base = record { base = base; blocks = [] }
+on_base base = chain_of base []
 
 abbrev pub with_block : Chain → List ℕ → Chain
-with_block chain block = record { base = chain.base; blocks = block ∷ chain.blocks }
+with_block chain block = chain_of chain.base (block ∷ chain.blocks)
+
+abbrev pub without_newest : Chain → Chain
+without_newest chain = chain_of chain.base (drop 1 chain.blocks)
 
 -- the hashes of the blocks, the oldest first
 abbrev pub hashes_of : List (List ℕ) → List (List ℕ)
@@ -44,4 +57,4 @@ hashes_of (block ∷ blocks) = hashes_of blocks ++ block_hash block ∷ []
 
 -- a regression-test chain from its very beginning: what a replay starts from while there are no files
 abbrev pub regtest_base : Base
-regtest_base = record { height = 0; hash = replicate 32 0 }
+regtest_base = record { profile = Regtest; height = 0; hash = replicate 32 0 }

@@ -1,29 +1,40 @@
 -- Frames: a kind byte, a length of 4 bytes, low byte first, and the payload.
-use Rattle.std.specs.Prelude.{◌≡◌, ℕ, ◌<◌, ◌≤◌, ◌^◌, List, [], ◌∷◌, ◌++◌, length}
+use Rattle.std.specs.Prelude.{◌≡◌, ◌⊎◌, ℕ, ◌<◌, ◌≤◌, ◌^◌, List, [], ◌∷◌, ◌++◌, length}
 use Rattle.std.specs.List.{flat_map, AllByRecursion}
 use Rattle.std.specs.Int.{w32, to_le_bytes}
-use Rattle.machine.specs.Chain.{longest_block}
-use Rattle.machine.specs.Event.{Event, Connect}
+use Rattle.machine.specs.Chain.{longest_block, hash_length}
+use Rattle.machine.specs.Event.{Event, Connect, Disconnect}
 
--- the kinds that are read
 abbrev pub connect_kind : ℕ
 connect_kind = 1
 
-abbrev pub IsKind : ℕ → Type 0
-IsKind kind = kind ≡ connect_kind
+abbrev pub disconnect_kind : ℕ
+disconnect_kind = 2
 
--- the lengths that a kind's payload may have
+-- the kinds that are read
+abbrev pub IsKind : ℕ → Type 0
+IsKind kind = (kind ≡ connect_kind) ⊎ (kind ≡ disconnect_kind)
+
+-- the lengths that a kind's payload may have: a block isn't longer than any may be, and a hash has its length
 abbrev pub IsLength : ℕ → ℕ → Type 0
-IsLength kind n = n ≤ longest_block
+IsLength kind n = ((kind ≡ connect_kind) × (n ≤ longest_block)) ⊎ ((kind ≡ disconnect_kind) × (n ≡ hash_length))
 
 abbrev pub framed : ℕ → List ℕ → List ℕ
 framed kind payload = kind ∷ (to_le_bytes w32 (length payload) ++ payload)
 
+abbrev pub kind_of : Event → ℕ
+kind_of (Connect block) = connect_kind
+kind_of (Disconnect hash) = disconnect_kind
+
+abbrev pub payload_of : Event → List ℕ
+payload_of (Connect block) = block
+payload_of (Disconnect hash) = hash
+
 abbrev pub frame : Event → List ℕ
-frame (Connect block) = framed connect_kind block
+frame event = framed (kind_of event) (payload_of event)
 
 abbrev pub IsFramed : Event → Type 0
-IsFramed (Connect block) = IsLength connect_kind (length block)
+IsFramed event = IsLength (kind_of event) (length (payload_of event))
 
 -- the first byte is no kind, or a kind and a length that it can't have stand there
 pub data IsBadFrame (bytes : List ℕ) : Type 0 where

@@ -2,8 +2,9 @@
 use Rattle.std.specs.Prelude.{ℕ, List, [], ◌∷◌, ◌++◌, length}
 use Rattle.std.specs.List.{flat_map}
 use Rattle.std.specs.Int.{w32, to_le_bytes}
+use Rattle.chain_names.specs.Refusals.{number_of}
 use Rattle.machine.specs.Chain.{Chain, tip_hash, height_of}
-use Rattle.machine.specs.Refusal.{Refusal, BadBlock, NotOnTip, HeightLimit, MerkleMismatch, NotBuilt}
+use Rattle.machine.specs.Refusal.{Refusal, BadBlock, NotOnTip, HeightLimit, MerkleMismatch, Rule, NotTip, AtBase}
 
 pub record Reply : Type 0 where
   pub code : ℕ
@@ -24,7 +25,9 @@ refusal_reply (BadBlock place) = record { code = 1; payload = to_le_bytes w32 pl
 refusal_reply (NotOnTip tip) = record { code = 2; payload = tip }
 refusal_reply HeightLimit = record { code = 4; payload = [] }
 refusal_reply (MerkleMismatch computed) = record { code = 3; payload = computed }
-refusal_reply NotBuilt = record { code = 9; payload = [] }
+refusal_reply (NotTip tip) = record { code = 6; payload = tip }
+refusal_reply AtBase = record { code = 7; payload = [] }
+refusal_reply (Rule index refusal) = record { code = number_of refusal; payload = to_le_bytes w32 index }
 
 -- want of memory
 abbrev pub no_memory_reply : Reply

@@ -1,32 +1,31 @@
 -- One step of the index, and runs of steps.
-use Rattle.std.specs.Prelude.{◌≡◌, ℕ, List, [], ◌∷◌, ◌==◌, if◌then◌else◌}
-use Rattle.machine.specs.Chain.{Chain, with_block}
-use Rattle.machine.specs.Event.{Event, Connect}
-use Rattle.machine.specs.Refusal.{Refusal, Refuses, IsValid, TakesMemory}
+use Rattle.std.specs.Prelude.{◌≡◌, List, [], ◌∷◌, ◌==◌, if◌then◌else◌}
+use Rattle.machine.specs.Chain.{Chain, with_block, without_newest}
+use Rattle.machine.specs.Event.{Event, Connect, Disconnect}
+use Rattle.machine.specs.Refusal.{Refusal, HasRefusal, HasNone, MayLackMemory}
 use Rattle.machine.specs.Reply.{Reply, accepted_reply, refusal_reply, no_memory_reply}
 
--- a valid connect is accepted: its block joins the chain
+-- the chain that a command without a refusal leaves: with the block, or without the newest one
+abbrev pub after_event : Chain → Event → Chain
+after_event chain (Connect block) = with_block chain block
+after_event chain (Disconnect hash) = without_newest chain
+
+-- a command without a refusal is accepted and done, and the new tip is told
 pub record Accepts (old : Chain) (event : Event) (reply : Reply) (new : Chain) : Type 0 where
-  pub block : List ℕ
-  pub event_is : event ≡ Connect block
-  pub valid : IsValid old block
-  pub new_is : new ≡ with_block old block
+  pub valid : HasNone old event
+  pub new_is : new ≡ after_event old event
   pub reply_is : reply ≡ accepted_reply new
 
--- a connect that has a refusal gets it, and the chain stays
+-- a command that has a refusal gets it, and the chain stays
 pub record Declines (old : Chain) (event : Event) (reply : Reply) (new : Chain) : Type 0 where
-  pub block : List ℕ
-  pub event_is : event ≡ Connect block
   pub refusal : Refusal
-  pub refuses : Refuses old block refusal
+  pub refuses : HasRefusal old event refusal
   pub new_is : new ≡ old
   pub reply_is : reply ≡ refusal_reply refusal
 
 -- want of memory, in the place of an acceptance or of a refusal that takes memory to find
 pub record LacksMemory (old : Chain) (event : Event) (reply : Reply) (new : Chain) : Type 0 where
-  pub block : List ℕ
-  pub event_is : event ≡ Connect block
-  pub takes_memory : TakesMemory old block
+  pub takes_memory : MayLackMemory old event
   pub new_is : new ≡ old
   pub reply_is : reply ≡ no_memory_reply
 
@@ -43,10 +42,10 @@ Run old (event ∷ events) (reply ∷ replies) new = (mid : Chain) × Step old e
 Run old [] (reply ∷ replies) new = ⊥
 Run old (event ∷ events) [] new = ⊥
 
--- a connect that is valid joins its block; one that has a refusal changes nothing
+-- a command without a refusal is done; one that has a refusal changes nothing
 pub data Survives (old : Chain) (event : Event) (new : Chain) : Type 0 where
-  joins : (block : List ℕ) → event ≡ Connect block → IsValid old block → new ≡ with_block old block → Survives old event new
-  stays : (block : List ℕ) (refusal : Refusal) → event ≡ Connect block → Refuses old block refusal → new ≡ old → Survives old event new
+  is_done : HasNone old event → new ≡ after_event old event → Survives old event new
+  stays : (refusal : Refusal) → HasRefusal old event refusal → new ≡ old → Survives old event new
 
 -- the chain that these commands leave, of old: the surviving chain
 abbrev pub Surviving : Chain → List Event → Chain → Type 0

@@ -1,10 +1,11 @@
 //! The machine that the program is: chains, events, refusals, replies, steps and runs, and the frames of a stream.
 #![tactic(auto)]
 
-ghost use Rattle.std.specs.Prelude.{◌≡◌, List, ℕ};
+ghost use Rattle.std.specs.Prelude.{◌≡◌, List, ◌∷◌, ℕ};
+ghost use Rattle.block_grammar.specs.Header.{block_hash};
 ghost use Rattle.machine.specs.Chain.{Chain};
-ghost use Rattle.machine.specs.Event.{Event};
-ghost use Rattle.machine.specs.Refusal.{Refusal, Refuses};
+ghost use Rattle.machine.specs.Event.{Event, Connect, Disconnect};
+ghost use Rattle.machine.specs.Refusal.{Refusal, Refuses, RefusesBack, IsValid};
 ghost use Rattle.machine.specs.Reply.{Reply};
 ghost use Rattle.machine.specs.Step.{Run, Surviving, answered};
 ghost use Rattle.machine.specs.Frames.{Splits, IsRest};
@@ -22,8 +23,17 @@ pub fn surviving_chain()
         → Run old events replies new → Surviving old (answered events replies) new }
 {}
 
-/// A connect has one refusal at most on a chain: the order of the conditions decides.
+/// Disconnecting is forgetting: a block that joined and is disconnected at once leaves the chain as though neither
+/// command had come.
+pub fn disconnecting_forgets()
+    ensures { (old new : Chain) (block : List ℕ) (events : List Event) → IsValid old block
+        → Surviving old (Connect block ∷ (Disconnect (block_hash block) ∷ events)) new → Surviving old events new }
+{}
+
+/// A command has one refusal at most on a chain: the order of the conditions decides.
 pub fn one_refusal()
-    ensures { (chain : Chain) (bytes : List ℕ) (refusal other : Refusal)
+    ensures connect { (chain : Chain) (bytes : List ℕ) (refusal other : Refusal)
         → Refuses chain bytes refusal → Refuses chain bytes other → refusal ≡ other }
+    ensures disconnect { (chain : Chain) (hash : List ℕ) (refusal other : Refusal)
+        → RefusesBack chain hash refusal → RefusesBack chain hash other → refusal ≡ other }
 {}

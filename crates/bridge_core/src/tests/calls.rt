@@ -1,12 +1,16 @@
 //! Each public call once, with ample memory.
 
+ghost use Rattle.std.specs.Prelude.{◌≡◌, ◌<◌};
+
 use super::first_block::{FIRST_BLOCK, FIRST_HASH};
 use super::{MOST, accepted, first_frame, joined};
 use crate::{Bridge, Event, ReplyBuf, Status, replay, run};
 use byte_io::{MemorySink, MemorySource, SteadySource};
-use nmc_base::{Bytes, Words};
+use nmc_base::{Bytes, Steps, Words};
 use std::alloc::Global;
+use std::marker::Brand;
 use std::process::Abort;
+use std::sync::ledger::{Blank, Ledger};
 use std::test::Fail;
 
 /// Words of a command line.
@@ -77,20 +81,35 @@ fn each_status_has_its_number_and_its_line(rt: HostRuntime) -> Result<(), Fail> 
     Ok(())
 }
 
-#[test]
-fn ample_memory_never_answers_out_of_memory(rt: HostRuntime) -> Result<(), Fail> {
-    let alloc = rt.alloc();
+/// A block that is accepted, and the same block again.
+fn two_turns<L: Ledger>(rt: &impl Abort, alloc: Global, blank: Blank) -> Result<(), Fail>
+    requires name { blank.name ≡ L.name }
+    requires parts { blank.parts ≡ L.parts }
+    requires some { 0 < blank.parts }
+{
+    let mut steps = Steps::<L>::new(blank);
     let mut reply = ReplyBuf::new(alloc)?;
     assert_eq!(rt; reply.code(), 0);
     assert!(rt; reply.payload().is_empty());
     let bridge = Bridge::at_base(alloc)?;
-    let bridge = bridge.turn(alloc, Event::Connect(&FIRST_BLOCK), &mut reply);
+    let bridge = bridge.turn(alloc, Event::Connect(&FIRST_BLOCK), &mut reply, &mut steps);
     assert_eq!(rt; reply.code(), 0);
     let height_and_hash = joined(alloc, &[&[1, 0, 0, 0], &FIRST_HASH])?;
     assert_eq!(rt; reply.payload(), height_and_hash.as_slice());
-    let _bridge = bridge.turn(alloc, Event::Connect(&FIRST_BLOCK), &mut reply);
+    let _bridge = bridge.turn(alloc, Event::Connect(&FIRST_BLOCK), &mut reply, &mut steps);
     assert_eq!(rt; reply.code(), 2);
     assert_eq!(rt; reply.payload(), FIRST_HASH.as_slice());
+    Ok(())
+}
+
+#[test]
+fn turns_with_ample_memory(rt: HostRuntime) -> Result<(), Fail> {
+    two_turns::<Brand>(&rt, rt.alloc(), Blank::new(1))
+}
+
+#[test]
+fn ample_memory_never_answers_out_of_memory(rt: HostRuntime) -> Result<(), Fail> {
+    let alloc = rt.alloc();
     let input = first_frame(alloc)?;
     let output = accepted(alloc)?;
     let mut source = SteadySource::new(&input);

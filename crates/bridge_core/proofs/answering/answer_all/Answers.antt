@@ -1,5 +1,8 @@
-use Rattle.bridge_core.proofs.Progress.{one_more, finishes, fewer}
+use Rattle.bridge_core.proofs.Progress.{stays, one_more, finishes, fewer}
 use Rattle.bridge_core.proofs.answering.answer_all.Goals as goal
+
+pub loop-halt-init : goal.loop-halt-init
+loop-halt-init g c = stays g.K.Sink.taken g.K.Sink.faults c.args.sink.now c.args.frames.now c.args.bridge
 
 pub returns-in-Some : goal.returns-in-Some
 returns-in-Some g c =
