@@ -1,0 +1,18 @@
+//! The values that a trial says are served.
+
+use chain_state::Chain;
+use std::process::Abort;
+
+/// The chain serves the value for the name, as `name:value`; or none, as `name`.
+pub fn is_served(rt: &impl Abort, chain: &Chain, text: &str) {
+    let (name, value) = match text.split_once(':') {
+        Some((name, value)) => (name, Some(value.as_bytes())),
+        None => (text, None),
+    };
+    let height = chain.tip().height;
+    assert_eq!(rt;
+        chain.live(name.as_bytes()),
+        value,
+        "{text} at the height {height}"
+    );
+}
