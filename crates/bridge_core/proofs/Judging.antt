@@ -4,7 +4,8 @@ use Rattle.full_grammar.specs.Block.{Block, IsBlock, block_root}
 use Rattle.full_grammar.specs.Fault.{IsFaultPlace}
 use Rattle.chain_names.specs.declared.refusal.RuleRefusal.{RuleRefusal}
 use Rattle.chain_names.specs.Changes.{Refused}
-use Rattle.machine.specs.Chain.{Chain, tip_hash, height_of, highest}
+use Rattle.nmc_base.specs.Heights.{highest}
+use Rattle.machine.specs.Chain.{Chain, tip_hash, height_of}
 use Rattle.machine.specs.Refusal.{Refusal, BadBlock, NotOnTip, HeightLimit, MerkleMismatch, Rule, NotTip, AtBase, IsOffTip, HasOtherRoot, BreaksRule, refused_on, Holds, order_of, Refuses, IsValid, TakesMemory}
 use Rattle.machine.proofs.Refusals.{one_block}
 

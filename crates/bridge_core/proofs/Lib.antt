@@ -4,6 +4,7 @@ pub mod Turning
 pub mod Parting
 pub mod JudgingBack
 pub mod TurningBack
+pub mod Costing
 pub mod Buffers
 pub mod Delivering
 pub mod Fillings

@@ -1,5 +1,6 @@
 pub mod Views
 pub mod Bridge
+pub mod Costs
 pub mod Front
 pub mod Causes
 pub mod Delivery

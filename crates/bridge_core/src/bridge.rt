@@ -1,11 +1,14 @@
-ghost use Rattle.std.specs.Prelude.{◌≡◌, ◌≤◌, ◌++◌, length, IfOk};
+ghost use Rattle.std.specs.Prelude.{◌≡◌, ◌+◌, ◌≤◌, ◌++◌, length, IfOk};
 ghost use Rattle.std.specs.Int.{w32, to_le_bytes};
 ghost use Rattle.chain_state.specs.Chain.{IsConnected};
-ghost use Rattle.chain_state.specs.StageBack.{IsDisconnected};
+ghost use Rattle.chain_state.specs.Stage.{commit_steps};
+ghost use Rattle.chain_state.specs.StageBack.{IsDisconnected, back_commit_steps};
 ghost use Rattle.machine.specs.Chain.{on_base, regtest_base, longest_block};
 ghost use Rattle.machine.specs.Event.{Connect, Disconnect};
+ghost use Rattle.machine.specs.Reply.{refusal_reply, no_memory_reply};
 ghost use Rattle.bridge_core.specs.Bridge.{StandsFor, Turns};
-ghost use Rattle.bridge_core.specs.Views.{event_of, IsWithinLimits};
+ghost use Rattle.bridge_core.specs.Costs.{IsCheapTurn};
+ghost use Rattle.bridge_core.specs.Views.{event_of, refusal_of, IsWithinLimits};
 
 use crate::event::Event;
 use crate::reply::ReplyBuf;
@@ -33,6 +36,7 @@ impl Model for Bridge {
 /// Commits a staged block, and tells the new tip.
 fn join<L: Ledger>(staged: StagedChain, reply: &mut ReplyBuf, steps: &mut Steps<L>) -> Chain
     ensures connected { IsConnected staged result }
+    ensures cost { steps.new ≤ steps.old + commit_steps staged }
     ensures told { reply.new ≡ record { code = 0; payload = to_le_bytes w32 result.tip.height ++ result.tip.hash.0 } }
 {
     let chain = staged.commit(steps);
@@ -43,11 +47,30 @@ fn join<L: Ledger>(staged: StagedChain, reply: &mut ReplyBuf, steps: &mut Steps<
 /// Commits a staged disconnect, and tells the new tip.
 fn part<L: Ledger>(staged: StagedBack, reply: &mut ReplyBuf, steps: &mut Steps<L>) -> Chain
     ensures disconnected { IsDisconnected staged result }
+    ensures cost { steps.new ≤ steps.old + back_commit_steps staged.undos }
     ensures told { reply.new ≡ record { code = 0; payload = to_le_bytes w32 result.tip.height ++ result.tip.hash.0 } }
 {
     let below = staged.commit(steps);
     reply.accept(&below.tip());
     below
+}
+
+/// Tells why a command is refused: the chain stays.
+fn decline(chain: Chain, refusal: &Refusal, reply: &mut ReplyBuf) -> Bridge
+    ensures stays { result ≡ chain }
+    ensures told { reply.new ≡ refusal_reply (refusal_of refusal.now) }
+{
+    reply.refuse(refusal);
+    Bridge { chain }
+}
+
+/// Tells that a command lacks memory: the chain stays.
+fn lack(chain: Chain, reply: &mut ReplyBuf) -> Bridge
+    ensures stays { result ≡ chain }
+    ensures told { reply.new ≡ no_memory_reply }
+{
+    reply.lack_memory();
+    Bridge { chain }
 }
 
 impl Bridge {
@@ -73,7 +96,8 @@ impl Bridge {
         steps: &mut Steps<L>,
     ) -> Bridge
         requires { length bytes.now ≤ longest_block }
-        ensures { Turns self (Connect bytes.now) reply.new result }
+        ensures turns { Turns self (Connect bytes.now) reply.new result }
+        ensures cost { IsCheapTurn self (Connect bytes.now) reply.new result steps.old steps.new }
     {
         let block = match read_block(bytes) {
             Ok(block) => block,
@@ -87,14 +111,8 @@ impl Bridge {
                 let chain = join(staged, reply, steps);
                 Bridge { chain }
             }
-            StageOutcome::Refused(chain, refusal) => {
-                reply.refuse(&refusal);
-                Bridge { chain }
-            }
-            StageOutcome::NoMemory(chain) => {
-                reply.lack_memory();
-                Bridge { chain }
-            }
+            StageOutcome::Refused(chain, refusal) => decline(chain, &refusal, reply),
+            StageOutcome::NoMemory(chain) => lack(chain, reply),
         }
     }
 
@@ -107,21 +125,16 @@ impl Bridge {
         reply: &mut ReplyBuf,
         steps: &mut Steps<L>,
     ) -> Bridge
-        ensures { Turns self (Disconnect hash.0) reply.new result }
+        ensures turns { Turns self (Disconnect hash.0) reply.new result }
+        ensures cost { IsCheapTurn self (Disconnect hash.0) reply.new result steps.old steps.new }
     {
         match self.chain.stage_back(alloc, hash, steps) {
             BackOutcome::StagedBack(staged) => {
                 let chain = part(staged, reply, steps);
                 Bridge { chain }
             }
-            BackOutcome::Refused(chain, refusal) => {
-                reply.refuse(&refusal);
-                Bridge { chain }
-            }
-            BackOutcome::NoMemory(chain) => {
-                reply.lack_memory();
-                Bridge { chain }
-            }
+            BackOutcome::Refused(chain, refusal) => decline(chain, &refusal, reply),
+            BackOutcome::NoMemory(chain) => lack(chain, reply),
         }
     }
 
@@ -142,7 +155,8 @@ impl Bridge {
         steps: &mut Steps<L>,
     ) -> Bridge
         requires { IsWithinLimits event }
-        ensures { Turns self (event_of event.entry) reply.new result }
+        ensures turns { Turns self (event_of event.entry) reply.new result }
+        ensures cost { IsCheapTurn self (event_of event.entry) reply.new result steps.old steps.new }
     {
         match event {
             Event::Connect(bytes) => self.connect(alloc, bytes, reply, steps),

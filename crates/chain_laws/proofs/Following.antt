@@ -17,7 +17,7 @@ use Rattle.undo_laws.specs.Expired.{IsDue}
 use Rattle.undo_laws.specs.UndoOf.{hash_read, IsUndoOf, AreUndos}
 use Rattle.undo_laws.proofs.Beginning.{undo_by_maps, index_undone}
 use Rattle.chain_state.specs.Tables.{maps_by}
-use Rattle.chain_state.specs.Chain.{Indexed, IsAtBase, StagedIndex, rule_refused, IsStagedOn, IsConnected, staged_undo, newest_hash}
+use Rattle.chain_state.specs.Chain.{Indexed, IsAtBase, SameIndex, StagedIndex, rule_refused, IsStagedOn, IsConnected, staged_undo, newest_hash}
 use Rattle.chain_state.specs.StageBack.{IsStagedBackOn, IsDisconnected}
 use Rattle.chain_laws.specs.Standing.{hash_of, StandsForChain}
 
@@ -36,6 +36,18 @@ base_stands base c at = record {
 
     maps_of_none : ℕ → Maps
     maps_of_none n = maps_of base.profile [] n
+
+-- ---- the same index
+
+pub same_stands : (base : Base) (blocks : List (List ℕ)) (old new : Indexed) → StandsForChain base blocks old → SameIndex new old → StandsForChain base blocks new
+same_stands base blocks old new s same = record {
+  base_is = same.base ∙ s.base_is;
+  height = ap (λ t. t.height) same.tip ∙ s.height;
+  hash = ap (λ t. t.hash.0) same.tip ∙ s.hash;
+  maps = same.maps ∙ s.maps;
+  undos = subst (AreUndos base.profile base.height blocks) (sym same.undos) s.undos;
+  valid = s.valid;
+}
 
 -- ---- the chain's next block
 

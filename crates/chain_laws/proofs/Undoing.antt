@@ -15,6 +15,7 @@ use Rattle.chain_state.specs.Stage.{IsRefusal}
 use Rattle.chain_state.specs.StageBack.{IsStagedBackOn, IsDisconnected}
 use Rattle.chain_state.specs.declared.stage.Refusal.{Refusal}
 use Rattle.chain_state.specs.declared.stage.Refusal.TheVariants.{BadBlock, NotOnTip, HeightLimit, MerkleMismatch, Rule, NotTip, AtBase}
+use Rattle.chain_state.proofs.Disconnecting.{first_same, rest_same}
 use Rattle.chain_laws.specs.Standing.{StandsForChain}
 use Rattle.chain_laws.proofs.Following.{refused_alike, connects, disconnects}
 
@@ -33,12 +34,6 @@ one_index base blocks a b s t = record {
 }
 
 -- ---- forth and back
-
-first_same : (u v : UndoRecord) (us vs : List UndoRecord) → u ∷ us ≡ v ∷ vs → u ≡ v
-first_same u v us vs e = cc
-
-rest_same : (u v : UndoRecord) (us vs : List UndoRecord) → u ∷ us ≡ v ∷ vs → us ≡ vs
-rest_same u v us vs e = cc
 
 pub forth_and_back : (old new back gone : Indexed) (staged : StagedIndex) (block : Block) (hash : Hash32)
     → IsIndexed old → IsStagedOn old block staged → IsConnected staged new → IsStagedBackOn new hash back → IsDisconnected back gone → SameIndex gone old

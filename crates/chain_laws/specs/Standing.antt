@@ -6,7 +6,8 @@ use Rattle.chain_names.specs.Log.{behind_coinbase, transactions_in, log_of}
 use Rattle.chain_names.specs.Index.{index_maps, next_height, refused_in}
 use Rattle.undo_laws.specs.UndoOf.{hash_in, AreUndos}
 use Rattle.chain_state.specs.Tables.{maps_by}
-use Rattle.chain_state.specs.Chain.{highest, Indexed}
+use Rattle.nmc_base.specs.Heights.{highest}
+use Rattle.chain_state.specs.Chain.{Indexed}
 
 -- the hash of the newest block, or of the base
 abbrev pub hash_of : Base → List (List ℕ) → List ℕ

@@ -38,7 +38,8 @@ use Rattle.chain_state.specs.declared.stage.StageOutcome.{StageOutcome}
 use Rattle.chain_state.specs.declared.stage.StageOutcome.TheVariants.{Staged, Refused, NoMemory}
 use Rattle.chain_state.proofs.Working.{all-weaker}
 use Rattle.chain_state.specs.Whole.{Finishes, Commits, maps_before_block}
-use Rattle.chain_state.specs.Chain.{highest, rule_refused, Indexed, IsIndexed, SameIndex, IsStagedIndex, index_of, staged_of, staged_undo, newest_first, newest_hash}
+use Rattle.nmc_base.specs.Heights.{highest}
+use Rattle.chain_state.specs.Chain.{rule_refused, Indexed, IsIndexed, SameIndex, IsStagedIndex, index_of, staged_of, staged_undo, newest_first, newest_hash}
 use Rattle.chain_state.specs.declared.tables.Tables.{Tables}
 use Rattle.chain_state.specs.declared.whole.Committed.{Committed}
 use Rattle.chain_state.specs.declared.whole.Whole.{Whole}

@@ -217,10 +217,10 @@ same_again c given given_is tables undos same_undos same =
 
 -- ---- the disconnect is committed, or abandoned
 
-first_same : (u v : UndoRecord) (us vs : List UndoRecord) → u ∷ us ≡ v ∷ vs → u ≡ v
+pub first_same : (u v : UndoRecord) (us vs : List UndoRecord) → u ∷ us ≡ v ∷ vs → u ≡ v
 first_same u v us vs e = cc
 
-rest_same : (u v : UndoRecord) (us vs : List UndoRecord) → u ∷ us ≡ v ∷ vs → us ≡ vs
+pub rest_same : (u v : UndoRecord) (us vs : List UndoRecord) → u ∷ us ≡ v ∷ vs → us ≡ vs
 rest_same u v us vs e = cc
 
 module _ (base : Base) (tip : Tip) (tables : Tables) (undos : Roomy Undo) (empty : Roomy OutPoint) (staged : IsStagedBack base tip tables undos empty) where

@@ -37,7 +37,7 @@ points-more [] held points = refl
 points-more (first ∷ helds) held points = ap (λ l. first.at ∷ l) (points-more helds held points)
 
 -- an outpoint where none was held keeps its coin
-restored_other : (point : OutPoint) (expired : List HeldCoin) (coins : OutPoint → Option Coin) → list_any (is_held_at point) expired ≡ false → restored expired coins point ≡ coins point
+pub restored_other : (point : OutPoint) (expired : List HeldCoin) (coins : OutPoint → Option Coin) → list_any (is_held_at point) expired ≡ false → restored expired coins point ≡ coins point
 restored_other point [] coins none = refl
 restored_other point (held ∷ expired) coins none = here (same_point held.at point) none (restored_other point expired coins)
   where

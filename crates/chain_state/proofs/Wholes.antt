@@ -28,21 +28,13 @@ use Rattle.chain_state.specs.Whole.{is_queued_at, maps_returned, IsWhole, Finish
 use Rattle.chain_state.specs.declared.tables.Tables.{Tables}
 use Rattle.chain_state.specs.declared.work.Work.{Work}
 use Rattle.chain_state.specs.declared.whole.Whole.{Whole}
+use Rattle.chain_state.proofs.Due.{restored_other}
 use Rattle.chain_state.proofs.Working.{or_left, or_right, or_both}
 use Rattle.chain_state.proofs.Moving.{coin-placed, queued-placed}
 
 -- ---- what is restored at an outpoint
 
--- at an outpoint where none expired
-returned_elsewhere : (expired : List HeldCoin) (coins : OutPoint → Option Coin) (point : OutPoint) → list_any (is_held_at point) expired ≡ false → restored expired coins point ≡ coins point
-returned_elsewhere [] coins point none = refl
-returned_elsewhere (held ∷ helds) coins point none =
-    skip (same_point held.at point) (or_left _ _ none) ∙ returned_elsewhere helds coins point (or_right (same_point held.at point) _ none)
-  where
-    skip : (b : Bool) → b ≡ false → cond b (Some held.coin) (restored helds coins point) ≡ restored helds coins point
-    skip b e = rw e refl
-
--- at one where a coin did
+-- at an outpoint where a coin expired
 returned_there : (expired : List HeldCoin) (coins : OutPoint → Option Coin) (point : OutPoint) → list_any (is_held_at point) expired ≡ true → is_some (restored expired coins point) ≡ true
 returned_there [] coins point some = absurd (true_is_not_false (sym some))
 returned_there (held ∷ helds) coins point some = by held helds coins point (same_point held.at point) some (returned_there helds coins point)
@@ -120,7 +112,7 @@ module _ (w : Whole) (tables : Tables) (whole : IsWhole w) (back : Restores w.wo
   filled_again : (point : OutPoint) (b : Bool) → list_any (is_held_at point) w.expired.items ≡ b
       → (b ≡ false → is_some (coins_in w.work.tables.coins point) ≡ true) → is_some (restored w.expired.items (coins_in w.work.tables.coins) point) ≡ true
   filled_again point true is was = returned_there w.expired.items (coins_in w.work.tables.coins) point is
-  filled_again point false is was = ap is_some (returned_elsewhere w.expired.items (coins_in w.work.tables.coins) point is) ∙ was refl
+  filled_again point false is was = ap is_some (restored_other point w.expired.items (coins_in w.work.tables.coins) is) ∙ was refl
 
   returned_filled : FilledBut (may_be_empty w.work.ops.items w.work.empty.items) (coin_places tables.coins) (λ point. is_some (coins_in tables.coins point))
   returned_filled point here free =
@@ -142,7 +134,7 @@ module _ (w : Whole) (tables : Tables) (whole : IsWhole w) (back : Restores w.wo
       let row = (unsigned_Decides whole.row height).0 is in
       let nowhere = ap (λ n. list_any (is_queued_at n point) w.expired.items) (sym row)
       ∙ queued_all whole.row w.expired.items point (of_rows w.work.tables whole.row w.expired.items whole.returns) ∙ none in
-      ap (is_named_at height) (returned_elsewhere w.expired.items (coins_in w.work.tables.coins) point none) ∙ was nowhere
+      ap (is_named_at height) (restored_other point w.expired.items (coins_in w.work.tables.coins) none) ∙ was nowhere
 
   queued_there : (height : ℕ) (point : OutPoint) → (whole.row == height) ≡ false → Queued height point → (b : Bool) → list_any (is_held_at point) w.expired.items ≡ b
       → is_named_at height (restored w.expired.items (coins_in w.work.tables.coins) point) ≡ true
@@ -150,7 +142,7 @@ module _ (w : Whole) (tables : Tables) (whole : IsWhole w) (back : Restores w.wo
       absurd (true_is_not_false (sym (was (none_of_other w.work.tables whole.row height w.expired.items point apart whole.returns))
       ∙ free_there w.work.tables whole.row height w.expired.items point apart whole.returns some))
   queued_there height point apart was false none =
-      ap (is_named_at height) (returned_elsewhere w.expired.items (coins_in w.work.tables.coins) point none)
+      ap (is_named_at height) (restored_other point w.expired.items (coins_in w.work.tables.coins) none)
       ∙ was (none_of_other w.work.tables whole.row height w.expired.items point apart whole.returns)
 
   queued_again : (height : ℕ) (point : OutPoint) → Queued height point → (b : Bool) → (whole.row == height) ≡ b
@@ -199,7 +191,7 @@ module _ (profile : Profile) (old : Work) (tables : Tables) (row : ℕ) (expired
   among : (point : OutPoint) → is_named_at row (coins_in old.tables.coins point) ≡ true → (b : Bool) → list_any (is_held_at point) expired.items ≡ b → b ≡ true
   among point named true is = refl
   among point named false is =
-      let before = ap (λ f. f point) (sym gone.back) ∙ returned_elsewhere expired.items (coins_in tables.coins) point is ∙ ap (λ f. f point) gone.coins ∙ some_row_coin row _ named in
+      let before = ap (λ f. f point) (sym gone.back) ∙ restored_other point expired.items (coins_in tables.coins) is ∙ ap (λ f. f point) gone.coins ∙ some_row_coin row _ named in
       absurd (true_is_not_false (sym (named_some row _ named) ∙ ap is_some before))
 
   done_maps : maps_by tables ≡ without_expired profile (suc old.height) (maps_by old.tables)

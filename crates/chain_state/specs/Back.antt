@@ -11,7 +11,8 @@ use Rattle.undo_laws.specs.Sound.{IsSound}
 use Rattle.undo_records.specs.declared.undo.Undo.{Undo}
 use Rattle.chain_state.specs.Tables.{maps_by, IsStanding}
 use Rattle.chain_state.specs.Whole.{IsWhole}
-use Rattle.chain_state.specs.Chain.{highest, index_of, newest_hash}
+use Rattle.nmc_base.specs.Heights.{highest}
+use Rattle.chain_state.specs.Chain.{index_of, newest_hash}
 use Rattle.chain_state.specs.declared.tables.Tables.{Tables}
 use Rattle.chain_state.specs.declared.whole.Whole.{Whole}
 

@@ -2,6 +2,7 @@
 use Rattle.std.specs.Prelude.{◌≡◌, ℕ, suc, ◌<◌, ◌≤◌, List, [], ◌∷◌, map, reverse, Option, None}
 use Rattle.full_grammar.specs.Block.{Block, block_root}
 use Rattle.full_grammar.specs.Header.{header_hash}
+use Rattle.nmc_base.specs.Heights.{highest}
 use Rattle.nmc_base.specs.declared.chain_ends.Base.{Base}
 use Rattle.nmc_base.specs.declared.chain_ends.Tip.{Tip}
 use Rattle.nmc_base.specs.Roomy.{Roomy}
@@ -20,10 +21,6 @@ use Rattle.chain_state.specs.Tables.{maps_by, IsStanding, AreFilled}
 use Rattle.chain_state.specs.Whole.{IsWhole, maps_before_block}
 use Rattle.chain_state.specs.declared.tables.Tables.{Tables}
 use Rattle.chain_state.specs.declared.whole.Whole.{Whole}
-
--- no chain is higher
-abbrev pub highest : ℕ
-highest = 2000000000
 
 pub record Indexed : Type 0 where
   pub base : Base

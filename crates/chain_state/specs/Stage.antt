@@ -1,7 +1,8 @@
 -- What staging a block answers.
 use Rattle.std.specs.Prelude.{◌≡◌, ◌≢◌, ℕ, ◌+◌, ◌*◌, ◌<◌, ◌≤◌, [], length, Some}
 use Rattle.full_grammar.specs.Block.{Block, block_root}
-use Rattle.chain_state.specs.Chain.{highest, Indexed, SameIndex, StagedIndex, rule_refused, IsStagedOn}
+use Rattle.nmc_base.specs.Heights.{highest}
+use Rattle.chain_state.specs.Chain.{Indexed, SameIndex, StagedIndex, rule_refused, IsStagedOn}
 use Rattle.chain_state.specs.Cost.{touched_by}
 use Rattle.chain_state.specs.declared.tables.Tables.{Tables}
 use Rattle.chain_state.specs.declared.work.Work.{Work}

@@ -1,5 +1,6 @@
 ghost use Rattle.std.specs.Prelude.{◌≡◌, ◌+◌, ◌≤◌, IfOk};
-ghost use Rattle.chain_state.specs.Chain.{IsAtBase, IsIndexed, IsConnected, IsAbandoned, ArePartsOf, index_of};
+ghost use Rattle.chain_state.specs.Tables.{AreFilled};
+ghost use Rattle.chain_state.specs.Chain.{IsAtBase, IsIndexed, IsConnected, IsAbandoned, ArePartsOf, index_of, tables_of};
 ghost use Rattle.chain_state.specs.Stage.{commit_steps};
 
 use crate::tables::Tables;
@@ -99,9 +100,11 @@ impl Chain {
         self.tip
     }
 
-    /// The coins, the histories, the queue and the undo records, that of the oldest block first.
+    /// The coins, the histories, the queue and the undo records, that of the oldest block first. Each place in the tables is
+    /// filled, so a walk over them meets nothing else.
     pub fn parts(&self) -> &Parts
-        ensures { ArePartsOf self.now result.now }
+        ensures parts { ArePartsOf self.now result.now }
+        ensures filled { AreFilled (tables_of result.now) }
     {
         &self.parts
     }

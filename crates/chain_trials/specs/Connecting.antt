@@ -6,7 +6,8 @@ use Rattle.full_grammar.specs.Header.{header_hash}
 use Rattle.chain_names.specs.Log.{behind_coinbase}
 use Rattle.chain_names.specs.Changes.{after_block}
 use Rattle.chain_state.specs.Tables.{maps_by}
-use Rattle.chain_state.specs.Chain.{highest, Indexed, SameIndex, StagedIndex, rule_refused, IsStagedOn}
+use Rattle.nmc_base.specs.Heights.{highest}
+use Rattle.chain_state.specs.Chain.{Indexed, SameIndex, StagedIndex, rule_refused, IsStagedOn}
 use Rattle.chain_state.specs.Stage.{IsRefusal}
 use Rattle.chain_state.specs.declared.stage.Refusal.{Refusal}
 use Rattle.chain_state.specs.declared.stage.Refusal.TheVariants.{BadBlock, NotOnTip, HeightLimit, MerkleMismatch, Rule, NotTip, AtBase}

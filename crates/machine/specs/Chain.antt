@@ -1,23 +1,13 @@
 -- The chain of blocks that an index follows.
 use Rattle.std.specs.Prelude.{ℕ, ◌+◌, List, [], ◌∷◌, ◌++◌, length, drop, replicate}
 use Rattle.block_grammar.specs.Header.{block_hash}
-use Rattle.nmc_base.specs.declared.chain_ends.Profile.{Profile}
+use Rattle.nmc_base.specs.declared.chain_ends.Base.{Base}
 use Rattle.nmc_base.specs.declared.chain_ends.Profile.TheVariants.{Regtest}
 
--- where the index starts: the network, and the height and the hash of the block before the first one that it is given
-pub record Base : Type 0 where
-  pub profile : Profile
-  pub height : ℕ
-  pub hash : List ℕ
-
--- a base, and the blocks on it, the newest first
+-- where the index starts, and the blocks on it, the newest first
 pub record Chain : Type 0 where
   pub base : Base
   pub blocks : List (List ℕ)
-
--- no chain is higher
-abbrev pub highest : ℕ
-highest = 2000000000
 
 -- no block is longer
 abbrev pub longest_block : ℕ
@@ -32,7 +22,7 @@ height_of chain = chain.base.height + length chain.blocks
 
 -- the hash of the newest block, or the base's
 abbrev pub newest_hash : Base → List (List ℕ) → List ℕ
-newest_hash base [] = base.hash
+newest_hash base [] = base.hash.0
 newest_hash base (block ∷ blocks) = block_hash block
 
 abbrev pub tip_hash : Chain → List ℕ
@@ -57,4 +47,4 @@ hashes_of (block ∷ blocks) = hashes_of blocks ++ block_hash block ∷ []
 
 -- a regression-test chain from its very beginning: what a replay starts from while there are no files
 abbrev pub regtest_base : Base
-regtest_base = record { profile = Regtest; height = 0; hash = replicate 32 0 }
+regtest_base = record { profile = Regtest; height = 0; hash = record { 0 = replicate 32 0 } }

@@ -6,7 +6,8 @@ use Rattle.chain_names.specs.declared.refusal.RuleRefusal.{RuleRefusal}
 use Rattle.chain_names.specs.Log.{behind_coinbase, log_of}
 use Rattle.chain_names.specs.Changes.{Refused}
 use Rattle.chain_names.specs.Index.{next_height, refused_in}
-use Rattle.machine.specs.Chain.{Chain, tip_hash, height_of, highest}
+use Rattle.nmc_base.specs.Heights.{highest}
+use Rattle.machine.specs.Chain.{Chain, tip_hash, height_of}
 use Rattle.machine.specs.Event.{Event, Connect, Disconnect}
 
 pub data Refusal : Type 0 where

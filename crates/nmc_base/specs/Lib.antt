@@ -1,3 +1,4 @@
 pub mod Expiry
 pub mod Hash
+pub mod Heights
 pub mod Roomy

@@ -13,7 +13,8 @@ use Rattle.chain_names.specs.Undo.{UndoRecord}
 use Rattle.chain_names.proofs.Blocks.{refused_in-maps, all_follow, maps_of-next, index_maps-next}
 use Rattle.chain_names.proofs.Shown.{true_is_not_false}
 use Rattle.undo_laws.specs.Expired.{IsDue, IsSortedByPoint}
-use Rattle.undo_laws.specs.State.{highest, IsState}
+use Rattle.nmc_base.specs.Heights.{highest}
+use Rattle.undo_laws.specs.State.{IsState}
 use Rattle.undo_laws.specs.Sound.{IsSound, IsAccepted, AreAccepted}
 use Rattle.undo_laws.specs.UndoOf.{hash_in, IsUndoOf, AreUndos}
 use Rattle.undo_laws.proofs.Agreeing.{undo_ops_in-maps}

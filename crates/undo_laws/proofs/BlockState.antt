@@ -4,7 +4,8 @@ use Rattle.full_grammar.specs.Transaction.{Transaction}
 use Rattle.nmc_base.specs.declared.chain_ends.Profile.{Profile}
 use Rattle.chain_names.specs.Coins.{Maps}
 use Rattle.chain_names.specs.Changes.{after_all, after_block}
-use Rattle.undo_laws.specs.State.{highest, IsState, HasFewNames}
+use Rattle.nmc_base.specs.Heights.{highest}
+use Rattle.undo_laws.specs.State.{IsState, HasFewNames}
 use Rattle.undo_laws.specs.Sound.{count_outputs}
 use Rattle.undo_laws.proofs.Standing.{Stands, state_stands, standing_state, stands-higher}
 use Rattle.undo_laws.proofs.Keeping.{all_stand, block_stands}

@@ -8,13 +8,14 @@ use Rattle.chain_names.specs.Coins.{Maps}
 use Rattle.chain_names.specs.Changes.{after_all, after_block, first_refused, undo_ops, undone}
 use Rattle.chain_names.specs.Undo.{UndoRecord}
 use Rattle.undo_laws.specs.Expired.{IsSortedByPoint, IsDue}
-use Rattle.undo_laws.specs.State.{highest, IsState}
+use Rattle.nmc_base.specs.Heights.{highest}
+use Rattle.undo_laws.specs.State.{IsState}
 use Rattle.undo_laws.specs.Sound.{count_outputs, IsSound}
 use Rattle.undo_laws.proofs.Standing.{state_stands, stands-higher}
 use Rattle.undo_laws.proofs.Restoring.{block_undone}
 use Rattle.undo_laws.proofs.BlockState.{transactions_stand, transactions_few, block_state}
 use Rattle.undo_laws.proofs.Fitting.{block_fits}
-use Rattle.undo_laws.proofs.Writing.{block_writable}
+use Rattle.undo_laws.proofs.Writing.{block_limits}
 
 pub sound_state : (profile : Profile) (base tip : ℕ) (maps : Maps) (us : List UndoRecord) → IsSound profile base tip maps us → IsState profile tip maps
 sound_state profile base tip maps [] sound = sound.state
@@ -34,7 +35,7 @@ block_sound profile base tip index ts maps u us sound accepted low few ops due s
       record {
         above = refl;
         state = block_state profile tip ts maps state low few;
-        writable = block_writable profile (suc tip) ts maps u before stands few_rows few ops due sorted;
+        limits = block_limits profile (suc tip) ts maps u before stands few_rows few ops due sorted;
         fits = block_fits profile (suc tip) index ts maps u stands accepted ops due;
       },
       subst (λ m. IsSound profile base tip m us)

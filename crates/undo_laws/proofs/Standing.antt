@@ -10,7 +10,8 @@ use Rattle.chain_names.specs.declared.coin.Coin.TheVariants.{Named}
 use Rattle.chain_names.specs.declared.coin.Item.{Item}
 use Rattle.chain_names.specs.Coins.{Maps, entry_of}
 use Rattle.chain_names.specs.Verdict.{made_at}
-use Rattle.undo_laws.specs.State.{highest, IsUpTo, FitsItem, IsRising, IsStandingCoin, HasFewNames, IsState}
+use Rattle.nmc_base.specs.Heights.{highest}
+use Rattle.undo_laws.specs.State.{IsUpTo, FitsItem, IsRising, IsStandingCoin, HasFewNames, IsState}
 use Rattle.undo_laws.proofs.Points.{all-weaker}
 
 -- no coin and no item is higher than the top, and names stand at the height

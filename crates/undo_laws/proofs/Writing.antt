@@ -25,7 +25,7 @@ use Rattle.chain_names.proofs.Meanings.{verdict_means}
 use Rattle.undo_laws.specs.Expired.{IsSortedByPoint, IsGone, IsDue}
 use Rattle.undo_laws.specs.State.{FitsItem, HasFewNames}
 use Rattle.undo_laws.specs.Sound.{count_outputs}
-use Rattle.undo_laws.specs.Writable.{IsWritableBefore, IsWritableOp, HoldsName, IsNameCoin, IsWritable}
+use Rattle.undo_laws.specs.Limits.{IsShortBefore, IsWithinLimitsOp, HoldsName, IsNameCoin, IsWithinLimits}
 use Rattle.undo_laws.proofs.Points.{all-points, all-weaker, all-append}
 use Rattle.undo_laws.proofs.Histories.{entry_has}
 use Rattle.undo_laws.proofs.Standing.{Stands}
@@ -36,37 +36,37 @@ use Rattle.undo_laws.proofs.Sorting.{sorted_few}
 
 -- ---- operations
 
-entry_writable : (name : List ℕ) (items : List Item) (entry : Option Item) → AllByRecursion (FitsItem name) items → entry_of items ≡ entry → IsWritableBefore entry
-entry_writable name items None fits e = tt
-entry_writable name items (Some item) fits e = (entry_has (FitsItem name) items item fits e).value_length
+entry_limits : (name : List ℕ) (items : List Item) (entry : Option Item) → AllByRecursion (FitsItem name) items → entry_of items ≡ entry → IsShortBefore entry
+entry_limits name items None fits e = tt
+entry_limits name items (Some item) fits e = (entry_has (FitsItem name) items item fits e).value_length
 
-with_spent_writable : (undo : Coin → UndoOp) (spent : Option Coin) (coin : Coin) → spent ≡ Some coin → IsWritableOp (undo coin)
-    → AllByRecursion IsWritableOp (with_spent undo spent)
-with_spent_writable undo spent coin held writable = subst (λ s. AllByRecursion IsWritableOp (with_spent undo s)) (sym held) (writable, tt)
+with_spent_limits : (undo : Coin → UndoOp) (spent : Option Coin) (coin : Coin) → spent ≡ Some coin → IsWithinLimitsOp (undo coin)
+    → AllByRecursion IsWithinLimitsOp (with_spent undo spent)
+with_spent_limits undo spent coin held within = subst (λ s. AllByRecursion IsWithinLimitsOp (with_spent undo s)) (sym held) (within, tt)
 
-verdict_writable : (profile : Profile) (height : ℕ) (maps : Maps) (t : Transaction) (v : Verdict) → Means profile maps height t v → Stands profile height height maps
-    → AllByRecursion IsWritableOp (undo_of_verdict maps (txid_of t) v)
-verdict_writable profile height maps t plain means stands = tt
-verdict_writable profile height maps t (refused refusal) means stands = tt
-verdict_writable profile height maps t (commits hash place) means stands = (tt, tt)
-verdict_writable profile height maps t (opens name value place spent) means stands =
-    with_spent_writable (λ (coin : Coin). undo_first (point_at (txid_of t) place) spent coin name (entry_of (maps.names name))) (maps.coins spent)
+verdict_limits : (profile : Profile) (height : ℕ) (maps : Maps) (t : Transaction) (v : Verdict) → Means profile maps height t v → Stands profile height height maps
+    → AllByRecursion IsWithinLimitsOp (undo_of_verdict maps (txid_of t) v)
+verdict_limits profile height maps t plain means stands = tt
+verdict_limits profile height maps t (refused refusal) means stands = tt
+verdict_limits profile height maps t (commits hash place) means stands = (tt, tt)
+verdict_limits profile height maps t (opens name value place spent) means stands =
+    with_spent_limits (λ (coin : Coin). undo_first (point_at (txid_of t) place) spent coin name (entry_of (maps.names name))) (maps.coins spent)
     (New means.hash means.made) means.input.held
-    (tt, means.fits.name_length, entry_writable name (maps.names name) (entry_of (maps.names name)) (stands.lengths name) refl)
-verdict_writable profile height maps t (updates name value place spent) means stands =
-    with_spent_writable (λ (coin : Coin). undo_update (point_at (txid_of t) place) spent coin name (entry_of (maps.names name))) (maps.coins spent)
+    (tt, means.fits.name_length, entry_limits name (maps.names name) (entry_of (maps.names name)) (stands.lengths name) refl)
+verdict_limits profile height maps t (updates name value place spent) means stands =
+    with_spent_limits (λ (coin : Coin). undo_update (point_at (txid_of t) place) spent coin name (entry_of (maps.names name))) (maps.coins spent)
     (Named name means.made) means.input.held
-    (means.fits.name_length, means.fits.name_length, entry_writable name (maps.names name) (entry_of (maps.names name)) (stands.lengths name) refl)
+    (means.fits.name_length, means.fits.name_length, entry_limits name (maps.names name) (entry_of (maps.names name)) (stands.lengths name) refl)
 
-pub all_writable : (profile : Profile) (height : ℕ) (ts : List Transaction) (maps : Maps) → Stands profile height height maps
-    → AllByRecursion IsWritableOp (undo_ops profile height ts maps)
-all_writable profile height [] maps stands = tt
-all_writable profile height (t ∷ ts) maps stands =
+pub all_limits : (profile : Profile) (height : ℕ) (ts : List Transaction) (maps : Maps) → Stands profile height height maps
+    → AllByRecursion IsWithinLimitsOp (undo_ops profile height ts maps)
+all_limits profile height [] maps stands = tt
+all_limits profile height (t ∷ ts) maps stands =
     let v = verdict profile maps height t in
     let means = verdict_means profile maps height t in
     let next = after_transaction profile height t maps in
-    all-append IsWritableOp (undo_of_verdict maps (txid_of t) v) (undo_ops profile height ts next) (verdict_writable profile height maps t v means stands)
-    (all_writable profile height ts next (verdict_stands profile height maps t v means stands))
+    all-append IsWithinLimitsOp (undo_of_verdict maps (txid_of t) v) (undo_ops profile height ts next) (verdict_limits profile height maps t v means stands)
+    (all_limits profile height ts next (verdict_stands profile height maps t v means stands))
 
 -- ---- expired coins
 
@@ -130,16 +130,16 @@ few_expired profile height after expired stands few all sorted = by (nat_lt (suc
         (all-weaker (IsGone after.coins (next_coins profile height after)) (λ held. list_any (same_point held.at) listed ≡ true) expired each all)))
         (few row).few
 
-pub block_writable : (profile : Profile) (height : ℕ) (ts : List Transaction) (maps : Maps) (u : UndoRecord)
+pub block_limits : (profile : Profile) (height : ℕ) (ts : List Transaction) (maps : Maps) (u : UndoRecord)
     → Stands profile height height maps → Stands profile height height (after_all profile height ts maps)
     → ((row : ℕ) → HasFewNames (after_all profile height ts maps).coins row) → count_outputs ts < 2 ^ 32 → u.ops ≡ undo_ops profile height ts maps
-    → IsDue (after_all profile height ts maps).coins (after_block profile height ts maps).coins u.expired → IsSortedByPoint u.expired → IsWritable u
-block_writable profile height ts maps u before stands few short ops due sorted =
+    → IsDue (after_all profile height ts maps).coins (after_block profile height ts maps).coins u.expired → IsSortedByPoint u.expired → IsWithinLimits u
+block_limits profile height ts maps u before stands few short ops due sorted =
     let after = after_all profile height ts maps in
     record {
       few_ops = subst (λ (os : List UndoOp). length os < 2 ^ 32) (sym ops) (few_operations profile height ts maps short);
       few_expired = few_expired profile height after u.expired stands few due.each sorted;
-      ops = subst (AllByRecursion IsWritableOp) (sym ops) (all_writable profile height ts maps before);
+      ops = subst (AllByRecursion IsWithinLimitsOp) (sym ops) (all_limits profile height ts maps before);
       expired = all-weaker (IsGone after.coins (next_coins profile height after)) HoldsName u.expired
           (λ held gone. name_gone profile height after held.at held.coin stands gone.now_is (gone_is profile height after held gone)) due.each;
       sorted = sorted;

@@ -2,5 +2,5 @@ pub mod Expired
 pub mod UndoOf
 pub mod State
 pub mod Fits
-pub mod Writable
+pub mod Limits
 pub mod Sound

@@ -7,9 +7,10 @@ use Rattle.chain_names.specs.Changes.{undone}
 use Rattle.chain_names.specs.Index.{next_height, refused_in}
 use Rattle.chain_names.specs.Log.{behind_coinbase, transactions_in, log_of}
 use Rattle.chain_names.specs.Undo.{UndoRecord}
-use Rattle.undo_laws.specs.State.{highest, IsState}
+use Rattle.nmc_base.specs.Heights.{highest}
+use Rattle.undo_laws.specs.State.{IsState}
 use Rattle.undo_laws.specs.Fits.{FitsState}
-use Rattle.undo_laws.specs.Writable.{IsWritable}
+use Rattle.undo_laws.specs.Limits.{IsWithinLimits}
 
 -- the base alone: no coin and no item is higher than it, as the state says
 pub record IsBaseState (profile : Profile) (base tip : ℕ) (maps : Maps) : Type 0 where
@@ -20,7 +21,7 @@ pub record IsBaseState (profile : Profile) (base tip : ℕ) (maps : Maps) : Type
 pub record IsTipState (profile : Profile) (tip below : ℕ) (u : UndoRecord) (maps : Maps) : Type 0 where
   pub above : tip ≡ suc below
   pub state : IsState profile tip maps
-  pub writable : IsWritable u
+  pub limits : IsWithinLimits u
   pub fits : FitsState profile tip u maps
 
 -- A state is sound where each undo record fits, from the newest to the oldest, and each state on the way down to the base

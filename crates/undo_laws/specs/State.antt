@@ -1,6 +1,7 @@
 -- What holds of the coins and histories of each chain at its tip.
 use Rattle.std.specs.Prelude.{◌≡◌, ℕ, suc, ◌<◌, ◌≤◌, ◌^◌, true, false, List, [], ◌∷◌, length, Option, Some}
 use Rattle.std.specs.List.{AllByRecursion, list_any}
+use Rattle.nmc_base.specs.Heights.{highest}
 use Rattle.nmc_base.specs.declared.hashes.OutPoint.{OutPoint}
 use Rattle.nmc_base.specs.declared.chain_ends.Profile.{Profile}
 use Rattle.nmc_base.specs.Expiry.{is_expired}
@@ -12,10 +13,6 @@ use Rattle.chain_names.specs.Coins.{Maps, entry_of}
 use Rattle.chain_names.specs.Meaning.{FitsName}
 use Rattle.chain_names.specs.Tables.{is_named_at}
 use Rattle.chain_names.specs.Verdict.{made_at}
-
--- no chain is higher
-abbrev pub highest : ℕ
-highest = 2000000000
 
 abbrev pub IsUpTo : ℕ → Item → Type 0
 IsUpTo height item = item.height ≤ height

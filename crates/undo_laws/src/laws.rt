@@ -17,7 +17,8 @@ ghost use Rattle.chain_names.specs.Undo.{UndoRecord};
 ghost use Rattle.undo_laws.specs.Expired.{IsSortedByPoint, IsGone, IsDue};
 ghost use Rattle.undo_laws.specs.Fits.{AreUndoable, FitsState, IsJustExpired, with_restored};
 ghost use Rattle.undo_laws.specs.Sound.{count_outputs, AreAccepted, IsSound};
-ghost use Rattle.undo_laws.specs.State.{highest, IsState};
+ghost use Rattle.nmc_base.specs.Heights.{highest};
+ghost use Rattle.undo_laws.specs.State.{IsState};
 ghost use Rattle.undo_laws.specs.UndoOf.{AreUndos, IsUndoOf, hash_in, undo_ops_in};
 
 /// Where no transaction is refused, the undo operations by the log, searched anew for each transaction, are those by

@@ -2,7 +2,8 @@ use Rattle.std.proofs.Common.{◌≡◌, ◌<◌, sym, ap, subst, ◌∙◌, ari
 use Rattle.full_grammar.specs.Block.{Block, block_root}
 use Rattle.full_grammar.specs.Header.{Header}
 use Rattle.nmc_base.specs.declared.hashes.Hash32.{Hash32}
-use Rattle.chain_state.specs.Chain.{Indexed, highest}
+use Rattle.nmc_base.specs.Heights.{highest}
+use Rattle.chain_state.specs.Chain.{Indexed}
 use Rattle.chain_state.proofs.Chains.{stages}
 use Rattle.chain_state.proofs.Disconnecting.{is_the_tip}
 use Rattle.chain_state.proofs.chain.Chain.stage.Goals as goal

@@ -4,7 +4,8 @@ use Rattle.full_grammar.specs.Header.{header_hash}
 use Rattle.chain_names.specs.Log.{behind_coinbase}
 use Rattle.undo_laws.specs.Sound.{count_outputs}
 use Rattle.undo_records.specs.declared.undo.Undo.{Undo}
-use Rattle.chain_state.specs.Chain.{highest, rule_refused, Indexed, SameIndex, indexed_of, staged_of, newest_first}
+use Rattle.nmc_base.specs.Heights.{highest}
+use Rattle.chain_state.specs.Chain.{rule_refused, Indexed, SameIndex, indexed_of, staged_of, newest_first}
 use Rattle.chain_state.specs.Stage.{StagesWell}
 use Rattle.chain_state.specs.Work.{maps_before}
 use Rattle.chain_state.proofs.Chains.{few_each, begun_ready, staged_index, staged_well, given_back, stopped_back, refused_by, returned_index, returned_same, unused_index}

@@ -1,4 +1,4 @@
--- Which undo records are written.
+-- The limits of an undo record: how long its parts are, and which coins it holds.
 use Rattle.std.specs.Prelude.{◌<◌, ◌≤◌, ◌^◌, length, Option, Some, None}
 use Rattle.std.specs.List.{AllByRecursion}
 use Rattle.chain_names.specs.declared.coin.Coin.{Coin}
@@ -20,23 +20,23 @@ IsNameCoin (New hash height) = ⊥
 IsNameCoin (Named name height) = length name ≤ 255
 
 -- the value of the item before, where there is one, has at most 1023 bytes
-abbrev pub IsWritableBefore : Option Item → Type 0
-IsWritableBefore None = Unit {0}
-IsWritableBefore (Some item) = length item.value ≤ 1023
+abbrev pub IsShortBefore : Option Item → Type 0
+IsShortBefore None = Unit {0}
+IsShortBefore (Some item) = length item.value ≤ 1023
 
 -- an operation that opens a name spends a commitment, and one that updates a name spends a name's coin
-abbrev pub IsWritableOp : UndoOp → Type 0
-IsWritableOp (undo_new made) = Unit {0}
-IsWritableOp (undo_first made spent coin name before) = IsCommitment coin × (length name ≤ 255) × IsWritableBefore before
-IsWritableOp (undo_update made spent coin name before) = IsNameCoin coin × (length name ≤ 255) × IsWritableBefore before
+abbrev pub IsWithinLimitsOp : UndoOp → Type 0
+IsWithinLimitsOp (undo_new made) = Unit {0}
+IsWithinLimitsOp (undo_first made spent coin name before) = IsCommitment coin × (length name ≤ 255) × IsShortBefore before
+IsWithinLimitsOp (undo_update made spent coin name before) = IsNameCoin coin × (length name ≤ 255) × IsShortBefore before
 
 abbrev pub HoldsName : HeldCoin → Type 0
 HoldsName held = IsNameCoin held.coin
 
 -- its lists are shorter than 2^32, and what expired are names' coins, in the order of their outpoints
-pub record IsWritable (u : UndoRecord) : Type 0 where
+pub record IsWithinLimits (u : UndoRecord) : Type 0 where
   pub few_ops : length u.ops < 2 ^ 32
   pub few_expired : length u.expired < 2 ^ 32
-  pub ops : AllByRecursion IsWritableOp u.ops
+  pub ops : AllByRecursion IsWithinLimitsOp u.ops
   pub expired : AllByRecursion HoldsName u.expired
   pub sorted : IsSortedByPoint u.expired

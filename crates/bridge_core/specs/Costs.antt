@@ -1,0 +1,31 @@
+-- What a turn costs, in steps on the tables, where its command is accepted.
+use Rattle.std.specs.Prelude.{◌≡◌, ℕ, ◌+◌, ◌*◌, ◌≤◌, List, [], ◌∷◌, length}
+use Rattle.full_grammar.specs.Block.{Block, IsBlock}
+use Rattle.chain_names.specs.Undo.{UndoRecord}
+use Rattle.chain_state.specs.Cost.{touched_by}
+use Rattle.chain_state.specs.Chain.{Indexed}
+use Rattle.chain_state.specs.StageBack.{newest_work}
+use Rattle.machine.specs.Event.{Event, Connect, Disconnect}
+use Rattle.machine.specs.Reply.{Reply}
+
+-- how many coins expired with the newest block
+abbrev pub newest_expired : List UndoRecord → ℕ
+newest_expired [] = 0
+newest_expired (undo ∷ below) = length undo.expired
+
+-- a block takes eight steps for each input and each output behind its coinbase and for each coin that expires with it, and
+-- eight
+abbrev pub IsCheapConnect : List ℕ → Indexed → ℕ → ℕ → Type 0
+IsCheapConnect bytes new before after = (block : Block) → IsBlock bytes block → after ≤ before + 8 * (touched_by block + newest_expired new.undos) + 8
+
+-- a disconnect takes twelve for each operation of the block and for each coin that expired with it, and eight
+abbrev pub IsCheapDisconnect : Indexed → ℕ → ℕ → Type 0
+IsCheapDisconnect old before after = after ≤ before + 12 * newest_work old.undos + 8
+
+abbrev pub IsCheap : Indexed → Event → Indexed → ℕ → ℕ → Type 0
+IsCheap old (Connect bytes) new before after = IsCheapConnect bytes new before after
+IsCheap old (Disconnect hash) new before after = IsCheapDisconnect old before after
+
+-- where the command is accepted
+abbrev pub IsCheapTurn : Indexed → Event → Reply → Indexed → ℕ → ℕ → Type 0
+IsCheapTurn old event reply new before after = reply.code ≡ 0 → IsCheap old event new before after
