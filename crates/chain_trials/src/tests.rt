@@ -9,15 +9,19 @@ use std::test::Fail;
 
 mod back;
 mod blocks;
+mod forks;
 mod headers;
 mod labels;
+mod plans;
 mod rows;
 mod scripts;
 mod served;
 mod stop;
+mod texts;
 mod transactions;
 mod trial;
 
+use forks::forks;
 use headers::{changed_headers, the_highest_chain};
 use stop::Stop;
 use trial::{Way, run};
@@ -87,6 +91,21 @@ fn odd_blocks<L: Ledger>(rt: &impl Abort, alloc: Global, blank: Blank) -> Result
 #[test]
 fn refusals_before_the_names(rt: HostRuntime) -> Result<(), Fail> {
     odd_blocks::<Brand>(&rt, rt.alloc(), Blank::new(1))?;
+    Ok(())
+}
+
+fn forked_run<L: Ledger>(rt: &impl Abort, alloc: Global, blank: Blank) -> Result<(), Stop>
+    requires name { blank.name ≡ L.name }
+    requires parts { blank.parts ≡ L.parts }
+    requires some { 0 < blank.parts }
+{
+    let mut steps = Steps::<L>::new(blank);
+    forks(rt, alloc, &mut steps)
+}
+
+#[test]
+fn a_disconnected_block_leaves_nothing(rt: HostRuntime) -> Result<(), Fail> {
+    forked_run::<Brand>(&rt, rt.alloc(), Blank::new(1))?;
     Ok(())
 }
 

@@ -7,7 +7,7 @@ use nmc_base::{Hash32, OutPoint};
 const ELSEWHERE: Hash32 = Hash32([0xEE; 32]);
 
 /// The ids of the transactions with the letters a to z.
-#[derive(Drop)]
+#[derive(Clone, Copy)]
 pub struct Labels {
     txids: [Hash32; 26],
 }

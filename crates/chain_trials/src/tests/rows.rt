@@ -342,12 +342,16 @@ back 7
 = d/y:one",
 ];
 
-/// A trial that reaches each kind of operation, a refusal and an expiry.
+/// A trial that reaches each kind of operation, a refusal, an expiry and disconnects.
 pub const SHORT: &str = "\
 1 ok @a <0 new:d/x:s | @b <1 new:d/y:s
 13 ok @c <a first:d/x:s:one | @d <b first:d/y:s:one | @e <c update:d/x:two
 14 22:2 <d update:d/y:two | <e update:d/y:two
 14 ok <d update:d/y:two
 43 18:2 @f <2 new:d/x:t | <e update:d/x:three
+43 ok @f <2 new:d/x:t
+44 ok
+back
+back
 43 ok @f <2 new:d/x:t
 44 ok";
