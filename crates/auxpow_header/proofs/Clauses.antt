@@ -3,17 +3,17 @@ use Rattle.std.proofs.Common.{◌≡◌, ℕ, ◌-◌, ◌≤◌, ◌↔◌, tru
 use Rattle.std.specs.Prelude.{Result, Ok, Err}
 use Rattle.std.proofs.lemmas.List.{drop_at, take-append-drop, append_cancel_right, length-drop}
 use Rattle.block_grammar.proofs.Readers.{IsBytes}
-use Rattle.full_grammar.specs.declared.kinds.TxKind.{TxKind}
-use Rattle.full_grammar.specs.declared.kinds.TxKind.TheVariants.{Cut, LongForm, BadFlag, NoInput, NoOutput, EmptyWitness}
-use Rattle.full_grammar.specs.Kinds.{is_cut}
-use Rattle.full_grammar.specs.Header.{Header, header_text, FitsHeader}
-use Rattle.full_grammar.specs.Reading.{header_from}
-use Rattle.full_grammar.proofs.Laws.{ok_is, ok_err}
-use Rattle.full_grammar.proofs.Headers.{header_laws}
-use Rattle.full_grammar.proofs.Places.{is_place, cut_place}
-use Rattle.full_grammar.specs.Fault.{IsHeaderPlace}
-use Rattle.full_grammar.proofs.Statements.{header_place}
-use Rattle.tx_reader.specs.declared.full.TxFault.{TxFault}
+use Rattle.block_grammar.specs.declared.kinds.TxKind.{TxKind}
+use Rattle.block_grammar.specs.declared.kinds.TxKind.TheVariants.{Cut, LongForm, BadFlag, NoInput, NoOutput, EmptyWitness}
+use Rattle.block_grammar.specs.Kinds.{is_cut}
+use Rattle.block_grammar.specs.Header.{Header, header_text, FitsHeader}
+use Rattle.block_grammar.specs.Reading.{header_from}
+use Rattle.block_grammar.proofs.ReaderLaws.{ok_is, ok_err}
+use Rattle.block_grammar.proofs.HeaderLaws.{header_laws}
+use Rattle.block_grammar.proofs.PlaceLaws.{is_place, cut_place}
+use Rattle.block_grammar.specs.Fault.{IsHeaderPlace}
+use Rattle.block_grammar.proofs.Statements.{header_place}
+use Rattle.tx_reader.specs.declared.transaction.TxFault.{TxFault}
 use Rattle.auxpow_header.specs.Front.{StandsFirst, IsFault, IsRead, GivesHeader}
 
 -- ---- a place counted from the bytes that are left

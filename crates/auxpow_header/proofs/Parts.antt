@@ -1,12 +1,12 @@
 -- Branches, and the 80 bytes.
 use Rattle.std.proofs.Common.{◌≡◌, ℕ, ◌-◌, ◌≤◌, List, [], length, take, refl, sym, arith}
 use Rattle.std.specs.Prelude.{Result, Ok, Err}
-use Rattle.block_grammar.specs.Header as plain
+use Rattle.block_grammar.specs.PureHeader as plain
 use Rattle.block_grammar.proofs.Readers.{IsBytes}
-use Rattle.full_grammar.specs.Combinators.{then_from, map_from, many_from}
-use Rattle.full_grammar.specs.Reading.{size_from, piece_from, fields_from, branch_from}
-use Rattle.full_grammar.proofs.Headers.{fields_laws}
-use Rattle.full_grammar.proofs.Places.{is_place}
+use Rattle.block_grammar.specs.Combinators.{then_from, map_from, many_from}
+use Rattle.block_grammar.specs.Reading.{size_from, piece_from, fields_from, branch_from}
+use Rattle.block_grammar.proofs.HeaderLaws.{fields_laws}
+use Rattle.block_grammar.proofs.PlaceLaws.{is_place}
 use Rattle.tx_reader.specs.Rests.{rest_read}
 use Rattle.tx_reader.proofs.Many.{Spot}
 
@@ -24,12 +24,12 @@ unfolding branch_from
 branch_uncounted bytes e h = rw (← h) refl
 
 -- the 80 bytes
-pub record IsFront (bytes behind : List ℕ) (h : plain.Header) : Type 0 where
+pub record IsFront (bytes behind : List ℕ) (h : plain.PureHeader) : Type 0 where
   pub shorter : length behind ≤ length bytes
-  pub text : take (length bytes - length behind) bytes ≡ plain.header_text h
+  pub text : take (length bytes - length behind) bytes ≡ plain.pure_header_text h
 
-pub is_front : (bytes behind : List ℕ) (h : plain.Header) → IsBytes bytes → Ok (h, behind) ≡ fields_from bytes → IsFront bytes behind h
+pub is_front : (bytes behind : List ℕ) (h : plain.PureHeader) → IsBytes bytes → Ok (h, behind) ≡ fields_from bytes → IsFront bytes behind h
 is_front bytes behind h fits e =
     let t = fields_laws.takes bytes (h, behind) fits (sym e) in
-    let p = is_place bytes (plain.header_text h) behind t.parts in
+    let p = is_place bytes (plain.pure_header_text h) behind t.parts in
     record { shorter = omega (arith, p.count); text = p.taken }

@@ -1,11 +1,11 @@
 -- The header at the front of the bytes, and the fault where there is none.
 use Rattle.std.specs.Prelude.{◌≡◌, ℕ, ◌≤◌, ◌↔◌, List, length, take, drop, Result, Ok, Err}
-use Rattle.full_grammar.specs.declared.kinds.TxKind.{TxKind}
-use Rattle.full_grammar.specs.declared.kinds.TxKind.TheVariants.{Cut}
-use Rattle.full_grammar.specs.Header.{Header, IsHeader}
-use Rattle.full_grammar.specs.Fault.{IsHeaderPlace}
-use Rattle.full_grammar.specs.Reading.{header_from}
-use Rattle.tx_reader.specs.declared.full.TxFault.{TxFault}
+use Rattle.block_grammar.specs.declared.kinds.TxKind.{TxKind}
+use Rattle.block_grammar.specs.declared.kinds.TxKind.TheVariants.{Cut}
+use Rattle.block_grammar.specs.Header.{Header, IsHeader}
+use Rattle.block_grammar.specs.Fault.{IsHeaderPlace}
+use Rattle.block_grammar.specs.Reading.{header_from}
+use Rattle.tx_reader.specs.declared.transaction.TxFault.{TxFault}
 
 -- the header takes the first n bytes
 pub record StandsFirst (bytes : List ℕ) (h : Header) (n : ℕ) : Type 0 where

@@ -1,10 +1,10 @@
 -- The fields of a header as contents.
 use Rattle.std.specs.Prelude.{ℕ, Bool, not, ◌==◌, bit_and, List, Option, None, Result, Ok, Err}
-use Rattle.block_grammar.specs.Header as plain
-use Rattle.full_grammar.specs.Header.{MergePart}
+use Rattle.block_grammar.specs.PureHeader as plain
+use Rattle.block_grammar.specs.MergePart.{MergePart}
 use Rattle.auxpow_header.specs.declared.fields.Fields.{Fields}
 
-abbrev pub seen_fields : Fields → plain.Header
+abbrev pub seen_fields : Fields → plain.PureHeader
 seen_fields f = record { version = f.version; previous = f.previous; root = f.root; time = f.time; bits = f.bits; nonce = f.nonce }
 
 -- whether bit 0x100 is set

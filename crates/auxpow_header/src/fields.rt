@@ -1,9 +1,9 @@
 ghost use Rattle.std.specs.Prelude.{◌≡◌};
-ghost use Rattle.full_grammar.specs.Reading.{fields_from};
-ghost use Rattle.field_reader.specs.Seen.{seen};
+ghost use Rattle.block_grammar.specs.Reading.{fields_from};
+ghost use Rattle.wire_read.specs.Seen.{seen};
 ghost use Rattle.auxpow_header.specs.Seen.{seen_fields};
 
-use field_reader::{Fault, hash_at, u32_at};
+use wire_read::{Fault, hash_at, u32_at};
 
 /// The fields of the 80 bytes.
 #[derive(Clone, Copy, Debug)]
@@ -16,7 +16,7 @@ pub(crate) struct Fields {
     nonce: u32,
 }
 
-#[tactic(auto, unfolding(full_grammar::specs::Reading::fields_from))]
+#[tactic(auto, unfolding(block_grammar::specs::Reading::fields_from))]
 pub(crate) fn fields_in<'a>(bytes: &'a [u8]) -> Result<(Fields, &'a [u8]), Fault<'a>>
     ensures { seen (λ x. (seen_fields x.0, x.1.now)) result ≡ fields_from bytes.now }
 {

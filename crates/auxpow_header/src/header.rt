@@ -1,14 +1,14 @@
 ghost use Rattle.std.specs.Prelude.{◌≡◌, ℕ, ◌↔◌, Ok, IsTrue};
-ghost use Rattle.block_grammar.specs.Header.{IsMerged};
-ghost use Rattle.full_grammar.specs.Header.{header_hash};
-ghost use Rattle.full_grammar.specs.Header as full;
-ghost use Rattle.full_grammar.specs.Reading.{header_from};
-ghost use Rattle.field_reader.specs.Seen.{seen};
+ghost use Rattle.block_grammar.specs.PureHeader.{IsMerged};
+ghost use Rattle.block_grammar.specs.Header.{header_hash};
+ghost use Rattle.block_grammar.specs.Header as full;
+ghost use Rattle.block_grammar.specs.Reading.{header_from};
+ghost use Rattle.wire_read.specs.Seen.{seen};
 ghost use Rattle.auxpow_header.specs.Front.{StandsFirst, IsRead, GivesHeader};
 
 use crate::fields::{Fields, fields_in};
 use crate::merge_part::{behind_merged, is_merged};
-use field_reader::{Fault, before};
+use wire_read::{Fault, before};
 use nmc_base::Hash32;
 use sha2::{Digest, Sha256};
 use std::marker::Model;
@@ -26,21 +26,21 @@ pub struct Header<'a> {
 
 impl<'a> Model for Header<'a> {
     ghost use Rattle.std.specs.Prelude.{◌≡◌};
-    ghost use Rattle.block_grammar.specs.Header as plain;
-    ghost use Rattle.full_grammar.specs.Header as full;
-    ghost use Rattle.full_grammar.specs.Reading.{merged_from};
+    ghost use Rattle.block_grammar.specs.PureHeader as plain;
+    ghost use Rattle.block_grammar.specs.Header as full;
+    ghost use Rattle.block_grammar.specs.Reading.{merged_from};
     ghost use Rattle.auxpow_header.specs.Seen.{seen_fields, part_read};
 
     ghost Value = { full.Header };
 
     ghost view = { λ h. record { fields = seen_fields h.fields; merged = part_read (merged_from h.fields.version h.behind.now) } };
 
-    ghost invariant = { λ h. h.text.now ≡ plain.header_text (seen_fields h.fields) };
+    ghost invariant = { λ h. h.text.now ≡ plain.pure_header_text (seen_fields h.fields) };
 }
 
 impl<'a> Header<'a> {
     /// The block's hash: the double SHA-256 of the 80 bytes.
-    #[tactic(auto, unfolding(full_grammar::specs::Header::header_hash))]
+    #[tactic(auto, unfolding(block_grammar::specs::Header::header_hash))]
     pub fn hash(&self) -> Hash32
         ensures { result.0 ≡ header_hash self.now }
     {
@@ -76,7 +76,7 @@ impl<'a> Header<'a> {
     }
 }
 
-#[tactic(auto, unfolding(full_grammar::specs::Reading::header_from))]
+#[tactic(auto, unfolding(block_grammar::specs::Reading::header_from))]
 fn header_in<'a>(bytes: &'a [u8]) -> Result<(Header<'a>, &'a [u8]), Fault<'a>>
     ensures { seen (λ x. (x.0, x.1.now)) result ≡ header_from bytes.now }
 {

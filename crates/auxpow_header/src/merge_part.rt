@@ -1,11 +1,11 @@
 ghost use Rattle.std.specs.Prelude.{◌≡◌};
-ghost use Rattle.full_grammar.specs.Combinators.{many_from};
-ghost use Rattle.full_grammar.specs.Reading.{transaction_from, piece_from, branch_from, merge_part_from, merged_from};
+ghost use Rattle.block_grammar.specs.Combinators.{many_from};
+ghost use Rattle.block_grammar.specs.Reading.{transaction_from, piece_from, branch_from, merge_part_from, merged_from};
 ghost use Rattle.tx_reader.specs.Rests.{seen_rest, rest_read};
 ghost use Rattle.auxpow_header.specs.Seen.{is_merged_version};
 
 use crate::fields::fields_in;
-use field_reader::{Fault, hash_at, size_at, u32_at};
+use wire_read::{Fault, hash_at, size_at, u32_at};
 use tx_reader::read_tx;
 
 /// The bytes after a transaction.
@@ -42,7 +42,7 @@ fn behind_branch<'a>(bytes: &'a [u8]) -> Result<&'a [u8], Fault<'a>>
 }
 
 /// The bytes after the merge-mining part.
-#[tactic(auto, unfolding(full_grammar::specs::Reading::merge_part_from))]
+#[tactic(auto, unfolding(block_grammar::specs::Reading::merge_part_from))]
 fn behind_part<'a>(bytes: &'a [u8]) -> Result<&'a [u8], Fault<'a>>
     ensures { seen_rest (λ rest. rest.now) result ≡ rest_read (merge_part_from bytes.now) }
 {
@@ -67,7 +67,7 @@ pub(crate) fn is_merged(version: u32) -> bool
 }
 
 /// The bytes after the merge-mining part, where the version says that there is one.
-#[tactic(auto, unfolding(full_grammar::specs::Reading::merged_from))]
+#[tactic(auto, unfolding(block_grammar::specs::Reading::merged_from))]
 pub(crate) fn behind_merged<'a>(version: u32, bytes: &'a [u8]) -> Result<&'a [u8], Fault<'a>>
     ensures { seen_rest (λ rest. rest.now) result ≡ rest_read (merged_from version bytes.now) }
 {

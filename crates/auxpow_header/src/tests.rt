@@ -1,5 +1,5 @@
 use super::*;
-use full_grammar::TxKind;
+use block_grammar::TxKind;
 use nmc_base::Hash32;
 use std::test::Fail;
 use tx_reader::TxFault;

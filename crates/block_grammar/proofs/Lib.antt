@@ -1,5 +1,11 @@
 pub mod Readers
 pub mod Sizes
-pub mod Transactions
-pub mod Fronts
-pub mod Blocks
+pub mod ReaderLaws
+pub mod FieldLaws
+pub mod TransactionLaws
+pub mod BodyLaws
+pub mod PlaceLaws
+pub mod HeaderLaws
+pub mod BlockLaws
+pub mod MerkleLaws
+pub mod Statements

@@ -1,11 +1,11 @@
--- The laws of readers: what is read is spelled so and fits, and what fits is read, whatever follows.
+-- Readers that give a value or None: what is read is spelled so and fits, and what fits is read, whatever follows.
 use Rattle.std.proofs.Common.{◌≡◌, ℕ, zero, suc, ◌+◌, ◌<◌, ◌≤◌, ◌^◌, Bool, true, false, cond, ltb, List, [], ◌∷◌, ◌++◌, length, get_or, take, drop, Option, Some, None, refl, sym, ap, subst, ◌∙◌, append_assoc, arith, inl, inr}
 use Rattle.std.specs.List.{flat_map, AllByRecursion}
 use Rattle.std.specs.Int.{Width, w16, w32, w64, byte_len, from_le_bytes, to_le_bytes}
 use Rattle.std.proofs.lemmas.Bool.{cases_lt, ltb-false, le-ltb}
 use Rattle.std.proofs.lemmas.List.{take_at, drop_at, take-append-drop, length-append, length-take, get_or-drop, get_or-take, get_or_past}
 use Rattle.std.proofs.lemmas.Nat.{le_bytes_2, le_bytes_4, le_bytes_8, from_le_bytes-to_le_bytes_2, from_le_bytes-to_le_bytes_4, from_le_bytes-to_le_bytes_8}
-use Rattle.block_grammar.specs.Reading.{◌>>=◌, then_at, map_at, many_at, number_at, piece_at}
+use Rattle.block_grammar.specs.Fields.{◌>>=◌, number_at, piece_at}
 
 abbrev pub IsBytes : List ℕ → Type 0
 IsBytes bytes = (i : ℕ) → get_or bytes i 0 < 256
@@ -46,78 +46,6 @@ pub record Took {A : Type 0} (text : A → List ℕ) (Fits : A → Type 0) (byte
 pub record Reads {A : Type 0} (text : A → List ℕ) (Fits : A → Type 0) (read : List ℕ → Option (A × List ℕ)) : Type 0 where
   pub takes : (bytes : List ℕ) (x : A × List ℕ) → IsBytes bytes → read bytes ≡ Some x → Took text Fits bytes x
   pub again : (x : A) (rest : List ℕ) → Fits x → read (text x ++ rest) ≡ Some (x, rest)
-
--- ---- one value, and then another
-
-then_takes : {A B : Type 0} (text1 : A → List ℕ) (Fits1 : A → Type 0) (read1 : List ℕ → Option (A × List ℕ)) (text2 : B → List ℕ) (Fits2 : B → Type 0) (read2 : List ℕ → Option (B × List ℕ))
-    → Reads text1 Fits1 read1 → Reads text2 Fits2 read2 → (bytes : List ℕ) (z : (A × B) × List ℕ) → IsBytes bytes → then_at read1 read2 bytes ≡ Some z
-    → Took (λ (p : A × B). text1 p.0 ++ text2 p.1) (λ (p : A × B). Fits1 p.0 × Fits2 p.1) bytes z
-then_takes {A = A} {B = B} text1 Fits1 read1 text2 Fits2 read2 r1 r2 bytes z fits e =
-    let a = bind_some (read1 bytes) (λ (x : A × List ℕ). read2 x.1 >>= λ (y : B × List ℕ). Some ((x.0, y.0), y.1)) z e in
-    let b = bind_some (read2 a.0.1) (λ (y : B × List ℕ). Some ((a.0.0, y.0), y.1)) z a.2 in
-    let t1 = r1.takes bytes a.0 fits a.1 in
-    let t2 = r2.takes a.0.1 b.0 t1.rest_bytes b.1 in
-    let whole : bytes ≡ (text1 a.0.0 ++ text2 b.0.0) ++ b.0.1 = t1.parts ∙ ap (λ (t : List ℕ). text1 a.0.0 ++ t) t2.parts ∙ sym (append_assoc (text1 a.0.0) (text2 b.0.0) b.0.1) in
-    let made : (A × B) × List ℕ = ((a.0.0, b.0.0), b.0.1) in
-    subst (λ (y : (A × B) × List ℕ). Took (λ (p : A × B). text1 p.0 ++ text2 p.1) (λ (p : A × B). Fits1 p.0 × Fits2 p.1) bytes y) (some_is made z b.2)
-    (record { parts = whole; fits = (t1.fits, t2.fits); rest_bytes = t2.rest_bytes })
-
-pub then_reads : {A B : Type 0} (text1 : A → List ℕ) (Fits1 : A → Type 0) (read1 : List ℕ → Option (A × List ℕ)) (text2 : B → List ℕ) (Fits2 : B → Type 0) (read2 : List ℕ → Option (B × List ℕ))
-    → Reads text1 Fits1 read1 → Reads text2 Fits2 read2
-    → Reads (λ (p : A × B). text1 p.0 ++ text2 p.1) (λ (p : A × B). Fits1 p.0 × Fits2 p.1) (then_at read1 read2)
-then_reads text1 Fits1 read1 text2 Fits2 read2 r1 r2 = record {
-  takes = then_takes text1 Fits1 read1 text2 Fits2 read2 r1 r2;
-  again = λ p rest fits. rw (append_assoc (text1 p.0) (text2 p.1) rest, r1.again p.0 (text2 p.1 ++ rest) fits.0, r2.again p.1 rest fits.1) refl;
-}
-
--- ---- a value seen otherwise
-
-pub map_reads : {A B : Type 0} (f : A → B) (g : B → A) (text : A → List ℕ) (Fits : A → Type 0) (read : List ℕ → Option (A × List ℕ)) (text' : B → List ℕ) (Fits' : B → Type 0)
-    → ((y : B) → f (g y) ≡ y) → ((x : A) → text' (f x) ≡ text x) → ((x : A) → Fits x → Fits' (f x)) → ((y : B) → Fits' y → Fits (g y))
-    → Reads text Fits read → Reads text' Fits' (map_at f read)
-map_reads {A = A} {B = B} f g text Fits read text' Fits' back same to from r = record {
-  takes = λ bytes z fits e.
-      let a = bind_some (read bytes) (λ (x : A × List ℕ). Some (f x.0, x.1)) z e in
-      let t = r.takes bytes a.0 fits a.1 in
-      let made : B × List ℕ = (f a.0.0, a.0.1) in
-      subst (λ (y : B × List ℕ). Took text' Fits' bytes y) (some_is made z a.2)
-      (record { parts = rw (same a.0.0) t.parts; fits = to a.0.0 t.fits; rest_bytes = t.rest_bytes });
-  again = λ y rest fits.
-      let spelled : text' y ≡ text (g y) = ap text' (sym (back y)) ∙ same (g y) in
-      rw (spelled, r.again (g y) rest (from y fits), back y) refl;
-}
-
--- ---- many values
-
-many_takes : {A : Type 0} (text : A → List ℕ) (Fits : A → Type 0) (read : List ℕ → Option (A × List ℕ)) → Reads text Fits read
-    → (n : ℕ) (bytes : List ℕ) (z : List A × List ℕ) → IsBytes bytes → many_at read n bytes ≡ Some z
-    → Took (flat_map text) (λ (xs : List A). (length xs ≡ n) × AllByRecursion Fits xs) bytes z
-many_takes {A = A} text Fits read r zero bytes z fits e =
-    subst (λ (y : List A × List ℕ). Took (flat_map text) (λ (xs : List A). (length xs ≡ 0) × AllByRecursion Fits xs) bytes y) (some_is ([], bytes) z e)
-    (record { parts = refl; fits = (refl, tt); rest_bytes = fits })
-many_takes {A = A} text Fits read r (suc n) bytes z fits e =
-    let a = bind_some (read bytes) (λ (x : A × List ℕ). many_at read n x.1 >>= λ (xs : List A × List ℕ). Some (x.0 ∷ xs.0, xs.1)) z e in
-    let b = bind_some (many_at read n a.0.1) (λ (xs : List A × List ℕ). Some (a.0.0 ∷ xs.0, xs.1)) z a.2 in
-    let t1 = r.takes bytes a.0 fits a.1 in
-    let t2 = many_takes text Fits read r n a.0.1 b.0 t1.rest_bytes b.1 in
-    let whole : bytes ≡ (text a.0.0 ++ flat_map text b.0.0) ++ b.0.1 = t1.parts ∙ ap (λ (t : List ℕ). text a.0.0 ++ t) t2.parts ∙ sym (append_assoc (text a.0.0) (flat_map text b.0.0) b.0.1) in
-    let made : List A × List ℕ = (a.0.0 ∷ b.0.0, b.0.1) in
-    subst (λ (y : List A × List ℕ). Took (flat_map text) (λ (xs : List A). (length xs ≡ suc n) × AllByRecursion Fits xs) bytes y) (some_is made z b.2)
-    (record { parts = whole; fits = (ap suc t2.fits.0, (t1.fits, t2.fits.1)); rest_bytes = t2.rest_bytes })
-
-many_again : {A : Type 0} (text : A → List ℕ) (Fits : A → Type 0) (read : List ℕ → Option (A × List ℕ)) → Reads text Fits read
-    → (xs : List A) (rest : List ℕ) → AllByRecursion Fits xs → many_at read (length xs) (flat_map text xs ++ rest) ≡ Some (xs, rest)
-many_again text Fits read r [] rest fits = refl
-many_again text Fits read r (x ∷ xs) rest fits =
-    let regrouped : flat_map text (x ∷ xs) ++ rest ≡ text x ++ (flat_map text xs ++ rest) = append_assoc (text x) (flat_map text xs) rest in
-    ap (many_at read (suc (length xs))) regrouped ∙ rw (r.again x (flat_map text xs ++ rest) fits.0, many_again text Fits read r xs rest fits.1) refl
-
-pub many_reads : {A : Type 0} (text : A → List ℕ) (Fits : A → Type 0) (read : List ℕ → Option (A × List ℕ)) → Reads text Fits read
-    → (n : ℕ) → Reads (flat_map text) (λ (xs : List A). (length xs ≡ n) × AllByRecursion Fits xs) (many_at read n)
-many_reads {A = A} text Fits read r n = record {
-  takes = many_takes text Fits read r n;
-  again = λ xs rest fits. rw (← fits.0) (many_again text Fits read r xs rest fits.1);
-}
 
 -- ---- so many bytes
 

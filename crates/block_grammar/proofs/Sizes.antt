@@ -1,12 +1,11 @@
--- Compact sizes, and what stands behind one: bytes, and lists.
+-- Compact sizes are read as they are spelled, whatever follows.
 use Rattle.std.proofs.Common.{◌≡◌, ℕ, suc, ◌<◌, ◌≤◌, ◌^◌, ◌⊎◌, Bool, true, false, cond, ltb, eqb, List, [], ◌∷◌, ◌++◌, length, Option, Some, None, refl, sym, ap, subst, ◌∙◌, append_assoc, arith, inl, inr}
 use Rattle.std.specs.List.{flat_map, AllByRecursion}
 use Rattle.std.specs.Int.{Width, w16, w32, w64, to_le_bytes}
 use Rattle.std.proofs.lemmas.Bool.{cases_lt, ltb-true, ltb-false, lt-ltb, le-ltb, eqb-true, eqb-false, ne_eqb}
-use Rattle.block_grammar.specs.CompactSize.{compact_size, counted}
-use Rattle.block_grammar.specs.Transaction.{counted_list}
-use Rattle.block_grammar.specs.Reading.{many_at, number_at, piece_at, at_least, compact_size_at, counted_at, list_at}
-use Rattle.block_grammar.proofs.Readers.{IsBytes, Took, Reads, IsWide, bind_some, some_is, number_reads, wide16, wide32, wide64, piece_reads, many_reads}
+use Rattle.block_grammar.specs.CompactSize.{compact_size, counted, counted_list}
+use Rattle.block_grammar.specs.Fields.{number_at, at_least, compact_size_at}
+use Rattle.block_grammar.proofs.Readers.{IsBytes, Took, Reads, IsWide, bind_some, some_is, number_reads, wide16, wide32, wide64}
 
 -- which way a test went
 chosen : {A : Type 0} (b : Bool) (x y z : A) → cond b x y ≡ z → ((b ≡ true) × (x ≡ z)) ⊎ ((b ≡ false) × (y ≡ z))
@@ -106,53 +105,3 @@ size_again n rest fits =
 
 pub size_reads : Reads compact_size (λ (n : ℕ). n < 2 ^ 64) compact_size_at
 size_reads = record { takes = size_takes; again = size_again }
-
--- ---- bytes behind their number
-
-pub counted_reads : Reads counted (λ (bytes : List ℕ). length bytes < 2 ^ 64) counted_at
-unfolding counted_at
-counted_reads = record {
-  takes = λ bytes z fits e.
-      let a = bind_some (compact_size_at bytes) (λ (n : ℕ × List ℕ). piece_at n.0 n.1) z e in
-      let t1 = size_reads.takes bytes a.0 fits a.1 in
-      let t2 = (piece_reads a.0.0).takes a.0.1 z t1.rest_bytes a.2 in
-      record {
-        parts = t1.parts ∙ ap (λ (t : List ℕ). compact_size a.0.0 ++ t) t2.parts ∙ rw (← t2.fits) (sym (append_assoc (compact_size (length z.0)) z.0 z.1));
-        fits = omega (arith, t1.fits, t2.fits);
-        rest_bytes = t2.rest_bytes;
-      };
-  again = λ bytes rest fits.
-      rw (append_assoc (compact_size (length bytes)) bytes rest, size_reads.again (length bytes) (bytes ++ rest) fits) ((piece_reads (length bytes)).again bytes rest refl);
-}
-
--- ---- lists behind their number
-
--- a list behind its number, which is at least 1
-pub record FitsList {A : Type 0} (Fits : A → Type 0) (xs : List A) : Type 0 where
-  pub some : 1 ≤ length xs
-  pub count : length xs < 2 ^ 64
-  pub items : AllByRecursion Fits xs
-
-none_some : {A : Type 0} (z : A) → None ≡ Some z → ⊥
-none_some z e = cc
-
-pub list_reads : {A : Type 0} (text : A → List ℕ) (Fits : A → Type 0) (read : List ℕ → Option (A × List ℕ)) → Reads text Fits read
-    → Reads (counted_list text) (FitsList Fits) (list_at read)
-list_reads {A = A} text Fits read r = record {
-  takes = λ bytes z fits e.
-      let a = bind_some (compact_size_at bytes) (λ (n : ℕ × List ℕ). cond (eqb n.0 0) None (many_at read n.0 n.1)) z e in
-      let t1 = size_reads.takes bytes a.0 fits a.1 in
-      elim (chosen (eqb a.0.0 0) None (many_at read a.0.0 a.0.1) (Some z) a.2) [
-        | inl w ↦ absurd (none_some z w.1)
-        | inr w ↦
-            let t2 = (many_reads text Fits read r a.0.0).takes a.0.1 z t1.rest_bytes w.1 in
-            record {
-              parts = t1.parts ∙ ap (λ (t : List ℕ). compact_size a.0.0 ++ t) t2.parts ∙ rw (← t2.fits.0) (sym (append_assoc (compact_size (length z.0)) (flat_map text z.0) z.1));
-              fits = record { some = omega (arith, t2.fits.0, eqb-false a.0.0 0 w.0); count = omega (arith, t1.fits, t2.fits.0); items = t2.fits.1 };
-              rest_bytes = t2.rest_bytes;
-            }
-      ];
-  again = λ xs rest fits.
-      let some : eqb (length xs) 0 ≡ false = ne_eqb (length xs) 0 (λ e. omega (arith, fits.some, e)) in
-      rw (append_assoc (compact_size (length xs)) (flat_map text xs) rest, size_reads.again (length xs) (flat_map text xs ++ rest) fits.count, some) ((many_reads text Fits read r (length xs)).again xs rest (refl, fits.items));
-}

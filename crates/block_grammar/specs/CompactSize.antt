@@ -1,5 +1,6 @@
--- Numbers and byte strings of Bitcoin's block format ("Variable length integer", "var_str").
+-- Numbers, byte strings and lists of Bitcoin's block format ("Variable length integer", "var_str").
 use Rattle.std.specs.Prelude.{◌≡◌, ℕ, ◌<◌, ◌^◌, List, [], ◌∷◌, ◌++◌, length, nat_lt, if◌then◌else◌}
+use Rattle.std.specs.List.{flat_map}
 use Rattle.std.specs.Int.{w16, w32, w64, to_le_bytes}
 
 -- A number below FD is one byte. Above it stand FD, FE or FF and 2, 4 or 8 bytes, low byte first, in the
@@ -19,3 +20,7 @@ pub record IsCompactSize (bytes : List ℕ) (n : ℕ) : Type 0 where
 -- bytes behind their number
 abbrev pub counted : List ℕ → List ℕ
 counted bytes = compact_size (length bytes) ++ bytes
+
+-- a list behind its number
+abbrev pub counted_list : {A : Type 0} → (A → List ℕ) → List A → List ℕ
+counted_list text items = compact_size (length items) ++ flat_map text items

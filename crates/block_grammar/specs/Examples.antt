@@ -1,5 +1,5 @@
 -- Small texts, written out.
-use Rattle.std.specs.Prelude.{ℕ, List, [], ◌∷◌, ◌++◌, replicate}
+use Rattle.std.specs.Prelude.{ℕ, List, [], ◌∷◌, ◌++◌, replicate, None}
 use Rattle.block_grammar.specs.Transaction.{Transaction}
 
 -- one input that spends nothing, and one output of 50 with the script OP_1
@@ -8,6 +8,7 @@ tiny_transaction = record {
   version = 1;
   inputs = record { txid = replicate 32 0; index = 0xFFFF_FFFF; script = []; sequence = 0xFFFF_FFFE } ∷ [];
   outputs = record { value = 50; script = 0x51 ∷ [] } ∷ [];
+  witness = None;
   lock_time = 0x0102;
 }
 

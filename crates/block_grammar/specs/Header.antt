@@ -1,35 +1,34 @@
--- Headers of Bitcoin's block format ("Block Headers"), 80 bytes, and the hash of a block.
-use Rattle.std.specs.Prelude.{◌≡◌, ℕ, ◌<◌, ◌^◌, List, ◌++◌, length, take, IsBitSet}
-use Rattle.std.specs.Int.{w32, to_le_bytes}
-use Rattle.sha2.specs.Sha256.{sha256}
+-- Headers of blocks: the 80 bytes, and the merge-mining part where their version says that there is one.
+use Rattle.std.specs.Prelude.{◌≡◌, ℕ, List, [], ◌++◌, Option, Some, None}
+use Rattle.block_grammar.specs.Hashes.{double_sha256}
+use Rattle.block_grammar.specs.PureHeader.{PureHeader, pure_header_text, FitsPureHeader, IsMerged}
+use Rattle.block_grammar.specs.MergePart.{MergePart, merge_part_text, FitsMergePart}
 
 pub record Header : Type 0 where
-  pub version : ℕ
-  pub previous : List ℕ
-  pub root : List ℕ
-  pub time : ℕ
-  pub bits : ℕ
-  pub nonce : ℕ
+  pub fields : PureHeader
+  pub merged : Option MergePart
+
+abbrev pub merged_text : Option MergePart → List ℕ
+merged_text None = []
+merged_text (Some m) = merge_part_text m
 
 unfoldable pub header_text : Header → List ℕ
-header_text h = to_le_bytes w32 h.version ++ (h.previous ++ (h.root ++ (to_le_bytes w32 h.time ++ (to_le_bytes w32 h.bits ++ to_le_bytes w32 h.nonce))))
+header_text h = pure_header_text h.fields ++ merged_text h.merged
+
+-- the part is there exactly where bit 0x100 of the version is set
+abbrev pub FitsMerged : ℕ → Option MergePart → Type 0
+FitsMerged version None = ¬ IsMerged version
+FitsMerged version (Some m) = IsMerged version × FitsMergePart m
 
 pub record FitsHeader (h : Header) : Type 0 where
-  pub version : h.version < 2 ^ 32
-  pub previous : length h.previous ≡ 32
-  pub root : length h.root ≡ 32
-  pub time : h.time < 2 ^ 32
-  pub bits : h.bits < 2 ^ 32
-  pub nonce : h.nonce < 2 ^ 32
+  pub fields : FitsPureHeader h.fields
+  pub merged : FitsMerged h.fields.version h.merged
 
--- Version bit 0x100 says that a merge-mining part follows the 80 bytes (Namecoin's merged mining, "auxpow").
-abbrev pub IsMerged : ℕ → Type 0
-IsMerged version = IsBitSet version 8
-
--- SHA-256 (FIPS 180-4) applied twice
-abbrev pub double_sha256 : List ℕ → List ℕ
-double_sha256 bytes = sha256 (sha256 bytes)
+-- the bytes are the header with its merge-mining part, all of them
+pub record IsHeader (bytes : List ℕ) (h : Header) : Type 0 where
+  pub fits : FitsHeader h
+  pub text : bytes ≡ header_text h
 
 -- the hash of a block, of the 80 bytes at its front
-abbrev pub block_hash : List ℕ → List ℕ
-block_hash block = double_sha256 (take 80 block)
+unfoldable pub header_hash : Header → List ℕ
+header_hash h = double_sha256 (pure_header_text h.fields)

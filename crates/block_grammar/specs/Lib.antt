@@ -1,7 +1,15 @@
 pub mod CompactSize
+pub mod Hashes
+pub mod Kinds
+pub mod Fields
+pub mod Witness
 pub mod Transaction
+pub mod PureHeader
+pub mod MergePart
 pub mod Header
 pub mod Block
-pub mod NotBuilt
+pub mod Merkle
+pub mod Fault
+pub mod Combinators
 pub mod Reading
 pub mod Examples

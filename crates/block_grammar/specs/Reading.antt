@@ -1,122 +1,153 @@
--- Reading from left to right: a value and the bytes after it, or None where the bytes begin with no such value.
-use Rattle.std.specs.Prelude.{ℕ, zero, suc, ◌^◌, Bool, ◌&&◌, ◌==◌, nat_lt, if◌then◌else◌, List, [], ◌∷◌, length, take, drop, slice_index, Option, Some, None}
+-- The readers of fields, transactions, headers and blocks.
+use Rattle.std.specs.Prelude.{ℕ, zero, suc, ◌-◌, ◌^◌, Bool, true, false, ◌||◌, ◌==◌, nat_lt, if◌then◌else◌, List, [], ◌∷◌, length, take, drop, Option, Some, None, Result, Ok, Err, bit_and}
 use Rattle.std.specs.Int.{Width, w16, w32, w64, byte_len, from_le_bytes}
 use Rattle.block_grammar.specs.Transaction.{TxInput, TxOutput, Transaction}
+use Rattle.block_grammar.specs.PureHeader.{PureHeader, pure_header_text, FitsPureHeader}
+use Rattle.block_grammar.specs.declared.kinds.TxKind.{TxKind}
+use Rattle.block_grammar.specs.declared.kinds.TxKind.TheVariants.{Cut, LongForm, BadFlag, NoInput, NoOutput, EmptyWitness}
+use Rattle.block_grammar.specs.declared.kinds.BlockKind.{BlockKind}
+use Rattle.block_grammar.specs.declared.kinds.BlockKind.TheVariants.{Header as in_header, Count as in_count, NoTransaction, Transaction as in_transaction, Trailing}
+use Rattle.block_grammar.specs.Witness.{has_item}
+use Rattle.block_grammar.specs.MergePart.{MergePart}
 use Rattle.block_grammar.specs.Header.{Header}
 use Rattle.block_grammar.specs.Block.{Block}
+use Rattle.block_grammar.specs.Combinators.{Reader, then_from, map_from, many_from, within, nonzero_from}
 
-infixl 10 ◌>>=◌
-abbrev pub ◌>>=◌ : {A B : Type 0} → Option A → (A → Option B) → Option B
-(Some x) >>= f = f x
-None >>= f = None
-
--- ---- readers made of readers
-
--- one value, and then another
-abbrev pub then_at : {A B : Type 0} → (List ℕ → Option (A × List ℕ)) → (List ℕ → Option (B × List ℕ)) → List ℕ → Option ((A × B) × List ℕ)
-then_at first second bytes = do
-  x ← first bytes
-  y ← second x.1
-  Some ((x.0, y.0), y.1)
-
-abbrev pub map_at : {A B : Type 0} → (A → B) → (List ℕ → Option (A × List ℕ)) → List ℕ → Option (B × List ℕ)
-map_at f read bytes = do
-  x ← read bytes
-  Some (f x.0, x.1)
-
--- as many values as the number says
-abbrev pub many_at : {A : Type 0} → (List ℕ → Option (A × List ℕ)) → ℕ → List ℕ → Option (List A × List ℕ)
-many_at read zero bytes = Some ([], bytes)
-many_at read (suc n) bytes = do
-  x ← read bytes
-  xs ← many_at read n x.1
-  Some (x.0 ∷ xs.0, xs.1)
-
--- ---- numbers and byte strings
+-- ---- fields
 
 -- a number of so many bits, low byte first
-abbrev pub number_at : Width → List ℕ → Option (ℕ × List ℕ)
-number_at w bytes = if nat_lt (length bytes) (byte_len w) then None else Some (from_le_bytes w (take (byte_len w) bytes), drop (byte_len w) bytes)
+abbrev pub number_from : Width → Reader TxKind ℕ
+number_from w bytes = if nat_lt (length bytes) (byte_len w) then Err (Cut, []) else Ok (from_le_bytes w (take (byte_len w) bytes), drop (byte_len w) bytes)
 
 -- so many bytes
-abbrev pub piece_at : ℕ → List ℕ → Option (List ℕ × List ℕ)
-piece_at n bytes = if nat_lt (length bytes) n then None else Some (take n bytes, drop n bytes)
+abbrev pub piece_from : ℕ → Reader TxKind (List ℕ)
+piece_from n bytes = if nat_lt (length bytes) n then Err (Cut, []) else Ok (take n bytes, drop n bytes)
 
--- a number that has no shorter form
-abbrev pub at_least : ℕ → Option (ℕ × List ℕ) → Option (ℕ × List ℕ)
-at_least least None = None
-at_least least (Some x) = if nat_lt x.0 least then None else Some x
+-- the number behind the mark of a compact size, which must have no shorter form
+abbrev pub marked_from : Width → ℕ → Reader TxKind ℕ
+marked_from w least bytes =
+    if nat_lt (length bytes) (byte_len w) then Err (Cut, [])
+    else (if nat_lt (from_le_bytes w (take (byte_len w) bytes)) least then Err (LongForm, drop (byte_len w - 1) bytes)
+    else Ok (from_le_bytes w (take (byte_len w) bytes), drop (byte_len w) bytes))
 
 -- a compact size of the shortest form
-unfoldable pub compact_size_at : List ℕ → Option (ℕ × List ℕ)
-compact_size_at [] = None
-compact_size_at (first ∷ rest) =
-    if nat_lt first 0xFD then Some (first, rest)
-    else (if first == 0xFD then at_least 0xFD (number_at w16 rest)
-    else (if first == 0xFE then at_least (2 ^ 16) (number_at w32 rest)
-    else at_least (2 ^ 32) (number_at w64 rest)))
+unfoldable pub size_from : Reader TxKind ℕ
+size_from [] = Err (Cut, [])
+size_from (first ∷ rest) =
+    if nat_lt first 0xFD then Ok (first, rest)
+    else (if first == 0xFD then marked_from w16 0xFD rest
+    else (if first == 0xFE then marked_from w32 (2 ^ 16) rest
+    else marked_from w64 (2 ^ 32) rest))
 
 -- bytes behind their number
-unfoldable pub counted_at : List ℕ → Option (List ℕ × List ℕ)
-counted_at bytes = do
-  n ← compact_size_at bytes
-  piece_at n.0 n.1
+unfoldable pub counted_from : Reader TxKind (List ℕ)
+counted_from = map_from (λ x. x.1) (then_from size_from piece_from)
+
+-- values behind their number
+abbrev pub list_from : {A : Type 0} → Reader TxKind A → Reader TxKind (List A)
+list_from read = map_from (λ x. x.1) (then_from size_from (many_from read))
 
 -- values behind their number, which is 1 at least
-abbrev pub list_at : {A : Type 0} → (List ℕ → Option (A × List ℕ)) → List ℕ → Option (List A × List ℕ)
-list_at read bytes = do
-  n ← compact_size_at bytes
-  if n.0 == 0 then None else many_at read n.0 n.1
+abbrev pub some_from : {A : Type 0} → TxKind → Reader TxKind A → Reader TxKind (List A)
+some_from kind read = map_from (λ x. x.1) (then_from (nonzero_from kind size_from) (many_from read))
 
 -- ---- transactions
 
-unfoldable pub input_at : List ℕ → Option (TxInput × List ℕ)
-input_at = map_at (λ x. record { txid = x.0; index = x.1.0; script = x.1.1.0; sequence = x.1.1.1 })
-    (then_at (piece_at 32) (then_at (number_at w32) (then_at counted_at (number_at w32))))
+unfoldable pub input_from : Reader TxKind TxInput
+input_from = map_from (λ x. record { txid = x.0; index = x.1.0; script = x.1.1.0; sequence = x.1.1.1 })
+    (then_from (piece_from 32) (λ _. then_from (number_from w32) (λ _. then_from counted_from (λ _. number_from w32))))
 
-unfoldable pub output_at : List ℕ → Option (TxOutput × List ℕ)
-output_at = map_at (λ x. record { value = x.0; script = x.1 }) (then_at (number_at w64) counted_at)
+unfoldable pub output_from : Reader TxKind TxOutput
+output_from = map_from (λ x. record { value = x.0; script = x.1 }) (then_from (number_from w64) (λ _. counted_from))
 
-unfoldable pub plain_transaction_at : List ℕ → Option (Transaction × List ℕ)
-plain_transaction_at = map_at (λ x. record { version = x.0; inputs = x.1.0; outputs = x.1.1.0; lock_time = x.1.1.1 })
-    (then_at (number_at w32) (then_at (list_at input_at) (then_at (list_at output_at) (number_at w32))))
+unfoldable pub stack_from : Reader TxKind (List (List ℕ))
+stack_from = list_from counted_from
 
--- five bytes are there, and the fifth is 00: the marker (BIP 144), where a plain transaction has its number of inputs
-abbrev pub has_marker : List ℕ → Bool
-has_marker bytes = nat_lt 4 (length bytes) && (slice_index bytes 4 == 0)
+-- the last list of a witness: it isn't empty where all before it are
+unfoldable pub last_stack_from : Bool → Reader TxKind (List (List ℕ))
+last_stack_from true = stack_from
+last_stack_from false = nonzero_from EmptyWitness stack_from
+
+-- so many lists and the last one; whether a list before them isn't empty
+unfoldable pub stacks_from : Bool → ℕ → Reader TxKind (List (List (List ℕ)))
+stacks_from some zero = map_from (λ x. x ∷ []) (last_stack_from some)
+stacks_from some (suc n) = map_from (λ x. x.0 ∷ x.1) (then_from stack_from (λ x. stacks_from (some || has_item x) n))
+
+-- what stands behind a transaction's version
+pub data Body : Type 0 where
+  plain_body : List TxInput → List TxOutput → ℕ → Body
+  flagged_body : List TxInput → List TxOutput → List (List (List ℕ)) → ℕ → Body
+
+unfoldable pub plain_body_from : Reader TxKind Body
+plain_body_from = map_from (λ x. plain_body x.0 x.1.0 x.1.1)
+    (then_from (some_from NoInput input_from) (λ _. then_from (some_from NoOutput output_from) (λ _. number_from w32)))
+
+unfoldable pub flagged_body_from : Reader TxKind Body
+flagged_body_from = map_from (λ x. flagged_body x.0 x.1.0 x.1.1.0 x.1.1.1)
+    (then_from (some_from NoInput input_from) (λ inputs. then_from (some_from NoOutput output_from) (λ _. then_from (stacks_from false (length inputs - 1)) (λ _. number_from w32))))
+
+-- behind the marker: the flag, and what it announces
+unfoldable pub flag_from : Reader TxKind Body
+flag_from [] = Err (Cut, [])
+flag_from (flag ∷ rest) = if flag == 1 then flagged_body_from rest else Err (BadFlag, flag ∷ rest)
+
+-- the marker stands where a plain transaction has its number of inputs
+unfoldable pub body_from : Reader TxKind Body
+body_from [] = Err (Cut, [])
+body_from (first ∷ rest) = if first == 0 then flag_from rest else plain_body_from (first ∷ rest)
+
+abbrev pub with_body : ℕ → Body → Transaction
+with_body version (plain_body inputs outputs lock_time) =
+    record { version = version; inputs = inputs; outputs = outputs; witness = None; lock_time = lock_time }
+with_body version (flagged_body inputs outputs stacks lock_time) =
+    record { version = version; inputs = inputs; outputs = outputs; witness = Some stacks; lock_time = lock_time }
+
+unfoldable pub transaction_from : Reader TxKind Transaction
+transaction_from = map_from (λ x. with_body x.0 x.1) (then_from (number_from w32) (λ _. body_from))
+
+-- ---- headers
+
+unfoldable pub fields_from : Reader TxKind PureHeader
+fields_from = map_from (λ x. record { version = x.0; previous = x.1.0; root = x.1.1.0; time = x.1.1.1.0; bits = x.1.1.1.1.0; nonce = x.1.1.1.1.1 })
+    (then_from (number_from w32) (λ _. then_from (piece_from 32) (λ _. then_from (piece_from 32) (λ _. then_from (number_from w32) (λ _. then_from (number_from w32) (λ _. number_from w32))))))
+
+unfoldable pub branch_from : Reader TxKind (List (List ℕ))
+branch_from = list_from (piece_from 32)
+
+unfoldable pub merge_part_from : Reader TxKind MergePart
+merge_part_from = map_from (λ x. record {
+  coinbase = x.0;
+  parent_hash = x.1.0;
+  coinbase_branch = x.1.1.0;
+  coinbase_index = x.1.1.1.0;
+  chain_branch = x.1.1.1.1.0;
+  chain_index = x.1.1.1.1.1.0;
+  parent = x.1.1.1.1.1.1;
+})
+    (then_from transaction_from (λ _. then_from (piece_from 32) (λ _. then_from branch_from (λ _. then_from (number_from w32) (λ _. then_from branch_from (λ _. then_from (number_from w32) (λ _. fields_from)))))))
+
+-- the merge-mining part, where the version has bit 0x100
+unfoldable pub merged_from : ℕ → Reader TxKind (Option MergePart)
+merged_from version bytes = if bit_and version 0x100 == 0 then Ok (None, bytes) else map_from (λ m. Some m) merge_part_from bytes
+
+unfoldable pub header_from : Reader TxKind Header
+header_from = map_from (λ x. record { fields = x.0; merged = x.1 }) (then_from fields_from (λ fields. merged_from fields.version))
 
 -- ---- blocks
 
-unfoldable pub header_at : List ℕ → Option (Header × List ℕ)
-header_at = map_at (λ x. record { version = x.0; previous = x.1.0; root = x.1.1.0; time = x.1.1.1.0; bits = x.1.1.1.1.0; nonce = x.1.1.1.1.1 })
-    (then_at (number_at w32) (then_at (piece_at 32) (then_at (piece_at 32) (then_at (number_at w32) (then_at (number_at w32) (number_at w32))))))
+unfoldable pub count_from : Reader BlockKind ℕ
+count_from = nonzero_from NoTransaction (within in_count size_from)
 
--- What stands at the front of bytes in which transactions follow each other: a value, with the bytes after it; or
--- whole transactions and then the marker; or neither.
-pub data Front (A : Type 0) : Type 0 where
-  is_read : A → List ℕ → Front A
-  is_marked : Front A
-  is_none : Front A
+-- the block at the front, whatever follows
+unfoldable pub block_front_from : Reader BlockKind Block
+block_front_from = map_from (λ x. record { header = x.0; transactions = x.1.1 })
+    (then_from (within in_header header_from) (λ _. then_from count_from (many_from (within in_transaction transaction_from))))
 
-abbrev pub front_of : {A : Type 0} → Option (A × List ℕ) → Front A
-front_of (Some x) = is_read x.0 x.1
-front_of None = is_none
+-- all bytes are the block
+abbrev pub ended : Result (Block × List ℕ) (BlockKind × List ℕ) → Result Block (BlockKind × List ℕ)
+ended (Ok (block, [])) = Ok block
+ended (Ok (block, byte ∷ rest)) = Err (Trailing, byte ∷ rest)
+ended (Err e) = Err e
 
-abbrev pub front_then : {A B : Type 0} → Front A → (A → List ℕ → Front B) → Front B
-front_then (is_read x rest) f = f x rest
-front_then is_marked f = is_marked
-front_then is_none f = is_none
-
-unfoldable pub transaction_front : List ℕ → Front Transaction
-transaction_front bytes = if has_marker bytes then is_marked else front_of (plain_transaction_at bytes)
-
-unfoldable pub transactions_front : ℕ → List ℕ → Front (List Transaction)
-transactions_front zero bytes = is_read [] bytes
-transactions_front (suc n) bytes = front_then (transaction_front bytes) (λ t rest. front_then (transactions_front n rest) (λ ts more. is_read (t ∷ ts) more))
-
--- header, number of transactions and transactions, whatever the header's version says
-unfoldable pub block_front : List ℕ → Front Block
-block_front bytes = front_then (front_of (header_at bytes)) (λ header rest.
-    front_then (front_of (compact_size_at rest)) (λ count more.
-    if count == 0 then is_none
-    else front_then (transactions_front count more) (λ ts after. is_read (record { header = header; transactions = ts }) after)))
+unfoldable pub block_from : List ℕ → Result Block (BlockKind × List ℕ)
+block_from bytes = ended (block_front_from bytes)

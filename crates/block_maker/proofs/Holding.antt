@@ -3,11 +3,11 @@ use Rattle.std.proofs.Common.{◌≡◌, ℕ, List, [], ◌∷◌, ◌++◌, len
 use Rattle.std.proofs.lemmas.List.{length-append}
 use Rattle.sha2.specs.Sha256.{sha256}
 use Rattle.sha2.proofs.Facts256.{length-sha256}
-use Rattle.block_grammar.specs.Header.{double_sha256}
-use Rattle.full_grammar.specs.Transaction.{Transaction, transaction_text, txid_of}
-use Rattle.full_grammar.specs.Block.{merkle_root_of}
-use Rattle.full_grammar.proofs.Roots.{one_root}
-use Rattle.full_grammar.proofs.Statements.{plain_stripped}
+use Rattle.block_grammar.specs.Hashes.{double_sha256}
+use Rattle.block_grammar.specs.Transaction.{Transaction, transaction_text, txid_of}
+use Rattle.block_grammar.specs.Merkle.{merkle_root_of}
+use Rattle.block_grammar.proofs.MerkleLaws.{one_root}
+use Rattle.block_grammar.proofs.Statements.{plain_stripped}
 use Rattle.block_maker.specs.declared.contents.Contents.{Contents}
 use Rattle.block_maker.specs.Generated.{Making, coinbase_at, name_transaction}
 use Rattle.block_maker.specs.Carried.{IsNameTransaction}

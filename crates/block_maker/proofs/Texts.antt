@@ -5,8 +5,7 @@ use Rattle.std.proofs.lemmas.Bool.{cases_lt, lt-ltb, le-ltb}
 use Rattle.std.proofs.lemmas.List.{length-append}
 use Rattle.nmc_base.specs.declared.hashes.OutPoint.{OutPoint}
 use Rattle.block_grammar.specs.CompactSize.{compact_size, counted}
-use Rattle.block_grammar.specs.Transaction.{TxInput, TxOutput, input_text, output_text}
-use Rattle.full_grammar.specs.Transaction.{transaction_text, FitsTransaction}
+use Rattle.block_grammar.specs.Transaction.{TxInput, TxOutput, input_text, output_text, transaction_text, FitsTransaction}
 use Rattle.block_maker.specs.Generated.{single_transaction}
 use Rattle.block_maker.specs.Pieces.{IsShortTransaction}
 

@@ -7,14 +7,14 @@ use Rattle.std.proofs.lemmas.Bool.{lt-ltb}
 use Rattle.std.proofs.lemmas.List.{length-append, drop_at}
 use Rattle.nmc_base.specs.declared.chain_ends.Tip.{Tip}
 use Rattle.block_grammar.specs.CompactSize.{compact_size}
-use Rattle.block_grammar.specs.Transaction.{input_text, output_text}
-use Rattle.block_grammar.specs.Header as plain
-use Rattle.full_grammar.specs.Transaction.{Transaction, transaction_text, txid_of}
-use Rattle.full_grammar.specs.Header as full
-use Rattle.full_grammar.specs.Block.{Block, block_text, IsBlock, merkle_root_of, block_root}
-use Rattle.full_grammar.specs.Reading.{block_from}
-use Rattle.full_grammar.proofs.Laws.{ok_is}
-use Rattle.full_grammar.proofs.Blocks.{block_again}
+use Rattle.block_grammar.specs.Transaction.{input_text, output_text, Transaction, transaction_text, txid_of}
+use Rattle.block_grammar.specs.PureHeader as plain
+use Rattle.block_grammar.specs.Header as full
+use Rattle.block_grammar.specs.Block.{Block, block_text, IsBlock}
+use Rattle.block_grammar.specs.Merkle.{merkle_root_of, block_root}
+use Rattle.block_grammar.specs.Reading.{block_from}
+use Rattle.block_grammar.proofs.ReaderLaws.{ok_is}
+use Rattle.block_grammar.proofs.BlockLaws.{block_again}
 use Rattle.block_maker.specs.declared.contents.Contents.{Contents}
 use Rattle.block_maker.specs.Generated.{Making, no_output, height_script, coinbase_at, name_transaction, generated_transactions, generated_header, generated_block}
 use Rattle.block_maker.proofs.Texts.{single_output, single_text}
@@ -30,10 +30,10 @@ unfolding compact_size
 one_byte n lt = rw (lt-ltb n 0xFD lt) refl
 
 -- the text of a block with a plain header and few transactions
-plain_block_text : (fields : plain.Header) (transactions : List Transaction) (count : ℕ) → length transactions ≡ count → count < 0xFD
-    → block_text (record { header = record { fields = fields; merged = None }; transactions = transactions }) ≡ plain.header_text fields ++ (count ∷ flat_map transaction_text transactions)
+plain_block_text : (fields : plain.PureHeader) (transactions : List Transaction) (count : ℕ) → length transactions ≡ count → count < 0xFD
+    → block_text (record { header = record { fields = fields; merged = None }; transactions = transactions }) ≡ plain.pure_header_text fields ++ (count ∷ flat_map transaction_text transactions)
 unfolding block_text full.header_text
-plain_block_text fields transactions count is lt = rw (append-nil (plain.header_text fields), is, one_byte count lt) refl
+plain_block_text fields transactions count is lt = rw (append-nil (plain.pure_header_text fields), is, one_byte count lt) refl
 
 header_fits : (previous : Tip) (root : List ℕ) → previous.height ≤ 1999999999 → length previous.hash.0 ≡ 32 → length root ≡ 32
     → full.FitsHeader (record { fields = generated_header previous root; merged = None })
@@ -49,7 +49,7 @@ whole_is bytes previous making contents height holds put =
     let transactions = generated_transactions (previous.height + 1) making in
     let root = merkle_root_of (map txid_of transactions) in
     let len : length root ≡ 32 = ap length (sym holds.root) ∙ holds.root_length in
-    let text : plain.header_text (generated_header previous contents.root.0) ++ (contents.count ∷ contents.text) ≡ plain.header_text (generated_header previous root) ++ (contents.count ∷ flat_map transaction_text transactions) =
+    let text : plain.pure_header_text (generated_header previous contents.root.0) ++ (contents.count ∷ contents.text) ≡ plain.pure_header_text (generated_header previous root) ++ (contents.count ∷ flat_map transaction_text transactions) =
     rw (holds.root, holds.text) refl in
     record {
       fits = record {
@@ -65,8 +65,8 @@ pub whole_again : (bytes : List ℕ) (previous : Tip) (making : Option Making) (
     → block_from bytes ≡ Ok (generated_block previous making)
 whole_again bytes previous making contents height holds put = block_again bytes (generated_block previous making) (whole_is bytes previous making contents height holds put)
 
-header_length : (previous : Tip) (root : List ℕ) → length previous.hash.0 ≡ 32 → length root ≡ 32 → length (plain.header_text (generated_header previous root)) ≡ 80
-unfolding plain.header_text
+header_length : (previous : Tip) (root : List ℕ) → length previous.hash.0 ≡ 32 → length root ≡ 32 → length (plain.pure_header_text (generated_header previous root)) ≡ 80
+unfolding plain.pure_header_text
 header_length previous root hash len =
     let time = to_le_bytes w32 (previous.height + 1) in
     let behind : List ℕ = time ++ (to_le_bytes w32 0x207F_FFFF ++ to_le_bytes w32 0) in
@@ -74,7 +74,7 @@ header_length previous root hash len =
 
 pub whole_short : (bytes : List ℕ) (previous : Tip) (making : Option Making) (contents : Contents) → Holds contents (previous.height + 1) making → IsPutTogether bytes previous contents → length bytes ≤ 8388608
 whole_short bytes previous making contents holds put =
-    omega (arith, ap length put.text, length-append (plain.header_text (generated_header previous contents.root.0)) (contents.count ∷ contents.text), header_length previous contents.root.0 put.previous_length holds.root_length, holds.short)
+    omega (arith, ap length put.text, length-append (plain.pure_header_text (generated_header previous contents.root.0)) (contents.count ∷ contents.text), header_length previous contents.root.0 put.previous_length holds.root_length, holds.short)
 
 generated_made : (previous : Tip) (making : Option Making) (contents : Contents) → Holds contents (previous.height + 1) making → IsMade (generated_block previous making) previous making
 unfolding generated_block block_root
@@ -132,7 +132,7 @@ pub whole_height : (bytes : List ℕ) (previous : Tip) (making : Option Making) 
     → slice_range bytes 123 128 ≡ height_script (previous.height + 1)
 whole_height bytes previous making contents holds put =
     let height = previous.height + 1 in
-    let header = plain.header_text (generated_header previous contents.root.0) in
+    let header = plain.pure_header_text (generated_header previous contents.root.0) in
     let h = first_text height making in
     let front : List ℕ = header ++ (contents.count ∷ h.front) in
     let parts : bytes ≡ front ++ (height_script height ++ h.more) =

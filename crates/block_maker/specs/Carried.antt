@@ -1,9 +1,8 @@
 -- What the transactions of a generated block carry, in Namecoin's terms.
 use Rattle.std.specs.Prelude.{◌≡◌, List, [], ◌∷◌, Option, Some, None}
-use Rattle.block_grammar.specs.Transaction.{TxInput, TxOutput}
-use Rattle.block_grammar.specs.NotBuilt.{name_version}
-use Rattle.full_grammar.specs.Transaction.{Transaction}
-use Rattle.full_grammar.specs.Block.{Block, block_root}
+use Rattle.block_grammar.specs.Transaction.{TxInput, TxOutput, name_version, Transaction}
+use Rattle.block_grammar.specs.Block.{Block}
+use Rattle.block_grammar.specs.Merkle.{block_root}
 use Rattle.name_script.specs.NameScript.{IsNameScript}
 use Rattle.nmc_base.specs.declared.chain_ends.Tip.{Tip}
 use Rattle.block_maker.specs.Generated.{Making}

@@ -1,10 +1,10 @@
 -- Generated blocks: small blocks, each standing on a tip, with one name operation or none.
 use Rattle.std.specs.Prelude.{ℕ, ◌+◌, List, [], ◌∷◌, map, replicate, Option, Some, None}
 use Rattle.std.specs.Int.{w32, to_le_bytes}
-use Rattle.block_grammar.specs.NotBuilt.{name_version}
-use Rattle.block_grammar.specs.Header as plain
-use Rattle.full_grammar.specs.Transaction.{Transaction, txid_of}
-use Rattle.full_grammar.specs.Block.{Block, merkle_root_of}
+use Rattle.block_grammar.specs.Transaction.{name_version, Transaction, txid_of}
+use Rattle.block_grammar.specs.PureHeader as plain
+use Rattle.block_grammar.specs.Block.{Block}
+use Rattle.block_grammar.specs.Merkle.{merkle_root_of}
 use Rattle.name_script.specs.NameScript.{NameOperation}
 use Rattle.nmc_base.specs.declared.hashes.OutPoint.{OutPoint}
 use Rattle.nmc_base.specs.declared.chain_ends.Tip.{Tip}
@@ -47,7 +47,7 @@ generated_transactions height None = coinbase_at height ∷ []
 generated_transactions height (Some making) = coinbase_at height ∷ name_transaction making ∷ []
 
 -- the header of a block on the tip with this root: its time is its height, and its target the easiest
-abbrev pub generated_header : Tip → List ℕ → plain.Header
+abbrev pub generated_header : Tip → List ℕ → plain.PureHeader
 generated_header previous root =
     record { version = 4; previous = previous.hash.0; root = root; time = previous.height + 1; bits = 0x207F_FFFF; nonce = 0 }
 

@@ -1,9 +1,9 @@
 -- The pieces of which a block is made, as the code holds them.
 use Rattle.std.specs.Prelude.{◌≡◌, ℕ, ◌≤◌, List, ◌∷◌, ◌++◌, length, map, Option}
 use Rattle.std.specs.List.{flat_map, AllByRecursion}
-use Rattle.block_grammar.specs.Header as plain
-use Rattle.full_grammar.specs.Transaction.{Transaction, transaction_text, FitsTransaction, IsTransaction, txid_of}
-use Rattle.full_grammar.specs.Block.{merkle_root_of}
+use Rattle.block_grammar.specs.PureHeader as plain
+use Rattle.block_grammar.specs.Transaction.{Transaction, transaction_text, FitsTransaction, IsTransaction, txid_of}
+use Rattle.block_grammar.specs.Merkle.{merkle_root_of}
 use Rattle.nmc_base.specs.declared.chain_ends.Tip.{Tip}
 use Rattle.block_maker.specs.declared.contents.Contents.{Contents}
 use Rattle.block_maker.specs.declared.transaction.Single.{Single}
@@ -32,5 +32,5 @@ pub record Holds (contents : Contents) (height : ℕ) (asked : Option Making) : 
 
 -- the bytes are a header with the contents' root, and the contents behind their number
 pub record IsPutTogether (bytes : List ℕ) (previous : Tip) (contents : Contents) : Type 0 where
-  pub text : bytes ≡ plain.header_text (generated_header previous contents.root.0) ++ (contents.count ∷ contents.text)
+  pub text : bytes ≡ plain.pure_header_text (generated_header previous contents.root.0) ++ (contents.count ∷ contents.text)
   pub previous_length : length previous.hash.0 ≡ 32

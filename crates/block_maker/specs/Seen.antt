@@ -1,7 +1,7 @@
 -- The operations of the code, as the definitions see them.
 use Rattle.std.specs.Prelude.{ℕ, ◌+◌, ◌≤◌, length, replicate, Option}
 use Rattle.std.specs.Option.{option_map}
-use Rattle.full_grammar.specs.Block.{Block}
+use Rattle.block_grammar.specs.Block.{Block}
 use Rattle.name_script.specs.NameScript.{NameOperation, name_new, name_firstupdate, name_update}
 use Rattle.nmc_base.specs.declared.hashes.OutPoint.{OutPoint}
 use Rattle.nmc_base.specs.declared.chain_ends.Tip.{Tip}

@@ -2,7 +2,7 @@
 
 ghost use Rattle.std.specs.Prelude.{◌≡◌, ◌++◌, Some, None, IfOk, IfSome};
 ghost use Rattle.std.specs.Option.{option_copied};
-ghost use Rattle.block_grammar.specs.Header.{double_sha256};
+ghost use Rattle.block_grammar.specs.Hashes.{double_sha256};
 ghost use Rattle.block_maker.specs.Seen.{making_at, asked_at, HasShortParts};
 ghost use Rattle.block_maker.specs.Pieces.{Holds};
 

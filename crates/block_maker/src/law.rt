@@ -1,7 +1,7 @@
 //! Laws of the definitions. Each is the contract of a function that does nothing.
 
 ghost use Rattle.std.specs.Prelude.{◌≡◌, ◌≤◌, List, ℕ, length, Option, Some};
-ghost use Rattle.full_grammar.specs.Block.{block_root};
+ghost use Rattle.block_grammar.specs.Merkle.{block_root};
 ghost use Rattle.name_script.specs.NameScript.{NameOperation, IsNameScript, IsPush};
 ghost use Rattle.name_script.specs.Reading.{name_op};
 ghost use Rattle.nmc_base.specs.declared.chain_ends.Tip.{Tip};

@@ -1,9 +1,9 @@
 ghost use Rattle.std.specs.Prelude.{◌≡◌, ◌+◌, ◌≤◌, length, slice_range, Ok, IfOk, IfSome};
 ghost use Rattle.std.specs.Option.{option_copied};
-ghost use Rattle.block_grammar.specs.Header as plain;
-ghost use Rattle.full_grammar.specs.Block.{IsBlock};
-ghost use Rattle.full_grammar.specs.Block as full;
-ghost use Rattle.full_grammar.specs.Reading.{block_from};
+ghost use Rattle.block_grammar.specs.PureHeader as plain;
+ghost use Rattle.block_grammar.specs.Block.{IsBlock};
+ghost use Rattle.block_grammar.specs.Block as full;
+ghost use Rattle.block_grammar.specs.Reading.{block_from};
 ghost use Rattle.block_maker.specs.Generated.{height_script, generated_header};
 ghost use Rattle.block_maker.specs.Carried.{IsMade};
 ghost use Rattle.block_maker.specs.Seen.{asked_on, block_on, HasShortParts};
@@ -27,7 +27,7 @@ pub struct Maker;
 /// The header of a block with this root on the tip: 80 bytes.
 fn header_in(alloc: Global, previous: Tip, root: Hash32) -> Result<Bytes, NoMemory>
     requires { previous.height ≤ 1999999999 }
-    ensures { IfOk result (λ text. text ≡ plain.header_text (generated_header previous root.0)) }
+    ensures { IfOk result (λ text. text ≡ plain.pure_header_text (generated_header previous root.0)) }
 {
     let mut text = Bytes::copy_of(alloc, &VERSION.to_le_bytes())?;
     text.extend(&previous.hash.0)?;

@@ -3,14 +3,14 @@ use Rattle.std.proofs.Common.{◌≡◌, ℕ, ◌+◌, ◌-◌, ◌≤◌, List,
 use Rattle.std.specs.Prelude.{Result, Ok, Err}
 use Rattle.std.proofs.lemmas.List.{drop_at, length-append}
 use Rattle.block_grammar.proofs.Readers.{IsBytes}
-use Rattle.full_grammar.specs.declared.kinds.BlockKind.{BlockKind}
-use Rattle.full_grammar.specs.declared.kinds.BlockKind.TheVariants.{Trailing}
-use Rattle.full_grammar.specs.Block.{Block, block_text, IsBlock}
-use Rattle.full_grammar.specs.Fault.{IsFaultPlace}
-use Rattle.full_grammar.specs.Reading.{block_front_from, ended, block_from}
-use Rattle.full_grammar.proofs.Laws.{ok_is, err_is}
-use Rattle.full_grammar.proofs.Blocks.{BlockSpot, block_front_laws, block_again, block_cut, no_block}
-use Rattle.full_grammar.proofs.Statements.{fault_place}
+use Rattle.block_grammar.specs.declared.kinds.BlockKind.{BlockKind}
+use Rattle.block_grammar.specs.declared.kinds.BlockKind.TheVariants.{Trailing}
+use Rattle.block_grammar.specs.Block.{Block, block_text, IsBlock}
+use Rattle.block_grammar.specs.Fault.{IsFaultPlace}
+use Rattle.block_grammar.specs.Reading.{block_front_from, ended, block_from}
+use Rattle.block_grammar.proofs.ReaderLaws.{ok_is, err_is}
+use Rattle.block_grammar.proofs.BlockLaws.{BlockSpot, block_front_laws, block_again, block_cut, no_block}
+use Rattle.block_grammar.proofs.Statements.{fault_place}
 use Rattle.block_reader.specs.Whole.{IsFault}
 
 -- the bytes end with those from the place on

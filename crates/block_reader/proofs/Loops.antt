@@ -5,16 +5,16 @@ use Rattle.std.specs.List.{flat_map}
 use Rattle.std.proofs.lemmas.List.{length-append}
 use Rattle.block_grammar.specs.CompactSize.{compact_size}
 use Rattle.block_grammar.proofs.Readers.{IsBytes}
-use Rattle.full_grammar.specs.declared.kinds.TxKind.{TxKind}
-use Rattle.full_grammar.specs.declared.kinds.BlockKind.{BlockKind}
-use Rattle.full_grammar.specs.declared.kinds.BlockKind.TheVariants.{Header as in_header, Transaction as in_transaction}
-use Rattle.full_grammar.specs.Transaction.{Transaction, transaction_text}
-use Rattle.full_grammar.specs.Header.{Header, header_text}
-use Rattle.full_grammar.specs.Block.{Block, block_text}
-use Rattle.full_grammar.specs.Combinators.{◌>>=◌, Reader, then_from, map_from, many_from, retold, within}
-use Rattle.full_grammar.specs.Reading.{transaction_from, header_from, count_from, block_front_from}
-use Rattle.full_grammar.proofs.Laws.{bind_ok, ok_is}
-use Rattle.full_grammar.proofs.Blocks.{BlockSpot, block_front_laws}
+use Rattle.block_grammar.specs.declared.kinds.TxKind.{TxKind}
+use Rattle.block_grammar.specs.declared.kinds.BlockKind.{BlockKind}
+use Rattle.block_grammar.specs.declared.kinds.BlockKind.TheVariants.{Header as in_header, Transaction as in_transaction}
+use Rattle.block_grammar.specs.Transaction.{Transaction, transaction_text}
+use Rattle.block_grammar.specs.Header.{Header, header_text}
+use Rattle.block_grammar.specs.Block.{Block, block_text}
+use Rattle.block_grammar.specs.Combinators.{◌>>=◌, Reader, then_from, map_from, many_from, retold, within}
+use Rattle.block_grammar.specs.Reading.{transaction_from, header_from, count_from, block_front_from}
+use Rattle.block_grammar.proofs.ReaderLaws.{bind_ok, ok_is}
+use Rattle.block_grammar.proofs.BlockLaws.{BlockSpot, block_front_laws}
 use Rattle.block_reader.specs.Seen.{rest_of, values_found, AreFound}
 
 pub rest_found : {A : Type 0} (r : Result (A × List ℕ) BlockSpot) (rest : List ℕ) → Ok rest ≡ rest_of r → (x : A) × (r ≡ Ok (x, rest))

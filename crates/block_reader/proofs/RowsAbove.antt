@@ -1,9 +1,9 @@
 -- Rows of a Merkle tree, as loops make them.
 use Rattle.std.proofs.Common.{◌≡◌, ℕ, suc, ◌≤◌, ◌<◌, List, [], ◌∷◌, ◌++◌, length, map, get_or, refl, sym, ap, ◌∙◌, append_assoc, append-nil, arith}
 use Rattle.nmc_base.specs.declared.hashes.Hash32.{Hash32}
-use Rattle.full_grammar.specs.Transaction.{Transaction, txid_of}
-use Rattle.full_grammar.specs.Block.{paired_row, merkle_root_of}
-use Rattle.full_grammar.proofs.Roots.{one_root, next_root}
+use Rattle.block_grammar.specs.Transaction.{Transaction, txid_of}
+use Rattle.block_grammar.specs.Merkle.{paired_row, merkle_root_of}
+use Rattle.block_grammar.proofs.MerkleLaws.{one_root, next_root}
 use Rattle.block_reader.specs.Rows.{seen_row}
 
 seen_more : (row : List Hash32) (h : Hash32) → seen_row (row ++ h ∷ []) ≡ seen_row row ++ h.0 ∷ []

@@ -1,6 +1,6 @@
 -- What was read, or the first fault, as the readers on lists give it.
 use Rattle.std.specs.Prelude.{ℕ, List, [], Option, Some, None, Result, Ok, Err}
-use Rattle.full_grammar.specs.declared.kinds.BlockKind.{BlockKind}
+use Rattle.block_grammar.specs.declared.kinds.BlockKind.{BlockKind}
 use Rattle.block_reader.specs.declared.parts.Stop.{Stop}
 
 abbrev pub stopped : {X A : Type 0} → (X → A × List ℕ) → Result X Stop → Result (A × List ℕ) (BlockKind × List ℕ)

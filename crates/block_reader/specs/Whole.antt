@@ -1,10 +1,10 @@
 -- The block that bytes are, and the fault where they are none.
 use Rattle.std.specs.Prelude.{◌≡◌, ℕ, ◌≤◌, ◌↔◌, List, length, drop, Result, Ok, Err, IsTrue}
-use Rattle.full_grammar.specs.declared.kinds.BlockKind.{BlockKind}
-use Rattle.full_grammar.specs.Kinds.{is_cut_block}
-use Rattle.full_grammar.specs.Block.{Block, IsBlock}
-use Rattle.full_grammar.specs.Fault.{IsFaultPlace}
-use Rattle.full_grammar.specs.Reading.{block_from}
+use Rattle.block_grammar.specs.declared.kinds.BlockKind.{BlockKind}
+use Rattle.block_grammar.specs.Kinds.{is_cut_block}
+use Rattle.block_grammar.specs.Block.{Block, IsBlock}
+use Rattle.block_grammar.specs.Fault.{IsFaultPlace}
+use Rattle.block_grammar.specs.Reading.{block_from}
 use Rattle.block_reader.specs.declared.parts.Stop.{Stop}
 use Rattle.block_reader.specs.declared.block.BlockFault.{BlockFault}
 

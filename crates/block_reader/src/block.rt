@@ -1,13 +1,13 @@
 ghost use Rattle.std.specs.Prelude.{◌≡◌, ◌≤◌, ◌+◌, length, Ok};
-ghost use Rattle.full_grammar.specs.Block as full;
-ghost use Rattle.full_grammar.specs.Reading.{block_front_from, block_from};
+ghost use Rattle.block_grammar.specs.Block as full;
+ghost use Rattle.block_grammar.specs.Reading.{block_front_from, block_from};
 ghost use Rattle.block_reader.specs.Seen.{stopped};
 ghost use Rattle.block_reader.specs.Whole.{told, IsRead, GivesBlock};
 
 use crate::parts::{Stop, behind_transactions, count_in, header_in};
 use crate::txs::Txs;
 use auxpow_header::Header;
-use full_grammar::BlockKind;
+use block_grammar::BlockKind;
 use std::marker::Model;
 
 /// Why bytes are no block.
@@ -28,7 +28,7 @@ pub struct Block<'a> {
 
 impl<'a> Model for Block<'a> {
     ghost use Rattle.std.specs.Prelude.{◌≡◌, ◌≤◌, length};
-    ghost use Rattle.full_grammar.specs.Block as full;
+    ghost use Rattle.block_grammar.specs.Block as full;
 
     ghost Value = { full.Block };
 
@@ -61,7 +61,7 @@ impl<'a> Block<'a> {
     }
 }
 
-#[tactic(auto, unfolding(full_grammar::specs::Reading::block_front_from))]
+#[tactic(auto, unfolding(block_grammar::specs::Reading::block_front_from))]
 fn front_in<'a>(bytes: &'a [u8]) -> Result<(Block<'a>, &'a [u8]), Stop<'a>>
     requires { length bytes.now ≤ 8388608 }
     ensures { stopped (λ x. (x.0, x.1.now)) result ≡ block_front_from bytes.now }
@@ -75,7 +75,7 @@ fn front_in<'a>(bytes: &'a [u8]) -> Result<(Block<'a>, &'a [u8]), Stop<'a>>
     Ok((block, after))
 }
 
-#[tactic(auto, unfolding(full_grammar::specs::Reading::block_from))]
+#[tactic(auto, unfolding(block_grammar::specs::Reading::block_from))]
 fn whole_in<'a>(bytes: &'a [u8]) -> Result<Block<'a>, Stop<'a>>
     requires { length bytes.now ≤ 8388608 }
     ensures { told result ≡ block_from bytes.now }

@@ -7,7 +7,7 @@ mod root;
 mod txs;
 
 pub use block::{Block, BlockFault, read_block};
-pub use full_grammar::BlockKind;
+pub use block_grammar::BlockKind;
 pub use root::merkle_root;
 pub use txs::Txs;
 

@@ -1,13 +1,13 @@
 //! The parts of a block, each with the first fault.
 
 ghost use Rattle.std.specs.Prelude.{◌≡◌};
-ghost use Rattle.full_grammar.specs.Combinators.{within, many_from};
-ghost use Rattle.full_grammar.specs.Reading.{transaction_from, header_from, count_from};
+ghost use Rattle.block_grammar.specs.Combinators.{within, many_from};
+ghost use Rattle.block_grammar.specs.Reading.{transaction_from, header_from, count_from};
 ghost use Rattle.block_reader.specs.Seen.{stopped, stopped_rest, rest_of};
 
 use auxpow_header::{Header, read_header};
-use field_reader::size_at;
-use full_grammar::BlockKind;
+use wire_read::size_at;
+use block_grammar::BlockKind;
 use tx_reader::read_tx;
 
 /// The first fault in a block, and the bytes from its place on.
@@ -30,7 +30,7 @@ pub(crate) fn header_in<'a>(bytes: &'a [u8]) -> Result<(Header<'a>, &'a [u8]), S
 }
 
 /// The number of transactions, which is 1 at least.
-#[tactic(auto, unfolding(full_grammar::specs::Reading::count_from))]
+#[tactic(auto, unfolding(block_grammar::specs::Reading::count_from))]
 pub(crate) fn count_in<'a>(bytes: &'a [u8]) -> Result<(u64, &'a [u8]), Stop<'a>>
     ensures { stopped (λ x. (x.0, x.1.now)) result ≡ count_from bytes.now }
 {

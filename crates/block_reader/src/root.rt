@@ -1,6 +1,6 @@
 ghost use Rattle.std.specs.Prelude.{◌≡◌, ◌≤◌, ◌++◌, ◌∷◌, [], map, length, IfOk};
-ghost use Rattle.full_grammar.specs.Transaction.{txid_of};
-ghost use Rattle.full_grammar.specs.Block.{paired_row, row_root, merkle_root_of, block_root};
+ghost use Rattle.block_grammar.specs.Transaction.{txid_of};
+ghost use Rattle.block_grammar.specs.Merkle.{paired_row, row_root, merkle_root_of, block_root};
 ghost use Rattle.block_reader.specs.Rows.{seen_row};
 
 use crate::block::Block;
@@ -48,7 +48,7 @@ fn row_above(alloc: Global, row: &[Hash32]) -> Result<Vec<Hash32>, NoMemory>
 }
 
 /// The Merkle root of the transactions' ids ("Merkle Trees").
-#[tactic(auto, unfolding(full_grammar::specs::Block::block_root))]
+#[tactic(auto, unfolding(block_grammar::specs::Merkle::block_root))]
 pub fn merkle_root(alloc: Global, block: &Block<'_>) -> Result<Hash32, NoMemory>
     ensures { IfOk result (λ root. root.0 ≡ block_root block.now) }
 {

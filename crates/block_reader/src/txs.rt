@@ -1,12 +1,12 @@
 ghost use Rattle.std.specs.Prelude.{◌≡◌};
 ghost use Rattle.std.specs.Option.{option_map};
 ghost use Rattle.std.specs.Iterator.{YieldsFirstBy, item_count};
-ghost use Rattle.full_grammar.specs.Combinators.{many_from};
-ghost use Rattle.full_grammar.specs.Reading.{transaction_from};
+ghost use Rattle.block_grammar.specs.Combinators.{many_from};
+ghost use Rattle.block_grammar.specs.Reading.{transaction_from};
 ghost use Rattle.block_reader.specs.Seen.{found_at};
 
 use std::marker::Model;
-use tx_reader::{FullTx, read_tx};
+use tx_reader::{Tx, read_tx};
 
 /// The transactions of a block that are still to come, in order. Contracts see them as a list.
 #[derive(Drop)]
@@ -18,9 +18,9 @@ pub struct Txs<'a> {
 
 impl<'a> Model for Txs<'a> {
     ghost use Rattle.std.specs.Prelude.{List};
-    ghost use Rattle.full_grammar.specs.Transaction.{Transaction};
-    ghost use Rattle.full_grammar.specs.Combinators.{many_from};
-    ghost use Rattle.full_grammar.specs.Reading.{transaction_from};
+    ghost use Rattle.block_grammar.specs.Transaction.{Transaction};
+    ghost use Rattle.block_grammar.specs.Combinators.{many_from};
+    ghost use Rattle.block_grammar.specs.Reading.{transaction_from};
     ghost use Rattle.block_reader.specs.Seen.{values_found, AreFound};
 
     ghost Value = { List Transaction };
@@ -42,7 +42,7 @@ impl<'a> Txs<'a> {
     }
 }
 
-fn tx_of<'a>(bytes: &'a [u8]) -> Option<(FullTx<'a>, &'a [u8])>
+fn tx_of<'a>(bytes: &'a [u8]) -> Option<(Tx<'a>, &'a [u8])>
     ensures { option_map (λ x. (x.0, x.1.now)) result ≡ found_at (transaction_from bytes.now) }
 {
     match read_tx(bytes) {
@@ -52,13 +52,13 @@ fn tx_of<'a>(bytes: &'a [u8]) -> Option<(FullTx<'a>, &'a [u8])>
 }
 
 impl<'a> Iterator for Txs<'a> {
-    type Item = FullTx<'a>;
+    type Item = Tx<'a>;
 
     ghost next_gives = { YieldsFirstBy (λ t. t) (λ s. s) };
 
     ghost remaining = { item_count (λ s. s) };
 
-    fn next(&mut self) -> Option<FullTx<'a>> {
+    fn next(&mut self) -> Option<Tx<'a>> {
         if self.count == 0 {
             return None;
         }

@@ -1,7 +1,8 @@
 -- When a block has a refusal, and when it has none.
 use Rattle.std.proofs.Common.{◌≡◌, ◌≢◌, ℕ, ◌<◌, ◌≤◌, List, Some, None, sym, ap, ◌∙◌, arith}
-use Rattle.full_grammar.specs.Block.{Block, IsBlock, block_root}
-use Rattle.full_grammar.specs.Fault.{IsFaultPlace}
+use Rattle.block_grammar.specs.Block.{Block, IsBlock}
+use Rattle.block_grammar.specs.Merkle.{block_root}
+use Rattle.block_grammar.specs.Fault.{IsFaultPlace}
 use Rattle.chain_names.specs.declared.refusal.RuleRefusal.{RuleRefusal}
 use Rattle.chain_names.specs.Changes.{Refused}
 use Rattle.nmc_base.specs.Heights.{highest}

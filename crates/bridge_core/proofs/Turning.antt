@@ -1,8 +1,8 @@
 -- A bridge makes one step of the machine.
 use Rattle.std.proofs.Common.{◌≡◌, ℕ, List, ◌++◌, refl, sym, ap, ◌∙◌, arith}
 use Rattle.std.specs.Int.{w32, to_le_bytes}
-use Rattle.full_grammar.specs.Block.{Block, IsBlock}
-use Rattle.full_grammar.specs.Fault.{IsFaultPlace}
+use Rattle.block_grammar.specs.Block.{Block, IsBlock}
+use Rattle.block_grammar.specs.Fault.{IsFaultPlace}
 use Rattle.chain_state.specs.Chain.{Indexed, SameIndex, StagedIndex, IsStagedOn, IsConnected}
 use Rattle.chain_state.specs.Stage.{IsRefusal}
 use Rattle.chain_state.specs.declared.stage.Refusal.{Refusal}

@@ -1,6 +1,6 @@
 -- What a bridge stands for, and what its turn does.
 use Rattle.std.specs.Prelude.{◌≡◌, ◌<◌}
-use Rattle.full_grammar.specs.Block.{Block}
+use Rattle.block_grammar.specs.Block.{Block}
 use Rattle.chain_state.specs.Chain.{Indexed}
 use Rattle.chain_laws.specs.Standing.{StandsForChain}
 use Rattle.nmc_base.specs.Heights.{highest}

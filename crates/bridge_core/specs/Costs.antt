@@ -1,6 +1,6 @@
 -- What a turn costs, in steps on the tables, where its command is accepted.
 use Rattle.std.specs.Prelude.{◌≡◌, ℕ, ◌+◌, ◌*◌, ◌≤◌, List, [], ◌∷◌, length}
-use Rattle.full_grammar.specs.Block.{Block, IsBlock}
+use Rattle.block_grammar.specs.Block.{Block, IsBlock}
 use Rattle.chain_names.specs.Undo.{UndoRecord}
 use Rattle.chain_state.specs.Cost.{touched_by}
 use Rattle.chain_state.specs.Chain.{Indexed}

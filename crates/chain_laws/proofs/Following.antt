@@ -1,9 +1,9 @@
 -- The index follows the chain.
 use Rattle.std.proofs.Common.{◌≡◌, ℕ, suc, ◌+◌, List, [], ◌∷◌, refl, sym, ap, subst, ◌∙◌, arith}
 use Rattle.std.specs.Prelude.{None}
-use Rattle.full_grammar.specs.Block.{Block, IsBlock}
-use Rattle.full_grammar.specs.Transaction.{Transaction}
-use Rattle.full_grammar.proofs.Blocks.{block_again}
+use Rattle.block_grammar.specs.Block.{Block, IsBlock}
+use Rattle.block_grammar.specs.Transaction.{Transaction}
+use Rattle.block_grammar.proofs.BlockLaws.{block_again}
 use Rattle.nmc_base.specs.declared.chain_ends.Base.{Base}
 use Rattle.nmc_base.specs.declared.chain_ends.Profile.{Profile}
 use Rattle.nmc_base.specs.declared.hashes.Hash32.{Hash32}

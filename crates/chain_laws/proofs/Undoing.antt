@@ -1,8 +1,9 @@
 -- Disconnecting undoes connecting, and connecting again redoes.
 use Rattle.std.proofs.Common.{◌≡◌, ℕ, List, ◌∷◌, sym, ap, ◌∙◌, arith}
 use Rattle.std.specs.Prelude.{Some, None, Result, Ok}
-use Rattle.full_grammar.specs.Block.{Block, IsBlock, block_root}
-use Rattle.full_grammar.proofs.Blocks.{block_again}
+use Rattle.block_grammar.specs.Block.{Block, IsBlock}
+use Rattle.block_grammar.specs.Merkle.{block_root}
+use Rattle.block_grammar.proofs.BlockLaws.{block_again}
 use Rattle.nmc_base.specs.declared.chain_ends.Base.{Base}
 use Rattle.nmc_base.specs.declared.chain_ends.Tip.{Tip}
 use Rattle.nmc_base.specs.declared.hashes.Hash32.{Hash32}

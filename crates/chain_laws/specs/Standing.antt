@@ -1,6 +1,7 @@
 -- The index stands for a chain of blocks on its base. Chains are lists, the newest block first.
 use Rattle.std.specs.Prelude.{◌≡◌, ℕ, ◌+◌, ◌<◌, List, [], ◌∷◌, length, None}
-use Rattle.full_grammar.specs.Block.{Block, IsBlock, block_root}
+use Rattle.block_grammar.specs.Block.{Block, IsBlock}
+use Rattle.block_grammar.specs.Merkle.{block_root}
 use Rattle.nmc_base.specs.declared.chain_ends.Base.{Base}
 use Rattle.chain_names.specs.Log.{behind_coinbase, transactions_in, log_of}
 use Rattle.chain_names.specs.Index.{index_maps, next_height, refused_in}

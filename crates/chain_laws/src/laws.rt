@@ -2,7 +2,7 @@
 //! `chain_state` ensure.
 
 ghost use Rattle.std.specs.Prelude.{◌≡◌, ℕ, List, [], ◌∷◌};
-ghost use Rattle.full_grammar.specs.Block.{Block, IsBlock};
+ghost use Rattle.block_grammar.specs.Block.{Block, IsBlock};
 ghost use Rattle.nmc_base.specs.declared.chain_ends.Base.{Base};
 ghost use Rattle.nmc_base.specs.declared.hashes.Hash32.{Hash32};
 ghost use Rattle.chain_state.specs.Chain.{Indexed, IsIndexed, IsAtBase, SameIndex, StagedIndex, IsStagedOn, IsConnected};

@@ -3,8 +3,7 @@ use Rattle.std.proofs.Common.{◌≡◌, ℕ, suc, ◌<◌, ◌≤◌, Bool, tru
 use Rattle.std.specs.Prelude.{Option, Some, None, ◌⊎◌}
 use Rattle.std.proofs.Common.{inl, inr}
 use Rattle.std.proofs.lemmas.Grind.{common_steps}
-use Rattle.full_grammar.specs.Transaction.{Transaction, txid_of}
-use Rattle.block_grammar.specs.Transaction.{TxInput, TxOutput}
+use Rattle.block_grammar.specs.Transaction.{Transaction, txid_of, TxInput, TxOutput}
 use Rattle.name_script.specs.NameScript.{NameOperation, name_new, name_firstupdate, name_update}
 use Rattle.name_script.specs.Reading.{name_op}
 use Rattle.nmc_base.specs.declared.hashes.OutPoint.{OutPoint}

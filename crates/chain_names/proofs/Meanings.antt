@@ -5,9 +5,7 @@ use Rattle.std.specs.Str.{bytes_eq}
 use Rattle.std.specs.Cmp.Lexicographic.{bytes_decides}
 use Rattle.std.proofs.lemmas.Bool.{not-false, true≢false}
 use Rattle.std.proofs.lemmas.Bool.Decides.{nat_tests}
-use Rattle.block_grammar.specs.NotBuilt.{name_version}
-use Rattle.block_grammar.specs.Transaction.{TxInput}
-use Rattle.full_grammar.specs.Transaction.{Transaction, txid_of}
+use Rattle.block_grammar.specs.Transaction.{name_version, TxInput, Transaction, txid_of}
 use Rattle.hash160.specs.Hash160.{hash160}
 use Rattle.name_script.specs.NameScript.{NameOperation, name_new, name_firstupdate, name_update}
 use Rattle.nmc_base.specs.declared.hashes.OutPoint.{OutPoint}

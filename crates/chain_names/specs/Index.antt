@@ -1,6 +1,6 @@
 -- The index of a chain: what its log says of coins and names, and which refusal a block's transactions have.
 use Rattle.std.specs.Prelude.{ℕ, suc, ◌+◌, List, [], ◌∷◌, length, Option, Some, None, if◌then◌else◌}
-use Rattle.full_grammar.specs.Transaction.{Transaction}
+use Rattle.block_grammar.specs.Transaction.{Transaction}
 use Rattle.nmc_base.specs.declared.chain_ends.Profile.{Profile}
 use Rattle.nmc_base.specs.Expiry.{is_expired}
 use Rattle.chain_names.specs.declared.coin.Item.{Item}

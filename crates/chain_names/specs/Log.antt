@@ -1,10 +1,9 @@
 -- The outpoint log of a chain: what its transactions spend, and the name outputs that they make. Nothing is ever taken
 -- from it. The newest event stands first.
 use Rattle.std.specs.Prelude.{ℕ, suc, ◌+◌, List, [], ◌∷◌, length, drop, Option, Some, None, Result, Ok, Err}
-use Rattle.block_grammar.specs.Transaction.{TxInput, TxOutput}
-use Rattle.full_grammar.specs.Transaction.{Transaction, txid_of}
-use Rattle.full_grammar.specs.Block.{Block}
-use Rattle.full_grammar.specs.Reading.{block_from}
+use Rattle.block_grammar.specs.Transaction.{TxInput, TxOutput, Transaction, txid_of}
+use Rattle.block_grammar.specs.Block.{Block}
+use Rattle.block_grammar.specs.Reading.{block_from}
 use Rattle.name_script.specs.NameScript.{NameOperation}
 use Rattle.name_script.specs.Reading.{name_op}
 use Rattle.nmc_base.specs.declared.hashes.OutPoint.{OutPoint}

@@ -2,9 +2,7 @@
 use Rattle.std.specs.Prelude.{ℕ, suc, ◌+◌, Bool, true, false, not, ◌&&◌, ◌==◌, nat_lt, List, [], ◌∷◌, ◌++◌, length, Option, Some, None, cond}
 use Rattle.std.specs.Option.{is_some}
 use Rattle.std.specs.Str.{bytes_eq}
-use Rattle.block_grammar.specs.NotBuilt.{name_version}
-use Rattle.block_grammar.specs.Transaction.{TxInput, TxOutput}
-use Rattle.full_grammar.specs.Transaction.{Transaction, txid_of}
+use Rattle.block_grammar.specs.Transaction.{name_version, TxInput, TxOutput, Transaction, txid_of}
 use Rattle.hash160.specs.Hash160.{hash160}
 use Rattle.name_script.specs.NameScript.{NameOperation, name_new, name_firstupdate, name_update}
 use Rattle.name_script.specs.Reading.{name_op}

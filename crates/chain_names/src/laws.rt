@@ -2,7 +2,7 @@
 
 ghost use Rattle.std.specs.Prelude.{◌≡◌, ℕ, suc, ◌+◌, ◌<◌, ◌≤◌, Bool, true, false, nat_eq, List, Option, Some, None, ◌∷◌};
 ghost use Rattle.std.specs.List.{list_any};
-ghost use Rattle.full_grammar.specs.Transaction.{Transaction};
+ghost use Rattle.block_grammar.specs.Transaction.{Transaction};
 ghost use Rattle.nmc_base.specs.declared.chain_ends.Profile.{Profile};
 ghost use Rattle.nmc_base.specs.declared.hashes.OutPoint.{OutPoint};
 ghost use Rattle.nmc_base.specs.Expiry.{expiry_depth, is_expired};

@@ -21,9 +21,10 @@ use Rattle.undo_laws.proofs.Beginning.{base_sound}
 use Rattle.undo_records.specs.Seen.{seen_undo}
 use Rattle.undo_records.specs.declared.undo.Undo.{Undo}
 use Rattle.chain_names.specs.Coins.{Maps, maps_of, unless_expired}
-use Rattle.full_grammar.specs.Transaction.{Transaction}
-use Rattle.full_grammar.specs.Block.{Block, block_root}
-use Rattle.full_grammar.specs.Header.{header_hash}
+use Rattle.block_grammar.specs.Transaction.{Transaction}
+use Rattle.block_grammar.specs.Block.{Block}
+use Rattle.block_grammar.specs.Merkle.{block_root}
+use Rattle.block_grammar.specs.Header.{header_hash}
 use Rattle.nmc_base.specs.declared.hashes.Hash32.{Hash32}
 use Rattle.chain_names.specs.Log.{behind_coinbase}
 use Rattle.chain_names.specs.Changes.{Refused as RefusedBy, without_expired, back_ops, undo_ops, after_all, after_block, first_refused}

@@ -5,7 +5,7 @@ use Rattle.std.specs.List.{list_any, IsDistinct}
 use Rattle.std.proofs.lemmas.List.Folds.{list_any-append}
 use Rattle.std.proofs.lemmas.List.{length-append}
 use Rattle.std.proofs.lemmas.Map.Made.{length-le_from_is_member}
-use Rattle.full_grammar.specs.Transaction.{Transaction}
+use Rattle.block_grammar.specs.Transaction.{Transaction}
 use Rattle.nmc_base.specs.declared.chain_ends.Profile.{Profile}
 use Rattle.nmc_base.specs.declared.hashes.OutPoint.{OutPoint}
 use Rattle.chain_names.specs.declared.coin.HeldCoin.{HeldCoin}
@@ -23,7 +23,7 @@ use Rattle.chain_state.specs.Work.{spends_at, may_be_empty_at}
 use Rattle.chain_state.specs.Block.{IsReady}
 use Rattle.chain_state.specs.Expiring.{Expires}
 use Rattle.undo_laws.specs.Expired.{is_held_at, points_of}
-use Rattle.full_grammar.specs.Block.{Block}
+use Rattle.block_grammar.specs.Block.{Block}
 use Rattle.nmc_base.specs.Roomy.{Roomy}
 use Rattle.chain_names.specs.Log.{behind_coinbase}
 use Rattle.chain_state.specs.Cost.{touched_by}

@@ -1,6 +1,6 @@
 -- What the transactions of a block did to the tables.
 use Rattle.std.specs.Prelude.{◌≡◌, ◌≢◌, ℕ, suc, ◌≤◌, ◌^◌, List, [], ◌++◌, length, Option, Some, None, Result, Ok, Err}
-use Rattle.full_grammar.specs.Transaction.{Transaction, txid_of}
+use Rattle.block_grammar.specs.Transaction.{Transaction, txid_of}
 use Rattle.nmc_base.specs.declared.chain_ends.Profile.{Profile}
 use Rattle.nmc_base.specs.declared.no_memory.NoMemory.{NoMemory}
 use Rattle.chain_names.specs.declared.refusal.RuleRefusal.{RuleRefusal}

@@ -1,7 +1,8 @@
 -- The index of a chain: its base and tip, what its tables say, and what undoes its blocks.
 use Rattle.std.specs.Prelude.{◌≡◌, ℕ, suc, ◌<◌, ◌≤◌, List, [], ◌∷◌, map, reverse, Option, None}
-use Rattle.full_grammar.specs.Block.{Block, block_root}
-use Rattle.full_grammar.specs.Header.{header_hash}
+use Rattle.block_grammar.specs.Block.{Block}
+use Rattle.block_grammar.specs.Merkle.{block_root}
+use Rattle.block_grammar.specs.Header.{header_hash}
 use Rattle.nmc_base.specs.Heights.{highest}
 use Rattle.nmc_base.specs.declared.chain_ends.Base.{Base}
 use Rattle.nmc_base.specs.declared.chain_ends.Tip.{Tip}

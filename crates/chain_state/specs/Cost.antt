@@ -1,7 +1,7 @@
 -- What a block costs, in steps on the tables.
 use Rattle.std.specs.Prelude.{ℕ, ◌+◌, ◌*◌, List, [], ◌∷◌, length, Option, Some, None, Result, Ok, Err}
-use Rattle.full_grammar.specs.Transaction.{Transaction}
-use Rattle.full_grammar.specs.Block.{Block}
+use Rattle.block_grammar.specs.Transaction.{Transaction}
+use Rattle.block_grammar.specs.Block.{Block}
 use Rattle.nmc_base.specs.declared.hashes.OutPoint.{OutPoint}
 use Rattle.chain_names.specs.declared.undo.UndoOp.{UndoOp}
 use Rattle.chain_names.specs.declared.undo.UndoOp.TheVariants.{New as undo_new, First as undo_first, Update as undo_update}

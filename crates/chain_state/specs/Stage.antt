@@ -1,6 +1,7 @@
 -- What staging a block answers.
 use Rattle.std.specs.Prelude.{◌≡◌, ◌≢◌, ℕ, ◌+◌, ◌*◌, ◌<◌, ◌≤◌, [], length, Some}
-use Rattle.full_grammar.specs.Block.{Block, block_root}
+use Rattle.block_grammar.specs.Block.{Block}
+use Rattle.block_grammar.specs.Merkle.{block_root}
 use Rattle.nmc_base.specs.Heights.{highest}
 use Rattle.chain_state.specs.Chain.{Indexed, SameIndex, StagedIndex, rule_refused, IsStagedOn}
 use Rattle.chain_state.specs.Cost.{touched_by}

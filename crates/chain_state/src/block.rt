@@ -12,14 +12,14 @@ use name_rules::{Verdict, check};
 use nmc_base::{NoMemory, OutPoint, Profile, Steps};
 use std::alloc::Global;
 use std::sync::ledger::Ledger;
-use tx_reader::{FullTx, txid};
+use tx_reader::{Tx, txid};
 
 impl Work {
     /// Does what a transaction does to names, or nothing where the rules refuse it or memory runs out.
     fn apply<L: Ledger>(
         &mut self,
         alloc: Global,
-        tx: &FullTx<'_>,
+        tx: &Tx<'_>,
         profile: Profile,
         steps: &mut Steps<L>,
     ) -> Result<Option<RuleRefusal>, NoMemory>

@@ -1,8 +1,9 @@
 -- What staging and connecting the bytes of a block answer.
 use Rattle.std.specs.Prelude.{◌≡◌, ℕ, suc, ◌<◌, List, None}
-use Rattle.full_grammar.specs.Block.{Block, IsBlock, block_root}
-use Rattle.full_grammar.specs.Fault.{IsFaultPlace}
-use Rattle.full_grammar.specs.Header.{header_hash}
+use Rattle.block_grammar.specs.Block.{Block, IsBlock}
+use Rattle.block_grammar.specs.Merkle.{block_root}
+use Rattle.block_grammar.specs.Fault.{IsFaultPlace}
+use Rattle.block_grammar.specs.Header.{header_hash}
 use Rattle.chain_names.specs.Log.{behind_coinbase}
 use Rattle.chain_names.specs.Changes.{after_block}
 use Rattle.chain_state.specs.Tables.{maps_by}

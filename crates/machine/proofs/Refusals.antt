@@ -2,10 +2,11 @@
 use Rattle.std.proofs.Common.{◌≡◌, ℕ, ◌+◌, ◌<◌, ◌≤◌, List, ◌++◌, take, drop, Some, refl, ap, ◌∙◌, sym, append_assoc, arith, inl, inr}
 use Rattle.std.proofs.lemmas.Bool.{cases_lt}
 use Rattle.std.proofs.lemmas.List.{take-take, take-append-drop}
-use Rattle.full_grammar.specs.Block.{Block, IsBlock, block_root, block_text, FitsBlock}
-use Rattle.full_grammar.specs.Fault.{IsFront, IsFirstFault, IsFaultPlace}
-use Rattle.full_grammar.proofs.Blocks.{BlockSpot, block_again}
-use Rattle.full_grammar.proofs.Laws.{ok_is}
+use Rattle.block_grammar.specs.Block.{Block, IsBlock, block_text, FitsBlock}
+use Rattle.block_grammar.specs.Merkle.{block_root}
+use Rattle.block_grammar.specs.Fault.{IsFront, IsFirstFault, IsFaultPlace}
+use Rattle.block_grammar.proofs.BlockLaws.{BlockSpot, block_again}
+use Rattle.block_grammar.proofs.ReaderLaws.{ok_is}
 use Rattle.chain_names.specs.Changes.{Refused}
 use Rattle.machine.specs.Chain.{Chain}
 use Rattle.machine.specs.Refusal.{Refusal, BadBlock, NotOnTip, HeightLimit, MerkleMismatch, Rule, NotTip, AtBase, refused_on, Holds, HoldsBack, order_of, Refuses, RefusesBack}

@@ -3,7 +3,7 @@ use Rattle.std.proofs.Common.{◌≡◌, true, false, eqb, ℕ, List, [], ◌∷
 use Rattle.chain_names.specs.declared.refusal.RuleRefusal.{RuleRefusal}
 use Rattle.chain_names.specs.declared.refusal.RuleRefusal.TheVariants.{MultipleNameInputs, MultipleNameOutputs, PlainWithNameInput, PlainWithNameOutput, NameWithoutOutput, Greedy, NewWithNameInput, NewWrongSize, UpdateWithoutInput, NameTooLong, ValueTooLong, UpdateOfNew, NameMismatch, FirstNotFromNew, Immature, RandTooLong, CommitMismatch, NameTaken, DuplicateOutpoint}
 use Rattle.chain_names.specs.Refusals.{number_of}
-use Rattle.block_grammar.specs.Header.{block_hash}
+use Rattle.block_grammar.specs.Block.{block_hash}
 use Rattle.machine.specs.Chain.{Chain, with_block}
 use Rattle.machine.specs.Event.{Event, Connect, Disconnect}
 use Rattle.machine.specs.Refusal.{Refusal, BadBlock, NotOnTip, HeightLimit, MerkleMismatch, Rule, NotTip, AtBase, HoldsBack, IsValid}

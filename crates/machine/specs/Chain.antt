@@ -1,6 +1,6 @@
 -- The chain of blocks that an index follows.
 use Rattle.std.specs.Prelude.{ℕ, ◌+◌, List, [], ◌∷◌, ◌++◌, length, drop, replicate}
-use Rattle.block_grammar.specs.Header.{block_hash}
+use Rattle.block_grammar.specs.Block.{block_hash}
 use Rattle.nmc_base.specs.declared.chain_ends.Base.{Base}
 use Rattle.nmc_base.specs.declared.chain_ends.Profile.TheVariants.{Regtest}
 

@@ -1,7 +1,8 @@
 -- When a command is refused, and with what.
 use Rattle.std.specs.Prelude.{◌≡◌, ◌≢◌, ℕ, ◌<◌, ◌≤◌, List, [], Option, Some}
-use Rattle.full_grammar.specs.Block.{Block, IsBlock, block_root}
-use Rattle.full_grammar.specs.Fault.{IsFaultPlace}
+use Rattle.block_grammar.specs.Block.{Block, IsBlock}
+use Rattle.block_grammar.specs.Merkle.{block_root}
+use Rattle.block_grammar.specs.Fault.{IsFaultPlace}
 use Rattle.chain_names.specs.declared.refusal.RuleRefusal.{RuleRefusal}
 use Rattle.chain_names.specs.Log.{behind_coinbase, log_of}
 use Rattle.chain_names.specs.Changes.{Refused}

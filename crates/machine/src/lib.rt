@@ -2,7 +2,7 @@
 #![tactic(auto)]
 
 ghost use Rattle.std.specs.Prelude.{◌≡◌, List, ◌∷◌, ℕ};
-ghost use Rattle.block_grammar.specs.Header.{block_hash};
+ghost use Rattle.block_grammar.specs.Block.{block_hash};
 ghost use Rattle.machine.specs.Chain.{Chain};
 ghost use Rattle.machine.specs.Event.{Event, Connect, Disconnect};
 ghost use Rattle.machine.specs.Refusal.{Refusal, Refuses, RefusesBack, IsValid};

@@ -1,8 +1,7 @@
 -- The verdict needs of the lists of name inputs and name outputs only the first item, and whether there are more.
 use Rattle.std.proofs.Common.{◌≡◌, ℕ, true, false, nat_lt, List, [], ◌∷◌, length, refl, sym, ◌∙◌, arith}
 use Rattle.std.proofs.lemmas.Bool.{lt-ltb}
-use Rattle.block_grammar.specs.Transaction.{TxInput, TxOutput}
-use Rattle.full_grammar.specs.Transaction.{Transaction, txid_of}
+use Rattle.block_grammar.specs.Transaction.{TxInput, TxOutput, Transaction, txid_of}
 use Rattle.nmc_base.specs.declared.chain_ends.Profile.{Profile}
 use Rattle.chain_names.specs.declared.coin.HeldCoin.{HeldCoin}
 use Rattle.chain_names.specs.declared.refusal.RuleRefusal.TheVariants.{MultipleNameInputs, MultipleNameOutputs}

@@ -1,5 +1,5 @@
 ghost use Rattle.std.specs.Prelude.{◌≡◌, ◌+◌, ◌≤◌, ◌^◌, [], length};
-ghost use Rattle.full_grammar.specs.Transaction.{txid_of};
+ghost use Rattle.block_grammar.specs.Transaction.{txid_of};
 ghost use Rattle.chain_names.specs.Verdict.{verdict};
 ghost use Rattle.chain_names.specs.Meaning.{Means};
 ghost use Rattle.name_rules.specs.Seen.{seen_verdict};
@@ -11,13 +11,13 @@ use crate::verdict::Verdict;
 use crate::view::NameView;
 use nmc_base::{Hash32, Profile, Steps};
 use std::sync::ledger::Ledger;
-use tx_reader::FullTx;
+use tx_reader::Tx;
 
 /// What a transaction in a block of this height is to the rules, or the first refusal in their order. The view is of what
 /// stands before the transaction, and `txid` is the transaction's own. It takes no memory.
 pub fn check<'a, V: NameView, L: Ledger>(
     view: &V,
-    tx: &FullTx<'a>,
+    tx: &Tx<'a>,
     txid: &Hash32,
     height: u32,
     profile: Profile,

@@ -2,7 +2,7 @@
 use Rattle.std.proofs.Common.{◌≡◌, ℕ, ◌⊎◌, ◌||◌, ◌↔◌, Bool, true, false, cond, eqb, List, [], ◌∷◌, ◌++◌, Option, Some, None, IsNone, refl, sym, ap, subst, ◌∙◌, append_assoc, inl, inr}
 use Rattle.std.specs.Option.{option_map}
 use Rattle.std.proofs.lemmas.Bool.{eqb-true}
-use Rattle.block_grammar.specs.Reading.{◌>>=◌}
+use Rattle.block_grammar.specs.Fields.{◌>>=◌}
 use Rattle.block_grammar.proofs.Readers.{IsBytes, bind_some, some_is}
 use Rattle.name_script.specs.NameScript.{NameOperation, name_new, name_firstupdate, name_update, opcode_of, pushed_by, IsPushThen, ArePushes, IsDrop, op_drop, op_2drop, op_nop, IsNameScript}
 use Rattle.name_script.specs.Reading.{push_at, begins_with_drop, dropped_at, new_at, firstupdate_at, update_at, name_op}

@@ -1,7 +1,7 @@
 -- Reading a name script from left to right.
 use Rattle.std.specs.Prelude.{ℕ, Bool, false, ◌||◌, ◌==◌, nat_le, if◌then◌else◌, List, [], ◌∷◌, Option, Some, None}
 use Rattle.std.specs.Int.{Width, w8, w16, w32}
-use Rattle.block_grammar.specs.Reading.{◌>>=◌, number_at, piece_at}
+use Rattle.block_grammar.specs.Fields.{◌>>=◌, number_at, piece_at}
 use Rattle.name_script.specs.NameScript.{NameOperation, name_new, name_firstupdate, name_update}
 
 -- bytes behind their number, low byte first

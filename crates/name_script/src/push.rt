@@ -3,7 +3,7 @@
 ghost use Rattle.std.specs.Prelude.{◌≡◌};
 ghost use Rattle.std.specs.Option.{option_map};
 ghost use Rattle.std.specs.Int.{w8, w16, w32};
-ghost use Rattle.block_grammar.specs.Reading.{number_at};
+ghost use Rattle.block_grammar.specs.Fields.{number_at};
 ghost use Rattle.name_script.specs.Reading.{push_at, begins_with_drop};
 
 /// The opcodes up to this one, OP_0 among them, push as many bytes as they say.

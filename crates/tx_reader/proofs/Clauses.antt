@@ -4,18 +4,18 @@ use Rattle.std.specs.Prelude.{Result, Ok, Err}
 use Rattle.std.specs.Int.{w32, to_le_bytes}
 use Rattle.std.proofs.lemmas.List.{drop_at, take-append-drop, append_cancel_right, length-drop}
 use Rattle.block_grammar.proofs.Readers.{IsBytes}
-use Rattle.full_grammar.specs.declared.kinds.TxKind.{TxKind}
-use Rattle.full_grammar.specs.declared.kinds.TxKind.TheVariants.{Cut, LongForm, BadFlag, NoInput, NoOutput, EmptyWitness}
-use Rattle.full_grammar.specs.Kinds.{is_cut}
-use Rattle.full_grammar.specs.Transaction.{Transaction, transaction_text, FitsTransaction}
-use Rattle.full_grammar.specs.Reading.{number_from, transaction_from}
-use Rattle.full_grammar.proofs.Laws.{ok_is, ok_err}
-use Rattle.full_grammar.proofs.Fields.{laws32}
-use Rattle.full_grammar.proofs.Bodies.{transaction_laws}
-use Rattle.full_grammar.proofs.Places.{is_place, cut_place}
-use Rattle.full_grammar.specs.Fault.{IsTransactionPlace}
-use Rattle.full_grammar.proofs.Statements.{transaction_place}
-use Rattle.tx_reader.specs.declared.full.TxFault.{TxFault}
+use Rattle.block_grammar.specs.declared.kinds.TxKind.{TxKind}
+use Rattle.block_grammar.specs.declared.kinds.TxKind.TheVariants.{Cut, LongForm, BadFlag, NoInput, NoOutput, EmptyWitness}
+use Rattle.block_grammar.specs.Kinds.{is_cut}
+use Rattle.block_grammar.specs.Transaction.{Transaction, transaction_text, FitsTransaction}
+use Rattle.block_grammar.specs.Reading.{number_from, transaction_from}
+use Rattle.block_grammar.proofs.ReaderLaws.{ok_is, ok_err}
+use Rattle.block_grammar.proofs.FieldLaws.{laws32}
+use Rattle.block_grammar.proofs.BodyLaws.{transaction_laws}
+use Rattle.block_grammar.proofs.PlaceLaws.{is_place, cut_place}
+use Rattle.block_grammar.specs.Fault.{IsTransactionPlace}
+use Rattle.block_grammar.proofs.Statements.{transaction_place}
+use Rattle.tx_reader.specs.declared.transaction.TxFault.{TxFault}
 use Rattle.tx_reader.specs.Front.{StandsFirst, IsFault, IsRead, GivesTransaction}
 
 pub version_parts : (bytes : List ℕ) (version : ℕ) (rest : List ℕ) → IsBytes bytes → Ok (version, rest) ≡ number_from w32 bytes → bytes ≡ to_le_bytes w32 version ++ rest

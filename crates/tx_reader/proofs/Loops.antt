@@ -1,6 +1,6 @@
 -- Reading values one after the other, as a loop does that keeps only the bytes after them.
 use Rattle.std.proofs.Common.{◌≡◌, ℕ, suc, ◌-◌, ◌+◌, ◌≤◌, ◌<◌, List, ◌∷◌, Option, Some, None, refl, sym, ◌∙◌, arith}
-use Rattle.block_grammar.specs.Reading.{◌>>=◌, many_at}
+use Rattle.block_grammar.specs.Fields.{◌>>=◌, many_at}
 use Rattle.tx_reader.specs.Parts.{rest_after}
 
 one_behind : {A : Type 0} (x : A) (read : Option (List A × List ℕ)) → rest_after (read >>= λ xs. Some (x ∷ xs.0, xs.1)) ≡ rest_after read

@@ -2,19 +2,19 @@
 use Rattle.std.proofs.Common.{◌≡◌, ℕ, suc, ◌-◌, ◌+◌, ◌≤◌, ◌<◌, ◌^◌, false, List, [], ◌∷◌, Option, Some, None, refl, sym, ap, ◌∙◌, arith}
 use Rattle.std.specs.Prelude.{Result, Ok, Err, IsSome}
 use Rattle.block_grammar.specs.Transaction.{input_text, output_text, FitsInput, FitsOutput}
-use Rattle.block_grammar.specs.Reading.{many_at, input_at, output_at}
+use Rattle.block_grammar.specs.Fields.{many_at}
+use Rattle.block_grammar.specs.Reading.{input_at, output_at, size_from, some_from, input_from, output_from}
 use Rattle.block_grammar.proofs.Readers.{IsBytes}
 use Rattle.block_grammar.proofs.Readers as old
 use Rattle.block_grammar.proofs.Transactions.{input_reads, output_reads}
-use Rattle.full_grammar.specs.declared.kinds.TxKind.{TxKind}
-use Rattle.full_grammar.specs.declared.kinds.TxKind.TheVariants.{NoInput, NoOutput}
-use Rattle.full_grammar.specs.Kinds.{is_cut}
-use Rattle.full_grammar.specs.Combinators.{Reader, then_from, map_from, many_from, nonzero_from}
-use Rattle.full_grammar.specs.Reading.{size_from, some_from, input_from, output_from}
-use Rattle.full_grammar.proofs.Laws as laws
+use Rattle.block_grammar.specs.declared.kinds.TxKind.{TxKind}
+use Rattle.block_grammar.specs.declared.kinds.TxKind.TheVariants.{NoInput, NoOutput}
+use Rattle.block_grammar.specs.Kinds.{is_cut}
+use Rattle.block_grammar.specs.Combinators.{Reader, then_from, map_from, many_from, nonzero_from}
+use Rattle.block_grammar.proofs.ReaderLaws as laws
 use Rattle.block_grammar.specs.CompactSize.{compact_size}
-use Rattle.full_grammar.proofs.Fields.{IsBelow, IsCount, size_laws, size_nonzero}
-use Rattle.full_grammar.proofs.Transactions.{input_laws, output_laws}
+use Rattle.block_grammar.proofs.FieldLaws.{IsBelow, IsCount, size_laws, size_nonzero}
+use Rattle.block_grammar.proofs.TransactionLaws.{input_laws, output_laws}
 use Rattle.tx_reader.specs.Parts.{values_of}
 use Rattle.tx_reader.specs.Rests.{rest_read}
 

@@ -2,11 +2,11 @@
 use Rattle.std.proofs.Common.{◌≡◌, ℕ, zero, suc, ◌-◌, ◌+◌, ◌≤◌, ◌<◌, Bool, false, not, ◌||◌, eqb, List, [], ◌∷◌, length, refl, sym, ap, ◌∙◌, arith}
 use Rattle.std.specs.Prelude.{Result, Ok, Err}
 use Rattle.std.proofs.lemmas.Bool.{ne_eqb}
-use Rattle.full_grammar.specs.declared.kinds.TxKind.{TxKind}
-use Rattle.full_grammar.specs.Transaction.{has_item}
-use Rattle.full_grammar.specs.Combinators.{◌>>=◌, Reader, then_from, map_from, many_from}
-use Rattle.full_grammar.specs.Reading.{size_from, counted_from, stack_from, last_stack_from, stacks_from}
-use Rattle.full_grammar.proofs.Laws.{bind_ok, ok_is}
+use Rattle.block_grammar.specs.declared.kinds.TxKind.{TxKind}
+use Rattle.block_grammar.specs.Witness.{has_item}
+use Rattle.block_grammar.specs.Combinators.{◌>>=◌, Reader, then_from, map_from, many_from}
+use Rattle.block_grammar.specs.Reading.{size_from, counted_from, stack_from, last_stack_from, stacks_from}
+use Rattle.block_grammar.proofs.ReaderLaws.{bind_ok, ok_is}
 use Rattle.tx_reader.specs.Rests.{rest_read, values_read}
 use Rattle.tx_reader.proofs.Many.{Spot, rest_found, list_known, list_failed, list_uncounted}
 

@@ -2,15 +2,15 @@
 use Rattle.std.proofs.Common.{◌≡◌, ℕ, zero, suc, ◌-◌, ◌≤◌, false, List, [], ◌∷◌, ◌++◌, length, take, Option, Some, None, refl, sym, ap, subst, ◌∙◌, append_assoc, append-nil, arith}
 use Rattle.std.specs.Prelude.{Ok, IsSome}
 use Rattle.std.specs.Int.{w32, to_le_bytes}
-use Rattle.block_grammar.specs.Transaction.{TxInput, TxOutput, input_text, output_text, counted_list, FitsInput, FitsOutput}
-use Rattle.block_grammar.specs.Reading.{◌>>=◌, many_at}
+use Rattle.block_grammar.specs.Transaction.{TxInput, TxOutput, input_text, output_text, FitsInput, FitsOutput, Transaction, stripped_text}
+use Rattle.block_grammar.specs.CompactSize.{counted_list}
+use Rattle.block_grammar.specs.Fields.{◌>>=◌, many_at}
 use Rattle.block_grammar.proofs.Readers.{IsBytes, bind_some, some_is}
-use Rattle.full_grammar.specs.declared.kinds.TxKind.TheVariants.{NoInput, NoOutput}
-use Rattle.full_grammar.specs.Transaction.{Transaction, stripped_text}
-use Rattle.full_grammar.specs.Reading.{number_from, some_from, input_from, output_from, stacks_from}
-use Rattle.full_grammar.proofs.Fields.{laws32, some_laws}
-use Rattle.full_grammar.proofs.Transactions.{input_laws, output_laws, stacks_laws}
-use Rattle.full_grammar.proofs.Places.{is_place}
+use Rattle.block_grammar.specs.declared.kinds.TxKind.TheVariants.{NoInput, NoOutput}
+use Rattle.block_grammar.specs.Reading.{number_from, some_from, input_from, output_from, stacks_from}
+use Rattle.block_grammar.proofs.FieldLaws.{laws32, some_laws}
+use Rattle.block_grammar.proofs.TransactionLaws.{input_laws, output_laws, stacks_laws}
+use Rattle.block_grammar.proofs.PlaceLaws.{is_place}
 use Rattle.tx_reader.specs.Parts.{values_of}
 
 -- ---- how many inputs there are

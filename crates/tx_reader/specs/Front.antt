@@ -1,11 +1,11 @@
 -- What stands at the front of the bytes, with its witness or without one; and the fault where no transaction does.
 use Rattle.std.specs.Prelude.{◌≡◌, ℕ, ◌≤◌, ◌↔◌, List, length, take, drop, Result, Ok, Err}
-use Rattle.full_grammar.specs.declared.kinds.TxKind.{TxKind}
-use Rattle.full_grammar.specs.declared.kinds.TxKind.TheVariants.{Cut}
-use Rattle.full_grammar.specs.Transaction.{Transaction, IsTransaction}
-use Rattle.full_grammar.specs.Fault.{IsTransactionPlace}
-use Rattle.full_grammar.specs.Reading.{transaction_from}
-use Rattle.tx_reader.specs.declared.full.TxFault.{TxFault}
+use Rattle.block_grammar.specs.declared.kinds.TxKind.{TxKind}
+use Rattle.block_grammar.specs.declared.kinds.TxKind.TheVariants.{Cut}
+use Rattle.block_grammar.specs.Transaction.{Transaction, IsTransaction}
+use Rattle.block_grammar.specs.Fault.{IsTransactionPlace}
+use Rattle.block_grammar.specs.Reading.{transaction_from}
+use Rattle.tx_reader.specs.declared.transaction.TxFault.{TxFault}
 
 -- the transaction takes the first n bytes
 pub record StandsFirst (bytes : List ℕ) (t : Transaction) (n : ℕ) : Type 0 where

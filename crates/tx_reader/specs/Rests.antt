@@ -1,7 +1,7 @@
 -- The bytes after what was read, or the first fault.
 use Rattle.std.specs.Prelude.{ℕ, List, [], Result, Ok, Err}
-use Rattle.full_grammar.specs.declared.kinds.TxKind.{TxKind}
-use Rattle.field_reader.specs.declared.fault.Fault.{Fault}
+use Rattle.block_grammar.specs.declared.kinds.TxKind.{TxKind}
+use Rattle.wire_read.specs.declared.fault.Fault.{Fault}
 
 abbrev pub seen_rest : {X : Type 0} → (X → List ℕ) → Result X Fault → Result (List ℕ) (TxKind × List ℕ)
 seen_rest view (Ok x) = Ok (view x)

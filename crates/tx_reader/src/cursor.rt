@@ -3,7 +3,7 @@
 ghost use Rattle.std.specs.Prelude.{◌≡◌, Some};
 ghost use Rattle.std.specs.Option.{option_map};
 ghost use Rattle.std.specs.Int.{w16, w32, w64};
-ghost use Rattle.block_grammar.specs.Reading.{number_at, piece_at, at_least, compact_size_at, counted_at};
+ghost use Rattle.block_grammar.specs.Fields.{number_at, piece_at, at_least, compact_size_at, counted_at};
 
 fn u16_at(bytes: &[u8]) -> Option<(u16, &[u8])>
     ensures { option_map (λ x. (x.0, x.1.now)) result ≡ number_at w16 bytes.now }
@@ -45,7 +45,7 @@ fn shortest(least: u64, number: u64, rest: &[u8]) -> Option<(u64, &[u8])>
 }
 
 /// A compact size, of the shortest form alone.
-#[tactic(auto, unfolding(block_grammar::specs::Reading::compact_size_at))]
+#[tactic(auto, unfolding(block_grammar::specs::Fields::compact_size_at))]
 pub(crate) fn compact_size(bytes: &[u8]) -> Option<(u64, &[u8])>
     ensures { option_map (λ x. (x.0, x.1.now)) result ≡ compact_size_at bytes.now }
 {
@@ -68,7 +68,7 @@ pub(crate) fn compact_size(bytes: &[u8]) -> Option<(u64, &[u8])>
 }
 
 /// Bytes behind their number.
-#[tactic(auto, unfolding(block_grammar::specs::Reading::counted_at))]
+#[tactic(auto, unfolding(block_grammar::specs::Fields::counted_at))]
 pub(crate) fn counted(bytes: &[u8]) -> Option<(&[u8], &[u8])>
     ensures { option_map (λ x. (x.0.now, x.1.now)) result ≡ counted_at bytes.now }
 {

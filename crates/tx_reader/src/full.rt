@@ -1,17 +1,17 @@
 ghost use Rattle.std.specs.Prelude.{◌≡◌, ℕ, ◌≤◌, ◌++◌, length, IfOk, Ok, Err};
 ghost use Rattle.std.specs.Int.{w32, to_le_bytes};
-ghost use Rattle.block_grammar.specs.Transaction.{input_text, output_text, counted_list};
-ghost use Rattle.full_grammar.specs.Transaction.{Transaction, txid_of};
-ghost use Rattle.full_grammar.specs.Combinators.{then_from, map_from};
-ghost use Rattle.full_grammar.specs.Reading.{some_from, input_from, output_from, plain_body_from, flagged_body_from, body_from, with_body, transaction_from};
-ghost use Rattle.field_reader.specs.Seen.{seen};
+ghost use Rattle.block_grammar.specs.Transaction.{input_text, output_text, Transaction, txid_of};
+ghost use Rattle.block_grammar.specs.CompactSize.{counted_list};
+ghost use Rattle.block_grammar.specs.Combinators.{then_from, map_from};
+ghost use Rattle.block_grammar.specs.Reading.{some_from, input_from, output_from, plain_body_from, flagged_body_from, body_from, with_body, transaction_from};
+ghost use Rattle.wire_read.specs.Seen.{seen};
 ghost use Rattle.tx_reader.specs.Front.{StandsFirst, IsRead, GivesTransaction};
 
 use crate::inputs::{Inputs, inputs_in};
 use crate::outputs::{Outputs, outputs_in};
 use crate::witness::{Witness, witness_in};
-use field_reader::{Fault, before, cut, u32_at};
-use full_grammar::TxKind;
+use wire_read::{Fault, before, cut, u32_at};
+use block_grammar::TxKind;
 use nmc_base::Hash32;
 use sha2::{Digest, Sha256};
 use std::marker::Model;
@@ -40,7 +40,7 @@ pub struct FullTx<'a> {
 
 impl<'a> Model for FullTx<'a> {
     ghost use Rattle.std.specs.Prelude.{◌≡◌, ◌++◌};
-    ghost use Rattle.full_grammar.specs.Transaction.{Transaction, stripped_text};
+    ghost use Rattle.block_grammar.specs.Transaction.{Transaction, stripped_text};
 
     ghost Value = { Transaction };
 
@@ -73,7 +73,7 @@ impl<'a> FullTx<'a> {
 }
 
 /// The transaction's id: the double SHA-256 of its text without marker, flag and witness. Each byte is hashed once.
-#[tactic(auto, unfolding(full_grammar::specs::Transaction::txid_of))]
+#[tactic(auto, unfolding(block_grammar::specs::Transaction::txid_of))]
 pub fn txid(tx: &FullTx<'_>) -> Hash32
     ensures { result.0 ≡ txid_of tx.now }
 {
@@ -113,7 +113,7 @@ fn puts_in<'a>(bytes: &'a [u8]) -> Result<(Puts<'a>, &'a [u8]), Fault<'a>>
 }
 
 /// What stands behind the version of a plain transaction. The version and all that follows it is `whole`.
-#[tactic(auto, unfolding(full_grammar::specs::Reading::plain_body_from))]
+#[tactic(auto, unfolding(block_grammar::specs::Reading::plain_body_from))]
 fn plain_in<'a>(
     version: u32,
     whole: &'a [u8],
@@ -139,7 +139,7 @@ fn plain_in<'a>(
 }
 
 /// What stands behind the flag of a transaction with a witness. The text of its version is `front`.
-#[tactic(auto, unfolding(full_grammar::specs::Reading::flagged_body_from))]
+#[tactic(auto, unfolding(block_grammar::specs::Reading::flagged_body_from))]
 fn flagged_in<'a>(
     version: u32,
     front: &'a [u8],
@@ -167,7 +167,7 @@ fn flagged_in<'a>(
 
 /// What stands behind the version: the marker 00 and the flag 01 of a witness, or the inputs of a plain transaction.
 /// The version and all that follows it is `whole`.
-#[tactic(auto, unfolding(full_grammar::specs::Reading::body_from, full_grammar::specs::Reading::flag_from))]
+#[tactic(auto, unfolding(block_grammar::specs::Reading::body_from, block_grammar::specs::Reading::flag_from))]
 fn body_in<'a>(
     version: u32,
     whole: &'a [u8],
@@ -187,7 +187,7 @@ fn body_in<'a>(
     }
 }
 
-#[tactic(auto, unfolding(full_grammar::specs::Reading::transaction_from))]
+#[tactic(auto, unfolding(block_grammar::specs::Reading::transaction_from))]
 fn transaction_in<'a>(bytes: &'a [u8]) -> Result<(FullTx<'a>, &'a [u8]), Fault<'a>>
     ensures { seen (λ x. (x.0, x.1.now)) result ≡ transaction_from bytes.now }
 {

@@ -1,19 +1,19 @@
 ghost use Rattle.std.specs.Prelude.{◌≡◌, length, Some, IsSome};
 ghost use Rattle.std.specs.Option.{option_map};
 ghost use Rattle.std.specs.Iterator.{YieldsFirstBy, item_count};
-ghost use Rattle.block_grammar.specs.Reading.{many_at, list_at, input_at};
+ghost use Rattle.block_grammar.specs.Fields.{many_at, list_at};
+ghost use Rattle.block_grammar.specs.Reading.{input_at, some_from, input_from};
 ghost use Rattle.tx_reader.specs.Parts.{rest_after};
 ghost use Rattle.tx_reader.specs.Fields.{seen_input};
-ghost use Rattle.full_grammar.specs.Combinators.{many_from};
-ghost use Rattle.full_grammar.specs.Reading.{some_from, input_from};
-ghost use Rattle.field_reader.specs.Seen.{seen};
+ghost use Rattle.block_grammar.specs.Combinators.{many_from};
+ghost use Rattle.wire_read.specs.Seen.{seen};
 ghost use Rattle.tx_reader.specs.Rests.{seen_rest, rest_read};
 
 use crate::cursor::{compact_size, counted, hash_at, u32_at};
-use field_reader::{
+use wire_read::{
     Fault, counted_at, hash_at as whole_hash_at, some_size_at, u32_at as whole_u32_at,
 };
-use full_grammar::TxKind;
+use block_grammar::TxKind;
 use nmc_base::{Hash32, OutPoint};
 use std::marker::Model;
 
@@ -38,7 +38,8 @@ pub struct Inputs<'a> {
 impl<'a> Model for Inputs<'a> {
     ghost use Rattle.std.specs.Prelude.{List, IsSome};
     ghost use Rattle.block_grammar.specs.Transaction.{TxInput};
-    ghost use Rattle.block_grammar.specs.Reading.{many_at, input_at};
+    ghost use Rattle.block_grammar.specs.Fields.{many_at};
+    ghost use Rattle.block_grammar.specs.Reading.{input_at};
     ghost use Rattle.tx_reader.specs.Parts.{values_of};
 
     ghost Value = { List TxInput };
@@ -134,7 +135,7 @@ pub(crate) fn inputs_of(bytes: &[u8]) -> Option<(Inputs<'_>, &[u8])>
 }
 
 /// The input at the front, or the first fault.
-#[tactic(auto, unfolding(full_grammar::specs::Reading::input_from))]
+#[tactic(auto, unfolding(block_grammar::specs::Reading::input_from))]
 fn input_in<'a>(bytes: &'a [u8]) -> Result<(TxIn<'a>, &'a [u8]), Fault<'a>>
     ensures { seen (λ x. (seen_input x.0, x.1.now)) result ≡ input_from bytes.now }
 {

@@ -10,7 +10,7 @@ mod transaction;
 mod witness;
 
 pub use full::{FullTx, TxFault, read_tx, txid};
-pub use full_grammar::TxKind;
+pub use block_grammar::TxKind;
 pub use inputs::{Inputs, TxIn};
 pub use outputs::{Outputs, TxOut};
 pub use plain::{PlainTx, read_plain};

@@ -1,17 +1,17 @@
 ghost use Rattle.std.specs.Prelude.{◌≡◌, Some, IsSome};
 ghost use Rattle.std.specs.Option.{option_map};
 ghost use Rattle.std.specs.Iterator.{YieldsFirstBy, item_count};
-ghost use Rattle.block_grammar.specs.Reading.{many_at, list_at, output_at};
+ghost use Rattle.block_grammar.specs.Fields.{many_at, list_at};
+ghost use Rattle.block_grammar.specs.Reading.{output_at, some_from, output_from};
 ghost use Rattle.tx_reader.specs.Parts.{rest_after};
 ghost use Rattle.tx_reader.specs.Fields.{seen_output};
-ghost use Rattle.full_grammar.specs.Combinators.{many_from};
-ghost use Rattle.full_grammar.specs.Reading.{some_from, output_from};
-ghost use Rattle.field_reader.specs.Seen.{seen};
+ghost use Rattle.block_grammar.specs.Combinators.{many_from};
+ghost use Rattle.wire_read.specs.Seen.{seen};
 ghost use Rattle.tx_reader.specs.Rests.{seen_rest, rest_read};
 
 use crate::cursor::{compact_size, counted, u64_at};
-use field_reader::{Fault, counted_at, some_size_at, u64_at as whole_u64_at};
-use full_grammar::TxKind;
+use wire_read::{Fault, counted_at, some_size_at, u64_at as whole_u64_at};
+use block_grammar::TxKind;
 use std::marker::Model;
 
 /// An output of a transaction (Bitcoin's "txout").
@@ -34,7 +34,8 @@ pub struct Outputs<'a> {
 impl<'a> Model for Outputs<'a> {
     ghost use Rattle.std.specs.Prelude.{List, IsSome};
     ghost use Rattle.block_grammar.specs.Transaction.{TxOutput};
-    ghost use Rattle.block_grammar.specs.Reading.{many_at, output_at};
+    ghost use Rattle.block_grammar.specs.Fields.{many_at};
+    ghost use Rattle.block_grammar.specs.Reading.{output_at};
     ghost use Rattle.tx_reader.specs.Parts.{values_of};
 
     ghost Value = { List TxOutput };
@@ -112,7 +113,7 @@ pub(crate) fn outputs_of(bytes: &[u8]) -> Option<(Outputs<'_>, &[u8])>
 }
 
 /// The output at the front, or the first fault.
-#[tactic(auto, unfolding(full_grammar::specs::Reading::output_from))]
+#[tactic(auto, unfolding(block_grammar::specs::Reading::output_from))]
 fn output_in<'a>(bytes: &'a [u8]) -> Result<(TxOut<'a>, &'a [u8]), Fault<'a>>
     ensures { seen (λ x. (seen_output x.0, x.1.now)) result ≡ output_from bytes.now }
 {

@@ -1,12 +1,12 @@
 ghost use Rattle.std.specs.Prelude.{◌≡◌, ◌-◌, ◌≤◌, false, ◌||◌};
-ghost use Rattle.full_grammar.specs.Transaction.{has_item};
-ghost use Rattle.full_grammar.specs.Combinators.{map_from, many_from, nonzero_from};
-ghost use Rattle.full_grammar.specs.Reading.{counted_from, stack_from, last_stack_from, stacks_from};
-ghost use Rattle.field_reader.specs.Seen.{seen};
+ghost use Rattle.block_grammar.specs.Witness.{has_item};
+ghost use Rattle.block_grammar.specs.Combinators.{map_from, many_from, nonzero_from};
+ghost use Rattle.block_grammar.specs.Reading.{counted_from, stack_from, last_stack_from, stacks_from};
+ghost use Rattle.wire_read.specs.Seen.{seen};
 ghost use Rattle.tx_reader.specs.Rests.{seen_rest, rest_read};
 
-use field_reader::{Fault, counted_at, size_at};
-use full_grammar::TxKind;
+use wire_read::{Fault, counted_at, size_at};
+use block_grammar::TxKind;
 use std::marker::Model;
 
 /// The witness of a transaction (BIP 144): a list of byte strings for each input. Contracts see these lists.
@@ -19,7 +19,7 @@ pub(crate) struct Witness<'a> {
 
 impl<'a> Model for Witness<'a> {
     ghost use Rattle.std.specs.Prelude.{◌-◌, false, List, ℕ};
-    ghost use Rattle.full_grammar.specs.Reading.{stacks_from};
+    ghost use Rattle.block_grammar.specs.Reading.{stacks_from};
     ghost use Rattle.tx_reader.specs.Rests.{values_read};
 
     ghost Value = { List (List (List ℕ)) };
@@ -70,7 +70,7 @@ fn behind_some_stack<'a>(bytes: &'a [u8]) -> Result<&'a [u8], Fault<'a>>
 }
 
 /// The bytes after the last list, which may be empty only where one before it isn't.
-#[tactic(auto, unfolding(full_grammar::specs::Reading::last_stack_from))]
+#[tactic(auto, unfolding(block_grammar::specs::Reading::last_stack_from))]
 fn behind_last<'a>(some: bool, bytes: &'a [u8]) -> Result<&'a [u8], Fault<'a>>
     ensures { seen_rest (λ rest. rest.now) result ≡ rest_read (last_stack_from some bytes.now) }
 {

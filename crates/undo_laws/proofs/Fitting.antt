@@ -1,7 +1,7 @@
 -- The record of a block fits the state after it.
 use Rattle.std.proofs.Common.{◌≡◌, ℕ, suc, cond, List, [], ◌∷◌, ◌++◌, refl, sym, ap, subst, ◌∙◌}
 use Rattle.std.specs.Prelude.{Option, Some, None}
-use Rattle.full_grammar.specs.Transaction.{Transaction, txid_of}
+use Rattle.block_grammar.specs.Transaction.{Transaction, txid_of}
 use Rattle.nmc_base.specs.declared.hashes.OutPoint.{OutPoint}
 use Rattle.nmc_base.specs.declared.chain_ends.Profile.{Profile}
 use Rattle.chain_names.specs.declared.coin.Coin.{Coin}

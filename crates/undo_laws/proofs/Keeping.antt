@@ -1,7 +1,7 @@
 -- Maps still stand after the transactions of a block, and after the coins that are due are gone.
 use Rattle.std.proofs.Common.{◌≡◌, ℕ, suc, Bool, true, false, not, cond, List, [], ◌∷◌, refl, sym, ap, ◌∙◌}
 use Rattle.std.specs.Prelude.{Option, Some, None}
-use Rattle.full_grammar.specs.Transaction.{Transaction, txid_of}
+use Rattle.block_grammar.specs.Transaction.{Transaction, txid_of}
 use Rattle.nmc_base.specs.declared.hashes.OutPoint.{OutPoint}
 use Rattle.nmc_base.specs.declared.chain_ends.Profile.{Profile}
 use Rattle.nmc_base.specs.Expiry.{is_expired}

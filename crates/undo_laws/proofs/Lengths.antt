@@ -3,14 +3,14 @@ use Rattle.std.proofs.Common.{◌≡◌, ℕ, ◌≤◌, List, [], ◌∷◌, �
 use Rattle.std.specs.Prelude.{Option, Some, None, Result, Ok, Err}
 use Rattle.std.specs.Int.{w32, to_le_bytes}
 use Rattle.std.specs.List.{flat_map}
-use Rattle.block_grammar.specs.CompactSize.{compact_size}
-use Rattle.block_grammar.specs.Transaction.{TxInput, TxOutput, input_text, output_text, counted_list}
+use Rattle.block_grammar.specs.CompactSize.{compact_size, counted_list}
+use Rattle.block_grammar.specs.Transaction.{TxInput, TxOutput, input_text, output_text, Transaction, body_text, transaction_text}
 use Rattle.block_grammar.proofs.Readers.{IsBytes}
-use Rattle.full_grammar.specs.Transaction.{Transaction, stack_text, body_text, transaction_text}
-use Rattle.full_grammar.specs.Header.{header_text}
-use Rattle.full_grammar.specs.Block.{Block, IsBlock, block_text}
-use Rattle.full_grammar.specs.Reading.{block_from}
-use Rattle.full_grammar.proofs.Blocks.{block_takes}
+use Rattle.block_grammar.specs.Witness.{stack_text}
+use Rattle.block_grammar.specs.Header.{header_text}
+use Rattle.block_grammar.specs.Block.{Block, IsBlock, block_text}
+use Rattle.block_grammar.specs.Reading.{block_from}
+use Rattle.block_grammar.proofs.BlockLaws.{block_takes}
 use Rattle.chain_names.specs.Log.{behind_coinbase, transactions_in, transactions_read}
 use Rattle.undo_laws.specs.Sound.{count_outputs}
 

@@ -3,7 +3,7 @@ use Rattle.std.proofs.Common.{◌≡◌, ℕ, suc, Bool, true, false, cond, List
 use Rattle.std.proofs.Math.Path.{fun_ext}
 use Rattle.std.specs.Prelude.{Option, Some, None, ◌||◌}
 use Rattle.std.specs.List.{list_any, AllByRecursion}
-use Rattle.full_grammar.specs.Transaction.{Transaction}
+use Rattle.block_grammar.specs.Transaction.{Transaction}
 use Rattle.nmc_base.specs.declared.hashes.OutPoint.{OutPoint}
 use Rattle.nmc_base.specs.declared.chain_ends.Profile.{Profile}
 use Rattle.nmc_base.specs.Expiry.{is_expired}

@@ -1,6 +1,6 @@
 -- Sound states, and the chains that are accepted on a base.
 use Rattle.std.specs.Prelude.{◌≡◌, ℕ, suc, ◌+◌, ◌<◌, ◌≤◌, ◌^◌, List, [], ◌∷◌, length, None}
-use Rattle.full_grammar.specs.Transaction.{Transaction}
+use Rattle.block_grammar.specs.Transaction.{Transaction}
 use Rattle.nmc_base.specs.declared.chain_ends.Profile.{Profile}
 use Rattle.chain_names.specs.Coins.{Maps}
 use Rattle.chain_names.specs.Changes.{undone}

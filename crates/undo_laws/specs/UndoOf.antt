@@ -1,9 +1,9 @@
 -- What undoes the last block of a chain, read off the chain's log. Chains and their undo records are lists, the newest first.
 use Rattle.std.specs.Prelude.{◌≡◌, ℕ, suc, List, [], ◌∷◌, ◌++◌, Result, Ok, Err}
-use Rattle.full_grammar.specs.Block.{Block}
-use Rattle.full_grammar.specs.Header.{header_hash}
-use Rattle.full_grammar.specs.Reading.{block_from}
-use Rattle.full_grammar.specs.Transaction.{Transaction, txid_of}
+use Rattle.block_grammar.specs.Block.{Block}
+use Rattle.block_grammar.specs.Header.{header_hash}
+use Rattle.block_grammar.specs.Reading.{block_from}
+use Rattle.block_grammar.specs.Transaction.{Transaction, txid_of}
 use Rattle.nmc_base.specs.declared.chain_ends.Profile.{Profile}
 use Rattle.chain_names.specs.declared.undo.UndoOp.{UndoOp}
 use Rattle.chain_names.specs.Log.{Log, touches, behind_coinbase, transactions_in, log_of}

@@ -2,7 +2,7 @@
 
 ghost use Rattle.std.specs.Prelude.{◌≡◌, ℕ, suc, ◌+◌, ◌<◌, ◌≤◌, ◌^◌, true, List, [], ◌∷◌, length, slice_index, Option, Some, None};
 ghost use Rattle.std.specs.List.{AllByRecursion};
-ghost use Rattle.full_grammar.specs.Transaction.{Transaction};
+ghost use Rattle.block_grammar.specs.Transaction.{Transaction};
 ghost use Rattle.nmc_base.specs.declared.chain_ends.Profile.{Profile};
 ghost use Rattle.nmc_base.specs.declared.hashes.OutPoint.{OutPoint};
 ghost use Rattle.nmc_base.specs.Expiry.{expiry_depth};

@@ -3,7 +3,7 @@ use Rattle.std.proofs.Common.{◌≡◌, ℕ, suc, ◌⊎◌, Bool, true, false,
 use Rattle.std.specs.Prelude.{Result, Ok, Err}
 use Rattle.std.proofs.lemmas.Bool.{cases_Bool}
 use Rattle.block_grammar.proofs.Readers.{IsBytes, Took}
-use Rattle.full_grammar.proofs.Laws.{ok_is, err_is, ok_err, bind_ok, bind_err}
+use Rattle.block_grammar.proofs.ReaderLaws.{ok_is, err_is, ok_err, bind_ok, bind_err}
 use Rattle.undo_records.specs.declared.fault.FaultKind.{FaultKind}
 use Rattle.undo_records.specs.declared.fault.FaultKind.TheVariants.{Cut, BadTag, Unsorted}
 use Rattle.undo_records.specs.Reading.{Reads, checked_from}

@@ -8,8 +8,8 @@ use Rattle.nmc_base.specs.declared.hashes.OutPoint.{OutPoint}
 use Rattle.nmc_base.specs.Hash.{outpoint_cmp}
 use Rattle.chain_names.specs.declared.coin.HeldCoin.{HeldCoin}
 use Rattle.block_grammar.proofs.Readers.{Took}
-use Rattle.full_grammar.specs.Combinators.{◌>>=◌, then_from, map_from, many_from}
-use Rattle.full_grammar.proofs.Laws.{ok_is, ok_err, pair_text, PairFits, ManyFit}
+use Rattle.block_grammar.specs.Combinators.{◌>>=◌, then_from, map_from, many_from}
+use Rattle.block_grammar.proofs.ReaderLaws.{ok_is, ok_err, pair_text, PairFits, ManyFit}
 use Rattle.undo_records.specs.declared.fault.FaultKind.TheVariants.{Unsorted}
 use Rattle.undo_records.specs.Reading.{Reads, point_from, named_coin_from, is_less, is_after, later_point_from, held_from, coins_from}
 use Rattle.undo_records.specs.Text.{point_text, coin_text, held_text}

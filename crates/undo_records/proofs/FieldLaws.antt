@@ -5,10 +5,10 @@ use Rattle.std.specs.Int.{Width, w16, w32, byte_len, from_le_bytes, to_le_bytes}
 use Rattle.std.proofs.lemmas.Bool.{cases_lt, cases_Bool, ltb-true, lt-ltb, le-ltb, le-leb, leb-true, leb-false, lt-leb, eqb-true, eq-eqb, ne_eqb}
 use Rattle.std.proofs.lemmas.List.{length-append, length-replicate, get_or-replicate, get_or_past}
 use Rattle.nmc_base.specs.declared.hashes.OutPoint.{OutPoint}
-use Rattle.block_grammar.specs.Reading.{number_at, piece_at}
+use Rattle.block_grammar.specs.Fields.{number_at, piece_at}
 use Rattle.block_grammar.proofs.Readers.{IsBytes, Took, IsWide, wide16, wide32, number_reads, piece_reads}
-use Rattle.full_grammar.specs.Combinators.{then_from}
-use Rattle.full_grammar.proofs.Laws.{ok_is, err_is, bind_err, pair_text, PairFits}
+use Rattle.block_grammar.specs.Combinators.{then_from}
+use Rattle.block_grammar.proofs.ReaderLaws.{ok_is, err_is, bind_err, pair_text, PairFits}
 use Rattle.undo_records.specs.declared.fault.FaultKind.TheVariants.{BadTag}
 use Rattle.undo_records.specs.Reading.{Reads, number_from, piece_from, tagged_from, byte_from, name_from, checked_from, value_length_from, value_from, point_from}
 use Rattle.undo_records.specs.Text.{point_text, name_text}

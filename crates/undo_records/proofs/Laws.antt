@@ -4,8 +4,8 @@ use Rattle.std.proofs.Common.{◌≡◌, ℕ, zero, suc, ◌<◌, ◌⊎◌, Lis
 use Rattle.std.specs.Prelude.{Ok, Err}
 use Rattle.std.specs.List.{flat_map, AllByRecursion}
 use Rattle.block_grammar.proofs.Readers.{IsBytes, Took}
-use Rattle.full_grammar.specs.Combinators.{◌>>=◌, then_from, map_from, many_from}
-use Rattle.full_grammar.proofs.Laws.{ok_is, ok_err, bind_ok, bind_err, made_err, pair_text, PairFits, ManyFit}
+use Rattle.block_grammar.specs.Combinators.{◌>>=◌, then_from, map_from, many_from}
+use Rattle.block_grammar.proofs.ReaderLaws.{ok_is, ok_err, bind_ok, bind_err, made_err, pair_text, PairFits, ManyFit}
 use Rattle.undo_records.specs.declared.fault.FaultKind.{FaultKind}
 use Rattle.undo_records.specs.declared.fault.FaultKind.TheVariants.{Cut, BadTag}
 use Rattle.undo_records.specs.Reading.{Reads}

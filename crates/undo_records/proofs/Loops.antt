@@ -2,7 +2,7 @@
 use Rattle.std.proofs.Common.{◌≡◌, ℕ, suc, ◌-◌, ◌<◌, ◌≤◌, List, [], ◌∷◌, ◌++◌, Option, Some, refl, sym, ap, ◌∙◌, append_assoc, append-nil, arith}
 use Rattle.std.specs.Prelude.{Result, Ok, Err}
 use Rattle.nmc_base.specs.declared.hashes.OutPoint.{OutPoint}
-use Rattle.full_grammar.specs.Combinators.{◌>>=◌, then_from, map_from, many_from}
+use Rattle.block_grammar.specs.Combinators.{◌>>=◌, then_from, map_from, many_from}
 use Rattle.undo_records.specs.declared.fault.FaultKind.{FaultKind}
 use Rattle.undo_records.specs.declared.fault.Stop.{Stop}
 use Rattle.undo_records.specs.declared.fault.Stop.TheVariants.{At, NoMemory}

@@ -6,8 +6,8 @@ use Rattle.chain_names.specs.declared.coin.Coin.{Coin}
 use Rattle.chain_names.specs.declared.coin.Item.{Item}
 use Rattle.chain_names.specs.declared.undo.UndoOp.{UndoOp}
 use Rattle.chain_names.specs.declared.undo.UndoOp.TheVariants.{New as op_new, First, Update}
-use Rattle.full_grammar.specs.Combinators.{then_from, map_from}
-use Rattle.full_grammar.proofs.Laws.{pair_text, PairFits}
+use Rattle.block_grammar.specs.Combinators.{then_from, map_from}
+use Rattle.block_grammar.proofs.ReaderLaws.{pair_text, PairFits}
 use Rattle.undo_records.specs.declared.fault.FaultKind.TheVariants.{BadTag}
 use Rattle.undo_records.specs.Reading.{Reads, name_from, point_from, new_coin_from, named_coin_from, before_from, change_from, first_of, update_of, op_from}
 use Rattle.undo_records.specs.Text.{Change, change_of, point_text, name_text, coin_text, before_text, change_text, op_text}

@@ -8,8 +8,8 @@ use Rattle.chain_names.specs.declared.coin.Coin.{Coin}
 use Rattle.chain_names.specs.declared.coin.Coin.TheVariants.{New, Named}
 use Rattle.chain_names.specs.declared.coin.Item.{Item}
 use Rattle.block_grammar.proofs.Readers.{Took}
-use Rattle.full_grammar.specs.Combinators.{then_from, map_from}
-use Rattle.full_grammar.proofs.Laws.{ok_is, pair_text, PairFits}
+use Rattle.block_grammar.specs.Combinators.{then_from, map_from}
+use Rattle.block_grammar.proofs.ReaderLaws.{ok_is, pair_text, PairFits}
 use Rattle.undo_records.specs.declared.fault.FaultKind.TheVariants.{BadTag}
 use Rattle.undo_records.specs.Reading.{Reads, number_from, piece_from, name_from, value_from, point_from, new_coin_from, named_coin_from, item_from, before_from}
 use Rattle.undo_records.specs.Text.{point_text, name_text, coin_text, item_text, before_text}

@@ -4,7 +4,7 @@ use Rattle.std.specs.Prelude.{Result, Ok, Err, IfOk, IfErr}
 use Rattle.std.proofs.lemmas.List.{length-append, drop_at, drop_all}
 use Rattle.chain_names.specs.Undo.{UndoRecord}
 use Rattle.block_grammar.proofs.Readers.{IsBytes}
-use Rattle.full_grammar.proofs.Laws.{ok_is, err_is, ok_err}
+use Rattle.block_grammar.proofs.ReaderLaws.{ok_is, err_is, ok_err}
 use Rattle.undo_records.specs.declared.fault.FaultKind.{FaultKind}
 use Rattle.undo_records.specs.declared.fault.FaultKind.TheVariants.{Cut as cut, BadTag as bad_tag, Unsorted as unsorted}
 use Rattle.undo_records.specs.declared.fault.UndoFault.{UndoFault}

@@ -9,8 +9,8 @@ use Rattle.chain_names.specs.declared.coin.HeldCoin.{HeldCoin}
 use Rattle.chain_names.specs.declared.undo.UndoOp.{UndoOp}
 use Rattle.chain_names.specs.Undo.{UndoRecord}
 use Rattle.block_grammar.proofs.Readers.{IsBytes}
-use Rattle.full_grammar.specs.Combinators.{then_from, map_from, many_from}
-use Rattle.full_grammar.proofs.Laws.{ok_is, err_is, ok_err, pair_text, PairFits}
+use Rattle.block_grammar.specs.Combinators.{then_from, map_from, many_from}
+use Rattle.block_grammar.proofs.ReaderLaws.{ok_is, err_is, ok_err, pair_text, PairFits}
 use Rattle.undo_records.specs.declared.fault.FaultKind.{FaultKind}
 use Rattle.undo_records.specs.declared.fault.FaultKind.TheVariants.{Cut, BadTag, Unsorted}
 use Rattle.undo_records.specs.Reading.{Reads, number_from, piece_from, op_from, ops_from, is_after, coins_from, expired_from, undo_from}

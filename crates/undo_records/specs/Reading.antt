@@ -13,7 +13,7 @@ use Rattle.chain_names.specs.declared.coin.Item.{Item}
 use Rattle.chain_names.specs.declared.undo.UndoOp.{UndoOp}
 use Rattle.chain_names.specs.declared.undo.UndoOp.TheVariants.{New as op_new, First, Update}
 use Rattle.chain_names.specs.Undo.{UndoRecord}
-use Rattle.full_grammar.specs.Combinators.{◌>>=◌, Reader, then_from, map_from, many_from}
+use Rattle.block_grammar.specs.Combinators.{◌>>=◌, Reader, then_from, map_from, many_from}
 use Rattle.undo_records.specs.declared.fault.FaultKind.{FaultKind}
 use Rattle.undo_records.specs.declared.fault.FaultKind.TheVariants.{Cut, BadTag, Unsorted}
 use Rattle.undo_records.specs.Text.{Change, change_of}

@@ -1,7 +1,7 @@
 //! The readers of the lists of a record. They take memory item by item, so that a count alone costs none.
 
 ghost use Rattle.std.specs.Prelude.{◌≡◌};
-ghost use Rattle.full_grammar.specs.Combinators.{many_from};
+ghost use Rattle.block_grammar.specs.Combinators.{many_from};
 ghost use Rattle.undo_records.specs.Reading.{op_from, ops_from, is_after, later_point_from, held_from, coins_from, expired_from};
 ghost use Rattle.undo_records.specs.Fields.{seen, Gives};
 

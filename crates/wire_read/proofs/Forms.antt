@@ -4,7 +4,7 @@ use Rattle.std.specs.Int.{Width, w16, w32, w64, byte_len, from_le_bytes, to_le_b
 use Rattle.std.proofs.lemmas.Bool.{cases_lt, ltb-true, ltb-false, lt-ltb, le-ltb, eqb-true, eqb-false, ne_eqb}
 use Rattle.std.proofs.lemmas.List.{take-append-drop, length-take, length-drop, drop_at, drop-drop}
 use Rattle.block_grammar.specs.CompactSize.{compact_size}
-use Rattle.block_grammar.specs.Reading.{number_at, at_least, compact_size_at}
+use Rattle.block_grammar.specs.Fields.{number_at, at_least, compact_size_at}
 use Rattle.block_grammar.proofs.Readers.{IsBytes, IsBytes-take, IsWide, wide16, wide32, wide64}
 use Rattle.block_grammar.proofs.Sizes.{size_reads}
 use Rattle.wire_read.specs.Position.{Position, left}

@@ -1,7 +1,7 @@
 -- What reading a field says of the cursor before and after it.
 use Rattle.std.specs.Prelude.{◌≡◌, ℕ, ◌+◌, ◌-◌, ◌<◌, ◌≤◌, ◌^◌, ◌++◌, length, Some, None, Result, Ok, Err}
 use Rattle.block_grammar.specs.CompactSize.{compact_size}
-use Rattle.block_grammar.specs.Reading.{compact_size_at}
+use Rattle.block_grammar.specs.Fields.{compact_size_at}
 use Rattle.wire_read.specs.Position.{Position, left}
 use Rattle.wire_read.specs.SizeForm.{form_length, IsLongForm}
 use Rattle.wire_read.specs.declared.cursor.WireFault.{WireFault}

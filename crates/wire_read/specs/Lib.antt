@@ -1,3 +1,4 @@
-pub mod SizeForm
 pub mod Position
+pub mod SizeForm
 pub mod Fields
+pub mod Seen

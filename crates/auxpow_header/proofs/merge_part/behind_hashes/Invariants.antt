@@ -1,6 +1,6 @@
 use Rattle.std.proofs.Common.{◌≡◌, ◌-◌}
-use Rattle.full_grammar.specs.Combinators.{many_from}
-use Rattle.full_grammar.specs.Reading.{piece_from}
+use Rattle.block_grammar.specs.Combinators.{many_from}
+use Rattle.block_grammar.specs.Reading.{piece_from}
 use Rattle.tx_reader.specs.Rests.{rest_read}
 use Rattle.auxpow_header.proofs.merge_part.behind_hashes.Given as goal
 

@@ -1,5 +1,5 @@
 use Rattle.std.proofs.Common.{refl, ap, ◌∙◌}
-use Rattle.block_grammar.specs.Header.{double_sha256}
+use Rattle.block_grammar.specs.Hashes.{double_sha256}
 use Rattle.block_maker.proofs.Holding.{one_held}
 use Rattle.block_maker.proofs.contents.coinbase_alone.Goals as goal
 

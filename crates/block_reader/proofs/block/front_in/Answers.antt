@@ -1,6 +1,6 @@
 use Rattle.std.proofs.Common.{List, length, arith, sym, ap, ◌∙◌}
 use Rattle.std.specs.Prelude.{Ok}
-use Rattle.full_grammar.specs.Transaction.{Transaction}
+use Rattle.block_grammar.specs.Transaction.{Transaction}
 use Rattle.block_reader.proofs.Loops.{is_front}
 use Rattle.block_reader.proofs.block.front_in.Goals as goal
 

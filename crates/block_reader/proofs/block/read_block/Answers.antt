@@ -1,7 +1,7 @@
 use Rattle.std.proofs.Common.{arith, sym, ap}
 use Rattle.std.specs.Prelude.{Ok}
-use Rattle.full_grammar.specs.Block.{Block}
-use Rattle.full_grammar.proofs.Blocks.{block_takes}
+use Rattle.block_grammar.specs.Block.{Block}
+use Rattle.block_grammar.proofs.BlockLaws.{block_takes}
 use Rattle.block_reader.proofs.Clauses.{shorter, stopped, is_fault, only_block, fault_no_block}
 use Rattle.block_reader.proofs.block.read_block.Goals as goal
 

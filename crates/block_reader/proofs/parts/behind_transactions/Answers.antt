@@ -1,6 +1,6 @@
-use Rattle.full_grammar.specs.Combinators.{within}
-use Rattle.full_grammar.specs.Reading.{transaction_from}
-use Rattle.full_grammar.specs.declared.kinds.BlockKind.TheVariants.{Transaction}
+use Rattle.block_grammar.specs.Combinators.{within}
+use Rattle.block_grammar.specs.Reading.{transaction_from}
+use Rattle.block_grammar.specs.declared.kinds.BlockKind.TheVariants.{Transaction}
 use Rattle.block_reader.proofs.Loops.{one_more}
 use Rattle.block_reader.proofs.parts.behind_transactions.Goals as goal
 

@@ -1,7 +1,7 @@
 use Rattle.std.proofs.Common.{◌≡◌, ◌-◌}
-use Rattle.full_grammar.specs.Combinators.{within, many_from}
-use Rattle.full_grammar.specs.Reading.{transaction_from}
-use Rattle.full_grammar.specs.declared.kinds.BlockKind.TheVariants.{Transaction}
+use Rattle.block_grammar.specs.Combinators.{within, many_from}
+use Rattle.block_grammar.specs.Reading.{transaction_from}
+use Rattle.block_grammar.specs.declared.kinds.BlockKind.TheVariants.{Transaction}
 use Rattle.block_reader.specs.Seen.{rest_of}
 use Rattle.block_reader.proofs.parts.behind_transactions.Given as goal
 

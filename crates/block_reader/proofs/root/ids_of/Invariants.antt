@@ -1,5 +1,5 @@
 use Rattle.std.proofs.Common.{◌≡◌, ◌++◌, map}
-use Rattle.full_grammar.specs.Transaction.{txid_of}
+use Rattle.block_grammar.specs.Transaction.{txid_of}
 use Rattle.block_reader.specs.Rows.{seen_row}
 use Rattle.block_reader.proofs.root.ids_of.Given as goal
 

@@ -1,5 +1,5 @@
 use Rattle.std.proofs.Common.{◌≡◌, ◌≤◌, length}
-use Rattle.full_grammar.specs.Block.{merkle_root_of, block_root}
+use Rattle.block_grammar.specs.Merkle.{merkle_root_of, block_root}
 use Rattle.block_reader.specs.Rows.{seen_row}
 use Rattle.block_reader.proofs.root.merkle_root.Given as goal
 

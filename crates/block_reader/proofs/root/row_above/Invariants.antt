@@ -1,5 +1,5 @@
 use Rattle.std.proofs.Common.{◌≡◌, ◌++◌, length}
-use Rattle.full_grammar.specs.Block.{paired_row}
+use Rattle.block_grammar.specs.Merkle.{paired_row}
 use Rattle.block_reader.specs.Rows.{seen_row}
 use Rattle.block_reader.proofs.root.row_above.Given as goal
 

@@ -1,5 +1,6 @@
 use Rattle.std.proofs.Common.{◌≡◌, ◌-◌}
-use Rattle.block_grammar.specs.Reading.{many_at, input_at}
+use Rattle.block_grammar.specs.Fields.{many_at}
+use Rattle.block_grammar.specs.Reading.{input_at}
 use Rattle.tx_reader.specs.Parts.{rest_after}
 use Rattle.tx_reader.proofs.inputs.past_inputs.Given as goal
 

@@ -1,5 +1,5 @@
 use Rattle.std.proofs.Common.{sym}
-use Rattle.full_grammar.specs.Reading.{output_from}
+use Rattle.block_grammar.specs.Reading.{output_from}
 use Rattle.tx_reader.specs.Fields.{seen_output}
 use Rattle.tx_reader.proofs.Many.{one_more}
 use Rattle.tx_reader.proofs.outputs.behind_outputs.Goals as goal

@@ -1,5 +1,6 @@
 use Rattle.std.proofs.Common.{◌≡◌, ◌-◌}
-use Rattle.block_grammar.specs.Reading.{many_at, output_at}
+use Rattle.block_grammar.specs.Fields.{many_at}
+use Rattle.block_grammar.specs.Reading.{output_at}
 use Rattle.tx_reader.specs.Parts.{rest_after}
 use Rattle.tx_reader.proofs.outputs.past_outputs.Given as goal
 

@@ -1,5 +1,5 @@
 use Rattle.std.proofs.Common.{◌≡◌, ◌-◌, false}
-use Rattle.full_grammar.specs.Reading.{stacks_from}
+use Rattle.block_grammar.specs.Reading.{stacks_from}
 use Rattle.tx_reader.specs.Rests.{rest_read}
 use Rattle.tx_reader.proofs.witness.behind_stacks.Given as goal
 

@@ -1,5 +1,5 @@
 use Rattle.std.proofs.Common.{◌≡◌, ◌-◌}
-use Rattle.full_grammar.specs.Combinators.{many_from}
+use Rattle.block_grammar.specs.Combinators.{many_from}
 use Rattle.undo_records.specs.Reading.{op_from}
 use Rattle.undo_records.proofs.Loops.{behind}
 use Rattle.undo_records.proofs.lists.many_ops.Given as goal

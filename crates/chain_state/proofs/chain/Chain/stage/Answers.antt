@@ -1,6 +1,7 @@
 use Rattle.std.proofs.Common.{◌≡◌, ◌<◌, sym, ap, subst, ◌∙◌, arith}
-use Rattle.full_grammar.specs.Block.{Block, block_root}
-use Rattle.full_grammar.specs.Header.{Header}
+use Rattle.block_grammar.specs.Block.{Block}
+use Rattle.block_grammar.specs.Merkle.{block_root}
+use Rattle.block_grammar.specs.Header.{Header}
 use Rattle.nmc_base.specs.declared.hashes.Hash32.{Hash32}
 use Rattle.nmc_base.specs.Heights.{highest}
 use Rattle.chain_state.specs.Chain.{Indexed}

@@ -1,6 +1,6 @@
 use Rattle.std.proofs.Common.{◌≡◌, ◌<◌, ◌^◌, Some, refl, ap, sym, subst, ◌∙◌}
 use Rattle.nmc_base.specs.Roomy.{Roomy}
-use Rattle.full_grammar.specs.Header.{header_hash}
+use Rattle.block_grammar.specs.Header.{header_hash}
 use Rattle.chain_names.specs.Log.{behind_coinbase}
 use Rattle.undo_laws.specs.Sound.{count_outputs}
 use Rattle.undo_records.specs.declared.undo.Undo.{Undo}

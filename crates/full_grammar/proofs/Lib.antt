@@ -1,9 +1,0 @@
-pub mod Laws
-pub mod Fields
-pub mod Transactions
-pub mod Bodies
-pub mod Places
-pub mod Headers
-pub mod Blocks
-pub mod Roots
-pub mod Statements

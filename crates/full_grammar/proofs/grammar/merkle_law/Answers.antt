@@ -1,8 +1,0 @@
-use Rattle.full_grammar.proofs.Roots.{one_root, next_root}
-use Rattle.full_grammar.proofs.grammar.merkle_law.Goals as goal
-
-pub returns-clause-one : goal.returns-clause-one
-returns-clause-one c = one_root
-
-pub returns-clause-more : goal.returns-clause-more
-returns-clause-more c = next_root

@@ -1,5 +1,0 @@
-use Rattle.full_grammar.proofs.Statements.{plain_stripped}
-use Rattle.full_grammar.proofs.grammar.txid_law.Goals as goal
-
-pub returns : goal.returns
-returns c = plain_stripped

@@ -1,0 +1,22 @@
+ghost use Rattle.std.specs.Prelude.{◌≡◌, []};
+
+use block_grammar::TxKind;
+
+/// The first fault in bytes.
+#[derive(Clone, Copy, Debug)]
+pub struct Fault<'a> {
+    pub kind: TxKind,
+    /// The bytes from the first one on that can't stand there. There are none where the bytes end too early.
+    pub rest: &'a [u8],
+}
+
+/// The bytes end too early.
+pub fn cut<'a>() -> Fault<'a>
+    ensures kind { result.kind ≡ TxKind.Cut }
+    ensures rest { result.rest.now ≡ [] }
+{
+    Fault {
+        kind: TxKind::Cut,
+        rest: &[],
+    }
+}
