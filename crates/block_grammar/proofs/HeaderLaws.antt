@@ -3,8 +3,7 @@ use Rattle.std.proofs.Common.{◌≡◌, ℕ, ◌^◌, eqb, List, ◌++◌, Opti
 use Rattle.std.specs.Prelude.{Ok}
 use Rattle.std.specs.Int.{w32, to_le_bytes}
 use Rattle.std.proofs.lemmas.Bool.{cases_Bool, eqb-true, eqb-false}
-use Rattle.block_grammar.specs.PureHeader.{PureHeader, pure_header_text, FitsPureHeader}
-use Rattle.block_grammar.specs.PureHeader.{IsMerged}
+use Rattle.block_grammar.specs.PureHeader.{PureHeader, pure_header_text, FitsPureHeader, IsMerged}
 use Rattle.block_grammar.proofs.Readers.{Took}
 use Rattle.block_grammar.specs.declared.kinds.TxKind.{TxKind}
 use Rattle.block_grammar.specs.Kinds.{is_cut}

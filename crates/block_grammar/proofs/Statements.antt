@@ -9,9 +9,10 @@ use Rattle.block_grammar.specs.Kinds.{is_cut}
 use Rattle.block_grammar.specs.Transaction.{Transaction, body_text, stripped_text, transaction_text, FitsTransaction, IsTransaction}
 use Rattle.block_grammar.specs.Header.{Header, header_text, FitsHeader, IsHeader}
 use Rattle.block_grammar.specs.Block.{Block, IsBlock}
-use Rattle.block_grammar.specs.Fault.{IsFaultPlace, IsTransactionPlace, IsHeaderPlace}
+use Rattle.block_grammar.specs.Fault.{IsFaultPlace, IsFrontPlace}
+use Rattle.block_grammar.specs.Combinators.{Reader}
 use Rattle.block_grammar.specs.Reading.{transaction_from, header_from, block_from}
-use Rattle.block_grammar.proofs.ReaderLaws.{ok_is}
+use Rattle.block_grammar.proofs.ReaderLaws.{Reads, ok_is}
 use Rattle.block_grammar.proofs.PlaceLaws.{first_fault, none_at_front}
 use Rattle.block_grammar.proofs.BodyLaws.{transaction_laws}
 use Rattle.block_grammar.proofs.HeaderLaws.{header_laws}
@@ -28,10 +29,12 @@ one_front front rest other more t u is is' e =
     let same : t ≡ u = ap (λ (x : Transaction × List ℕ). x.0) (ok_is (t, rest) (u, more) (sym read ∙ read')) in
     (is.text ∙ ap transaction_text same ∙ sym is'.text, same)
 
-pub transaction_place : (bytes : List ℕ) (kind : TxKind) (rest : List ℕ) → IsBytes bytes → transaction_from bytes ≡ Err (kind, rest) → IsTransactionPlace bytes (length bytes - length rest)
-transaction_place bytes kind rest fits e = record {
-  no_transaction = λ t n is. none_at_front is_cut transaction_text FitsTransaction transaction_from transaction_laws bytes (kind, rest) e t n is.fits is.text;
-  first = first_fault is_cut transaction_text FitsTransaction transaction_from transaction_laws bytes (kind, rest) fits e;
+-- where a reader stops, the place is that of the first fault
+pub front_place : {A : Type 0} (text : A → List ℕ) (Fits : A → Type 0) (read : Reader TxKind A) → Reads is_cut text Fits read → (bytes : List ℕ) (kind : TxKind) (rest : List ℕ) → IsBytes bytes
+    → read bytes ≡ Err (kind, rest) → IsFrontPlace text Fits bytes (length bytes - length rest)
+front_place text Fits read laws bytes kind rest fits e = record {
+  none = λ x n is. none_at_front is_cut text Fits read laws bytes (kind, rest) e x n is.fits is.text_is;
+  first = first_fault is_cut text Fits read laws bytes (kind, rest) fits e;
 }
 
 pub plain_stripped : (t : Transaction) → t.witness ≡ None → stripped_text t ≡ transaction_text t
@@ -40,12 +43,6 @@ plain_stripped t e = sym (ap (λ w. to_le_bytes w32 t.version ++ body_text t.inp
 
 pub header_again : (front rest : List ℕ) (h : Header) → IsHeader front h → header_from (front ++ rest) ≡ Ok (h, rest)
 header_again front rest h is = ap (λ (x : List ℕ). header_from (x ++ rest)) is.text ∙ header_laws.again h rest is.fits
-
-pub header_place : (bytes : List ℕ) (kind : TxKind) (rest : List ℕ) → IsBytes bytes → header_from bytes ≡ Err (kind, rest) → IsHeaderPlace bytes (length bytes - length rest)
-header_place bytes kind rest fits e = record {
-  no_header = λ h n is. none_at_front is_cut header_text FitsHeader header_from header_laws bytes (kind, rest) e h n is.fits is.text;
-  first = first_fault is_cut header_text FitsHeader header_from header_laws bytes (kind, rest) fits e;
-}
 
 pub block_read : (bytes : List ℕ) (b : Block) → IsBytes bytes → (block_from bytes ≡ Ok b) ↔ IsBlock bytes b
 block_read bytes b fits = (block_takes bytes b fits, block_again bytes b)

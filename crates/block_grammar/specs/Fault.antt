@@ -1,7 +1,5 @@
 -- The place of a fault, by the grammar alone.
 use Rattle.std.specs.Prelude.{◌≡◌, ℕ, ◌+◌, ◌≤◌, ◌⊎◌, List, ◌++◌, length, take}
-use Rattle.block_grammar.specs.Transaction.{Transaction, transaction_text, FitsTransaction, IsTransaction}
-use Rattle.block_grammar.specs.Header.{Header, header_text, FitsHeader, IsHeader}
 use Rattle.block_grammar.specs.Block.{Block, block_text, FitsBlock, IsBlock}
 
 -- some text of the format begins with the bytes
@@ -23,12 +21,13 @@ pub record IsFaultPlace (bytes : List ℕ) (place : ℕ) : Type 0 where
   pub no_block : (b : Block) → ¬ (IsBlock bytes b)
   pub first : IsFirstFault block_text FitsBlock bytes place
 
--- no transaction stands at the front of the bytes
-pub record IsTransactionPlace (bytes : List ℕ) (place : ℕ) : Type 0 where
-  pub no_transaction : (t : Transaction) (n : ℕ) → ¬ (IsTransaction (take n bytes) t)
-  pub first : IsFirstFault transaction_text FitsTransaction bytes place
+-- the value's text takes the first n bytes
+pub record StandsFirst {A : Type 0} (text : A → List ℕ) (Fits : A → Type 0) (bytes : List ℕ) (x : A) (n : ℕ) : Type 0 where
+  pub within : n ≤ length bytes
+  pub fits : Fits x
+  pub text_is : take n bytes ≡ text x
 
--- no header stands at the front of the bytes
-pub record IsHeaderPlace (bytes : List ℕ) (place : ℕ) : Type 0 where
-  pub no_header : (h : Header) (n : ℕ) → ¬ (IsHeader (take n bytes) h)
-  pub first : IsFirstFault header_text FitsHeader bytes place
+-- no text stands at the front of the bytes, and the place is that of their fault
+pub record IsFrontPlace {A : Type 0} (text : A → List ℕ) (Fits : A → Type 0) (bytes : List ℕ) (place : ℕ) : Type 0 where
+  pub none : (x : A) (n : ℕ) → ¬ (StandsFirst text Fits bytes x n)
+  pub first : IsFirstFault text Fits bytes place

@@ -6,11 +6,11 @@ ghost use Rattle.block_grammar.specs.declared.kinds.BlockKind.{BlockKind};
 ghost use Rattle.block_grammar.specs.CompactSize.{compact_size};
 ghost use Rattle.block_grammar.specs.Examples.{tiny_transaction, tiny_text};
 ghost use Rattle.block_grammar.specs.Kinds.{is_cut, is_cut_block};
-ghost use Rattle.block_grammar.specs.Transaction.{Transaction, IsTransaction, transaction_text, stripped_text};
-ghost use Rattle.block_grammar.specs.Header.{Header, IsHeader};
+ghost use Rattle.block_grammar.specs.Transaction.{Transaction, IsTransaction, FitsTransaction, transaction_text, stripped_text};
+ghost use Rattle.block_grammar.specs.Header.{Header, IsHeader, FitsHeader, header_text};
 ghost use Rattle.block_grammar.specs.Block.{Block, IsBlock};
 ghost use Rattle.block_grammar.specs.Merkle.{merkle_root_of, paired_row};
-ghost use Rattle.block_grammar.specs.Fault.{IsFaultPlace, IsTransactionPlace, IsHeaderPlace};
+ghost use Rattle.block_grammar.specs.Fault.{IsFaultPlace, IsFrontPlace};
 ghost use Rattle.block_grammar.specs.Reading.{transaction_from, header_from, block_from};
 
 /// A transaction is read as it is spelled, whatever follows; and where none is read, the place is that of the first
@@ -18,7 +18,7 @@ ghost use Rattle.block_grammar.specs.Reading.{transaction_from, header_from, blo
 pub fn transaction_law()
     ensures again { (front rest : List ℕ) (t : Transaction) → IsTransaction front t → transaction_from (front ++ rest) ≡ Ok (t, rest) }
     ensures place { (bytes : List ℕ) (kind : TxKind) (rest : List ℕ) → ((i : ℕ) → slice_index bytes i < 256)
-        → transaction_from bytes ≡ Err (kind, rest) → IsTransactionPlace bytes (length bytes - length rest) }
+        → transaction_from bytes ≡ Err (kind, rest) → IsFrontPlace transaction_text FitsTransaction bytes (length bytes - length rest) }
     ensures cut { (bytes : List ℕ) (kind : TxKind) (rest : List ℕ) → ((i : ℕ) → slice_index bytes i < 256)
         → transaction_from bytes ≡ Err (kind, rest) → IsTrue (is_cut kind) ↔ (length bytes - length rest ≡ length bytes) }
 {}
@@ -38,7 +38,7 @@ pub fn txid_law()
 pub fn header_law()
     ensures again { (front rest : List ℕ) (h : Header) → IsHeader front h → header_from (front ++ rest) ≡ Ok (h, rest) }
     ensures place { (bytes : List ℕ) (kind : TxKind) (rest : List ℕ) → ((i : ℕ) → slice_index bytes i < 256)
-        → header_from bytes ≡ Err (kind, rest) → IsHeaderPlace bytes (length bytes - length rest) }
+        → header_from bytes ≡ Err (kind, rest) → IsFrontPlace header_text FitsHeader bytes (length bytes - length rest) }
     ensures cut { (bytes : List ℕ) (kind : TxKind) (rest : List ℕ) → ((i : ℕ) → slice_index bytes i < 256)
         → header_from bytes ≡ Err (kind, rest) → IsTrue (is_cut kind) ↔ (length bytes - length rest ≡ length bytes) }
 {}

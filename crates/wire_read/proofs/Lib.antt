@@ -1,2 +1,4 @@
 pub mod Forms
 pub mod Sizes
+pub mod FrontLaws
+pub mod ManyLaws

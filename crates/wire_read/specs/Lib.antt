@@ -2,3 +2,4 @@ pub mod Position
 pub mod SizeForm
 pub mod Fields
 pub mod Seen
+pub mod Front
