@@ -1,32 +1,17 @@
 -- The lists of a witness, one after the other.
-use Rattle.std.proofs.Common.{◌≡◌, ℕ, zero, suc, ◌-◌, ◌+◌, ◌≤◌, ◌<◌, Bool, false, not, ◌||◌, eqb, List, [], ◌∷◌, length, refl, sym, ap, ◌∙◌, arith}
+use Rattle.std.proofs.Common.{◌≡◌, ℕ, suc, ◌-◌, ◌+◌, ◌≤◌, ◌<◌, Bool, false, not, ◌||◌, eqb, List, [], ◌∷◌, length, refl, sym, ap, ◌∙◌, arith}
 use Rattle.std.specs.Prelude.{Result, Ok, Err}
 use Rattle.std.proofs.lemmas.Bool.{ne_eqb}
 use Rattle.block_grammar.specs.declared.kinds.TxKind.{TxKind}
 use Rattle.block_grammar.specs.Witness.{has_item}
-use Rattle.block_grammar.specs.Combinators.{◌>>=◌, Reader, then_from, map_from, many_from}
+use Rattle.block_grammar.specs.Combinators.{then_from, map_from, many_from}
 use Rattle.block_grammar.specs.Reading.{size_from, counted_from, stack_from, last_stack_from, stacks_from}
-use Rattle.block_grammar.proofs.ReaderLaws.{bind_ok, ok_is}
-use Rattle.tx_reader.specs.Rests.{rest_read, values_read}
-use Rattle.tx_reader.proofs.Many.{Spot, rest_found, list_known, list_failed, list_uncounted}
+use Rattle.block_grammar.proofs.ReaderLaws.{ok_is}
+use Rattle.wire_read.specs.Seen.{rest_read, values_read}
+use Rattle.wire_read.proofs.ManyLaws.{rest_found, rest_failed, many_length, list_known, list_failed, list_uncounted}
 
-many_length : {A : Type 0} (read : Reader TxKind A) (n : ℕ) (bytes : List ℕ) (xs : List A) (rest : List ℕ) → many_from read n bytes ≡ Ok (xs, rest) → length xs ≡ n
-many_length read zero bytes [] rest e = refl
-many_length read zero bytes (x ∷ xs) rest e = absurd (omega (arith, ap (λ (z : List _ × List ℕ). length z.0) (ok_is ([], bytes) (x ∷ xs, rest) e)))
-many_length {A = A} read (suc n) bytes xs rest e =
-    let p = bind_ok (then_from read (λ _. many_from read n) bytes) (λ (z : (A × List A) × List ℕ). Ok (z.0.0 ∷ z.0.1, z.1)) (xs, rest) e in
-    let x = bind_ok (read bytes) (λ (y : A × List ℕ). many_from read n y.1 >>= λ (ys : List A × List ℕ). Ok ((y.0, ys.0), ys.1)) p.0 p.1 in
-    let ys = bind_ok (many_from read n x.0.1) (λ (ys : List A × List ℕ). Ok ((x.0.0, ys.0), ys.1)) p.0 x.2 in
-    let rec = many_length read n x.0.1 ys.0.0 ys.0.1 ys.1 in
-    let made : (A × List A) × List ℕ = ((x.0.0, ys.0.0), ys.0.1) in
-    let pair : made ≡ p.0 = ok_is made p.0 ys.2 in
-    let whole : List A × List ℕ = (p.0.0.0 ∷ p.0.0.1, p.0.1) in
-    let out : whole ≡ (xs, rest) = ok_is whole (xs, rest) p.2 in
-    ap (λ (z : List A × List ℕ). length z.0) (sym out) ∙ ap (λ (z : (A × List A) × List ℕ). suc (length z.0.1)) (sym pair) ∙ ap suc rec
-
-rest_failed : {A : Type 0} (r : Result (List A × List ℕ) Spot) (e : Spot) → Err e ≡ rest_read r → r ≡ Err e
-rest_failed (Ok x) e h = absurd cc
-rest_failed (Err w) e h = let same : w ≡ e = cc in ap (λ (v : Spot). Err v) same
+abbrev Spot : Type 0
+Spot = TxKind × List ℕ
 
 item_there : (stack : List (List ℕ)) → has_item stack ≡ not (eqb (length stack) 0)
 item_there [] = refl

@@ -1,34 +1,15 @@
 -- The parts of a transaction's text that its txid covers.
-use Rattle.std.proofs.Common.{◌≡◌, ℕ, zero, suc, ◌-◌, ◌≤◌, false, List, [], ◌∷◌, ◌++◌, length, take, Option, Some, None, refl, sym, ap, subst, ◌∙◌, append_assoc, append-nil, arith}
-use Rattle.std.specs.Prelude.{Ok, IsSome}
+use Rattle.std.proofs.Common.{◌≡◌, ℕ, suc, ◌-◌, ◌≤◌, false, List, [], ◌∷◌, ◌++◌, length, take, refl, sym, ap, subst, ◌∙◌, append_assoc, append-nil, arith}
+use Rattle.std.specs.Prelude.{Ok}
 use Rattle.std.specs.Int.{w32, to_le_bytes}
 use Rattle.block_grammar.specs.Transaction.{TxInput, TxOutput, input_text, output_text, FitsInput, FitsOutput, Transaction, stripped_text}
 use Rattle.block_grammar.specs.CompactSize.{counted_list}
-use Rattle.block_grammar.specs.Fields.{◌>>=◌, many_at}
-use Rattle.block_grammar.proofs.Readers.{IsBytes, bind_some, some_is}
+use Rattle.block_grammar.proofs.Readers.{IsBytes}
 use Rattle.block_grammar.specs.declared.kinds.TxKind.TheVariants.{NoInput, NoOutput}
 use Rattle.block_grammar.specs.Reading.{number_from, some_from, input_from, output_from, stacks_from}
 use Rattle.block_grammar.proofs.FieldLaws.{laws32, some_laws}
 use Rattle.block_grammar.proofs.TransactionLaws.{input_laws, output_laws, stacks_laws}
 use Rattle.block_grammar.proofs.PlaceLaws.{is_place}
-use Rattle.tx_reader.specs.Parts.{values_of}
-
--- ---- how many inputs there are
-
-many_count : {A : Type 0} (read : List ℕ → Option (A × List ℕ)) (n : ℕ) (bytes : List ℕ) (z : List A × List ℕ) → many_at read n bytes ≡ Some z → length z.0 ≡ n
-many_count {A = A} read zero bytes z e = let nothing : List A × List ℕ = ([], bytes) in ap (λ (x : List A × List ℕ). length x.0) (sym (some_is nothing z e))
-many_count {A = A} read (suc n) bytes z e =
-    let a = bind_some (read bytes) (λ (x : A × List ℕ). many_at read n x.1 >>= λ (xs : List A × List ℕ). Some (x.0 ∷ xs.0, xs.1)) z e in
-    let b = bind_some (many_at read n a.0.1) (λ (xs : List A × List ℕ). Some (a.0.0 ∷ xs.0, xs.1)) z a.2 in
-    let whole : List A × List ℕ = (a.0.0 ∷ b.0.0, b.0.1) in
-    ap (λ (x : List A × List ℕ). length x.0) (sym (some_is whole z b.2)) ∙ ap suc (many_count read n a.0.1 b.0 b.1)
-
-pub values_count : {A : Type 0} (read : List ℕ → Option (A × List ℕ)) (n : ℕ) (bytes : List ℕ) → IsSome (many_at read n bytes) → length (values_of (many_at read n bytes)) ≡ n
-values_count {A = A} read n bytes some = by_case (many_at read n bytes) some (λ z e. many_count read n bytes z e)
-  where
-    by_case : (o : Option (List A × List ℕ)) → IsSome o → ((z : List A × List ℕ) → o ≡ Some z → length z.0 ≡ n) → length (values_of o) ≡ n
-    by_case (Some z) some count = count z refl
-    by_case None some count = absurd cc
 
 -- ---- inputs and outputs
 
@@ -59,6 +40,9 @@ IsBytes-behind (x ∷ xs) ys h = IsBytes-behind xs ys (λ i. h (suc i))
 
 pub rest_fits : (bytes text rest : List ℕ) → IsBytes bytes → bytes ≡ text ++ rest → IsBytes rest
 rest_fits bytes text rest fits e = IsBytes-behind text rest (subst IsBytes e fits)
+
+pub version_parts : (bytes : List ℕ) (version : ℕ) (rest : List ℕ) → IsBytes bytes → Ok (version, rest) ≡ number_from w32 bytes → bytes ≡ to_le_bytes w32 version ++ rest
+version_parts bytes version rest fits e = (laws32.takes bytes (version, rest) fits (sym e)).parts
 
 -- ---- the whole text
 

@@ -1,5 +1,1 @@
-pub mod Parts
 pub mod Fields
-pub mod Plain
-pub mod Rests
-pub mod Front

@@ -1,21 +1,14 @@
-ghost use Rattle.std.specs.Prelude.{◌≡◌, length, Some, IsSome};
-ghost use Rattle.std.specs.Option.{option_map};
+ghost use Rattle.std.specs.Prelude.{◌≡◌, length};
 ghost use Rattle.std.specs.Iterator.{YieldsFirstBy, item_count};
-ghost use Rattle.block_grammar.specs.Fields.{many_at, list_at};
-ghost use Rattle.block_grammar.specs.Reading.{input_at, some_from, input_from};
-ghost use Rattle.tx_reader.specs.Parts.{rest_after};
-ghost use Rattle.tx_reader.specs.Fields.{seen_input};
 ghost use Rattle.block_grammar.specs.Combinators.{many_from};
-ghost use Rattle.wire_read.specs.Seen.{seen};
-ghost use Rattle.tx_reader.specs.Rests.{seen_rest, rest_read};
+ghost use Rattle.block_grammar.specs.Reading.{some_from, input_from};
+ghost use Rattle.wire_read.specs.Seen.{seen, seen_rest, rest_read};
+ghost use Rattle.tx_reader.specs.Fields.{seen_input};
 
-use crate::cursor::{compact_size, counted, hash_at, u32_at};
-use wire_read::{
-    Fault, counted_at, hash_at as whole_hash_at, some_size_at, u32_at as whole_u32_at,
-};
 use block_grammar::TxKind;
 use nmc_base::{Hash32, OutPoint};
 use std::marker::Model;
+use wire_read::{Fault, counted_at, hash_at, some_size_at, u32_at};
 
 /// An input of a transaction (Bitcoin's "txin").
 #[derive(Clone, Copy, Debug)]
@@ -36,17 +29,17 @@ pub struct Inputs<'a> {
 }
 
 impl<'a> Model for Inputs<'a> {
-    ghost use Rattle.std.specs.Prelude.{List, IsSome};
+    ghost use Rattle.std.specs.Prelude.{List};
     ghost use Rattle.block_grammar.specs.Transaction.{TxInput};
-    ghost use Rattle.block_grammar.specs.Fields.{many_at};
-    ghost use Rattle.block_grammar.specs.Reading.{input_at};
-    ghost use Rattle.tx_reader.specs.Parts.{values_of};
+    ghost use Rattle.block_grammar.specs.Combinators.{many_from};
+    ghost use Rattle.block_grammar.specs.Reading.{input_from};
+    ghost use Rattle.wire_read.specs.Seen.{values_read, AreRead};
 
     ghost Value = { List TxInput };
 
-    ghost view = { λ s. values_of (many_at input_at s.count s.bytes.now) };
+    ghost view = { λ s. values_read (many_from input_from s.count s.bytes.now) };
 
-    ghost invariant = { λ s. IsSome (many_at input_at s.count s.bytes.now) };
+    ghost invariant = { λ s. AreRead (many_from input_from s.count s.bytes.now) };
 }
 
 impl<'a> Inputs<'a> {
@@ -79,59 +72,15 @@ impl<'a> Iterator for Inputs<'a> {
         if self.count == 0 {
             return None;
         }
-        match input_of(self.bytes) {
-            Some((input, rest)) => {
+        match input_in(self.bytes) {
+            Ok((input, rest)) => {
                 self.count -= 1;
                 self.bytes = rest;
                 Some(input)
             }
-            None => unreachable!(),
+            Err(_) => unreachable!(),
         }
     }
-}
-
-#[tactic(auto, unfolding(block_grammar::specs::Reading::input_at))]
-fn input_of(bytes: &[u8]) -> Option<(TxIn<'_>, &[u8])>
-    ensures { option_map (λ x. (seen_input x.0, x.1.now)) result ≡ input_at bytes.now }
-{
-    let (txid, rest) = hash_at(bytes)?;
-    let (index, rest) = u32_at(rest)?;
-    let (script, rest) = counted(rest)?;
-    let (sequence, rest) = u32_at(rest)?;
-    let previous = OutPoint {
-        txid: Hash32(txid),
-        index,
-    };
-    let input = TxIn {
-        previous,
-        script,
-        sequence,
-    };
-    Some((input, rest))
-}
-
-/// The bytes after so many inputs.
-fn past_inputs(count: u64, bytes: &[u8]) -> Option<&[u8]>
-    ensures { option_map (λ rest. rest.now) result ≡ rest_after (many_at input_at count bytes.now) }
-{
-    let mut rest = bytes;
-    for _ in 0..count {
-        let (_input, after) = input_of(rest)?;
-        rest = after;
-    }
-    Some(rest)
-}
-
-/// Inputs behind their number, which is 1 at least.
-pub(crate) fn inputs_of(bytes: &[u8]) -> Option<(Inputs<'_>, &[u8])>
-    ensures { option_map (λ x. (x.0, x.1.now)) result ≡ list_at input_at bytes.now }
-{
-    let (count, rest) = compact_size(bytes)?;
-    if count == 0 {
-        return None;
-    }
-    let after = past_inputs(count, rest)?;
-    Some((Inputs { count, bytes: rest }, after))
 }
 
 /// The input at the front, or the first fault.
@@ -139,10 +88,10 @@ pub(crate) fn inputs_of(bytes: &[u8]) -> Option<(Inputs<'_>, &[u8])>
 fn input_in<'a>(bytes: &'a [u8]) -> Result<(TxIn<'a>, &'a [u8]), Fault<'a>>
     ensures { seen (λ x. (seen_input x.0, x.1.now)) result ≡ input_from bytes.now }
 {
-    let (txid, rest) = whole_hash_at(bytes)?;
-    let (index, rest) = whole_u32_at(rest)?;
+    let (txid, rest) = hash_at(bytes)?;
+    let (index, rest) = u32_at(rest)?;
     let (script, rest) = counted_at(rest)?;
-    let (sequence, rest) = whole_u32_at(rest)?;
+    let (sequence, rest) = u32_at(rest)?;
     let previous = OutPoint {
         txid: Hash32(txid),
         index,

@@ -1,20 +1,16 @@
-//! Reads plain transactions of Bitcoin's block format, handing out slices of the bytes.
+//! Reads transactions of Bitcoin's block format, with or without a witness, handing out slices of the bytes.
 #![tactic(auto)]
 
-mod cursor;
-mod full;
 mod inputs;
 mod outputs;
-mod plain;
 mod transaction;
 mod witness;
 
-pub use full::{FullTx, TxFault, read_tx, txid};
 pub use block_grammar::TxKind;
 pub use inputs::{Inputs, TxIn};
 pub use outputs::{Outputs, TxOut};
-pub use plain::{PlainTx, read_plain};
-pub use transaction::Tx;
+pub use transaction::{Tx, read_tx, txid};
+pub use wire_read::TxFault;
 
 #[cfg(test)]
 mod tests;

@@ -1,6 +1,7 @@
 use super::*;
 use nmc_base::Hash32;
 use std::alloc::{AllocError, Global};
+use std::process::Abort;
 use std::test::Fail;
 
 /// The transaction of the first block of the Bitcoin chain.
@@ -26,112 +27,6 @@ const ONE_INPUT: [u8; 47] = [
     7, 7, 7, 7, 7, 3, 0, 0, 0, 1, 0x51, 0xfd, 0xff, 0xff, 0xff,
 ];
 
-fn read_of(bytes: &[u8]) -> Result<(Tx<'_>, usize), Fail> {
-    match read_plain(bytes) {
-        PlainTx::Read(tx, len) => Ok((tx, len)),
-        PlainTx::Flagged => Err("flagged")?,
-        PlainTx::Not => Err("no transaction")?,
-    }
-}
-
-fn is_not(bytes: &[u8]) -> bool {
-    matches!(read_plain(bytes), PlainTx::Not)
-}
-
-#[test]
-fn reads_the_first_coinbase(rt: HostRuntime) -> Result<(), Fail> {
-    let mut longer = COINBASE.to_vec(rt.alloc())?;
-    longer.push(9)?;
-    for bytes in [COINBASE.as_slice(), longer.as_slice()] {
-        let (tx, len) = read_of(bytes)?;
-        assert_eq!(rt; len, 204);
-        assert_eq!(rt; tx.version(), 1);
-        let mut inputs = tx.inputs();
-        let input = inputs.next().ok_or("an input")?;
-        assert_eq!(rt; input.previous.txid, Hash32([0; 32]));
-        assert_eq!(rt; input.previous.index, 0xffff_ffff);
-        assert_eq!(rt; input.script, &COINBASE[42..119]);
-        assert_eq!(rt; input.sequence, 0xffff_ffff);
-        assert!(rt; inputs.next().is_none());
-        let mut outputs = tx.outputs();
-        let output = outputs.next().ok_or("an output")?;
-        assert_eq!(rt; output.value, 5_000_000_000);
-        assert_eq!(rt; output.script, &COINBASE[133..200]);
-        assert!(rt; outputs.next().is_none());
-    }
-    Ok(())
-}
-
-#[test]
-fn reads_no_cut_transaction(rt: HostRuntime) {
-    for len in 0..COINBASE.len() {
-        assert!(rt; is_not(&COINBASE[..len]), "at {len}");
-    }
-}
-
-#[test]
-fn tells_the_marker(rt: HostRuntime) {
-    assert!(rt; is_not(&[1, 0, 0, 0]));
-    assert!(rt; matches!(read_plain(&[1, 0, 0, 0, 0]), PlainTx::Flagged));
-    assert!(rt; matches!(read_plain(&[1, 0, 0, 0, 0, 1, 1]), PlainTx::Flagged));
-}
-
-/// A transaction with the one input, and these bytes behind it.
-fn behind_input(alloc: Global, bytes: &[u8]) -> Result<Vec<u8>, AllocError> {
-    let mut whole = ONE_INPUT.to_vec(alloc)?;
-    whole.extend_from_slice(bytes)?;
-    Ok(whole)
-}
-
-#[test]
-fn reads_outputs_in_order(rt: HostRuntime) -> Result<(), Fail> {
-    let outputs = [
-        2, 5, 0, 0, 0, 0, 0, 0, 0, 0, 6, 1, 0, 0, 0, 0, 0, 0x80, 1, 0x6a, 9, 0, 0, 0,
-    ];
-    let whole = behind_input(rt.alloc(), &outputs)?;
-    let (tx, len) = read_of(&whole)?;
-    assert_eq!(rt; len, 71);
-    assert_eq!(rt; tx.version(), 2);
-    let mut inputs = tx.inputs();
-    let input = inputs.next().ok_or("an input")?;
-    assert_eq!(rt; input.previous.txid, Hash32([7; 32]));
-    assert_eq!(rt; input.previous.index, 3);
-    assert_eq!(rt; input.script, [0x51].as_slice());
-    assert_eq!(rt; input.sequence, 0xffff_fffd);
-    let mut outputs = tx.outputs();
-    let first = outputs.next().ok_or("a first output")?;
-    assert_eq!(rt; first.value, 5);
-    assert!(rt; first.script.is_empty());
-    let second = outputs.next().ok_or("a second output")?;
-    assert_eq!(rt; second.value, 0x8000_0000_0000_0106);
-    assert_eq!(rt; second.script, [0x6a].as_slice());
-    assert!(rt; outputs.next().is_none());
-    Ok(())
-}
-
-#[test]
-fn reads_shortest_forms_alone(rt: HostRuntime) -> Result<(), Fail> {
-    // No output, and a number of outputs in a longer form.
-    let bad: [&[u8]; 3] = [
-        &[0, 9, 0, 0, 0],
-        &[0xfd, 1, 0, 5, 0, 0, 0, 0, 0, 0, 0, 0, 9, 0, 0, 0],
-        &[0xfe, 1, 0, 0, 0, 5, 0, 0, 0, 0, 0, 0, 0, 0, 9, 0, 0, 0],
-    ];
-    for outputs in bad {
-        assert!(rt; is_not(&behind_input(rt.alloc(), outputs)?));
-    }
-    // A script of 252 bytes has a number of one byte, and one of 253 bytes a number of three.
-    for (script_len, reads) in [(252, false), (253, true)] {
-        let mut whole = behind_input(rt.alloc(), &[1, 5, 0, 0, 0, 0, 0, 0, 0, 0xfd])?;
-        whole.push(script_len)?;
-        for _ in 0..u16::from(script_len) + 5 {
-            whole.push(0)?;
-        }
-        assert_eq!(rt; !is_not(&whole), reads);
-    }
-    Ok(())
-}
-
 /// A transaction with a witness: two inputs, the second alone with items of witness, and one output.
 const FLAGGED: [u8; 113] = [
     0x02, 0x00, 0x00, 0x00, 0x00, 0x01, 0x02, 0x07, 0x07, 0x07, 0x07, 0x07, 0x07, 0x07, 0x07, 0x07,
@@ -156,32 +51,115 @@ const COINBASE_ID: [u8; 32] = [
     0x7f, 0xc8, 0x1b, 0xc3, 0x88, 0x8a, 0x51, 0x32, 0x3a, 0x9f, 0xb8, 0xaa, 0x4b, 0x1e, 0x5e, 0x4a,
 ];
 
+/// The next input is this one.
+fn has_input(
+    inputs: &mut Inputs<'_>,
+    txid: [u8; 32],
+    index: u32,
+    script: &[u8],
+    sequence: u32,
+) -> bool {
+    let Some(input) = inputs.next() else {
+        return false;
+    };
+    let previous = input.previous;
+    previous.txid == Hash32(txid)
+        && previous.index == index
+        && input.script == script
+        && input.sequence == sequence
+}
+
+/// The next output is this one.
+fn has_output(outputs: &mut Outputs<'_>, value: u64, script: &[u8]) -> bool {
+    let Some(output) = outputs.next() else {
+        return false;
+    };
+    output.value == value && output.script == script
+}
+
+/// The bytes begin with a transaction of this length, version and id.
+fn begins_with(bytes: &[u8], len: usize, version: u32, id: [u8; 32]) -> bool {
+    match read_tx(bytes) {
+        Ok((tx, found)) => found == len && tx.version() == version && txid(&tx) == Hash32(id),
+        Err(_) => false,
+    }
+}
+
+/// The one input and the one output of the first coinbase.
+fn is_coinbase(rt: &impl Abort, tx: &Tx<'_>) {
+    let mut inputs = tx.inputs();
+    let script = &COINBASE[42..119];
+    assert!(rt; has_input(&mut inputs, [0; 32], 0xffff_ffff, script, 0xffff_ffff));
+    assert!(rt; inputs.next().is_none());
+    let mut outputs = tx.outputs();
+    assert!(rt; has_output(&mut outputs, 5_000_000_000, &COINBASE[133..200]));
+    assert!(rt; outputs.next().is_none());
+}
+
 #[test]
-fn reads_both_forms(rt: HostRuntime) -> Result<(), Fail> {
-    let (plain, len) = read_tx(&COINBASE).ok().ok_or("a plain transaction")?;
-    assert_eq!(rt; len, 204);
-    assert_eq!(rt; plain.version(), 1);
-    assert_eq!(rt; txid(&plain), Hash32(COINBASE_ID));
+fn reads_the_first_coinbase(rt: HostRuntime) -> Result<(), Fail> {
+    assert!(rt; begins_with(&COINBASE, 204, 1, COINBASE_ID));
+    let mut longer = COINBASE.to_vec(rt.alloc())?;
+    longer.push(9)?;
+    assert!(rt; begins_with(&longer, 204, 1, COINBASE_ID));
+    match read_tx(&longer) {
+        Ok((tx, _)) => is_coinbase(&rt, &tx),
+        Err(_) => assert!(rt; false),
+    }
+    Ok(())
+}
+
+/// The two inputs and the one output of the transaction with a witness.
+fn is_flagged(rt: &impl Abort, tx: &Tx<'_>) {
+    let mut inputs = tx.inputs();
+    assert!(rt; has_input(&mut inputs, [7; 32], 3, &[0x51], 0xffff_fffd));
+    assert!(rt; has_input(&mut inputs, [8; 32], 0, &[], 0xffff_ffff));
+    assert!(rt; inputs.next().is_none());
+    let mut outputs = tx.outputs();
+    assert!(rt; has_output(&mut outputs, 5, &[0x6a, 0x51]));
+    assert!(rt; outputs.next().is_none());
+}
+
+#[test]
+fn reads_a_witness(rt: HostRuntime) -> Result<(), Fail> {
     let mut longer = FLAGGED.to_vec(rt.alloc())?;
     longer.push(9)?;
-    let (flagged, len) = read_tx(&longer).ok().ok_or("a flagged transaction")?;
-    assert_eq!(rt; len, FLAGGED.len());
-    assert_eq!(rt; flagged.version(), 2);
-    assert_eq!(rt; txid(&flagged), Hash32(FLAGGED_ID));
-    let mut inputs = flagged.inputs();
-    let first = inputs.next().ok_or("an input")?;
-    assert_eq!(rt; first.previous.txid, Hash32([7; 32]));
-    assert_eq!(rt; first.previous.index, 3);
-    assert_eq!(rt; first.script, [0x51].as_slice());
-    assert_eq!(rt; first.sequence, 0xffff_fffd);
-    let second = inputs.next().ok_or("a second input")?;
-    assert!(rt; second.script.is_empty());
-    assert!(rt; inputs.next().is_none());
-    let mut outputs = flagged.outputs();
-    let output = outputs.next().ok_or("an output")?;
-    assert_eq!(rt; output.value, 5);
-    assert_eq!(rt; output.script, [0x6a, 0x51].as_slice());
+    assert!(rt; begins_with(&longer, FLAGGED.len(), 2, FLAGGED_ID));
+    match read_tx(&longer) {
+        Ok((tx, _)) => is_flagged(&rt, &tx),
+        Err(_) => assert!(rt; false),
+    }
+    Ok(())
+}
+
+/// A transaction with the one input, and these bytes behind it.
+fn behind_input(alloc: Global, bytes: &[u8]) -> Result<Vec<u8>, AllocError> {
+    let mut whole = ONE_INPUT.to_vec(alloc)?;
+    whole.extend_from_slice(bytes)?;
+    Ok(whole)
+}
+
+/// Two outputs: one without a script, and one whose value needs all its bytes.
+const TWO_OUTPUTS: [u8; 24] = [
+    2, 5, 0, 0, 0, 0, 0, 0, 0, 0, 6, 1, 0, 0, 0, 0, 0, 0x80, 1, 0x6a, 9, 0, 0, 0,
+];
+
+fn are_two(rt: &impl Abort, mut outputs: Outputs<'_>) {
+    assert!(rt; has_output(&mut outputs, 5, &[]));
+    assert!(rt; has_output(&mut outputs, 0x8000_0000_0000_0106, &[0x6a]));
     assert!(rt; outputs.next().is_none());
+}
+
+#[test]
+fn reads_outputs_in_order(rt: HostRuntime) -> Result<(), Fail> {
+    let whole = behind_input(rt.alloc(), &TWO_OUTPUTS)?;
+    match read_tx(&whole) {
+        Ok((tx, len)) => {
+            assert!(rt; len == 71);
+            are_two(&rt, tx.outputs());
+        }
+        Err(_) => assert!(rt; false),
+    }
     Ok(())
 }
 
@@ -193,25 +171,64 @@ fn has_fault(bytes: &[u8], kind: TxKind, at: usize) -> bool {
     }
 }
 
+/// Whether each shorter front of the bytes is cut, with its length as the place.
+fn is_cut_everywhere(bytes: &[u8]) -> bool {
+    for len in 0..bytes.len() {
+        if !has_fault(&bytes[..len], TxKind::Cut, len) {
+            return false;
+        }
+    }
+    true
+}
+
+#[test]
+fn tells_cut_transactions(rt: HostRuntime) {
+    assert!(rt; is_cut_everywhere(&FLAGGED));
+    assert!(rt; is_cut_everywhere(&COINBASE));
+}
+
+/// Whether the transaction with a witness has this fault at the place where this byte stands in it.
+fn faults_with(place: usize, byte: u8, kind: TxKind) -> bool {
+    let mut bytes = FLAGGED;
+    match bytes.get_mut(place) {
+        Some(old) => *old = byte,
+        None => return false,
+    }
+    has_fault(&bytes, kind, place)
+}
+
 #[test]
 fn tells_each_fault_and_its_place(rt: HostRuntime) {
     // The flag, the number of inputs, that of outputs, and that of the last list of the witness.
-    let cases = [
-        (5, 2, TxKind::BadFlag),
-        (6, 0, TxKind::NoInput),
-        (90, 0, TxKind::NoOutput),
-        (103, 0, TxKind::EmptyWitness),
-    ];
-    for (place, byte, kind) in cases {
-        let mut bytes = FLAGGED;
-        bytes[place] = byte;
-        assert!(rt; has_fault(&bytes, kind, place), "at {place}");
-    }
+    assert!(rt; faults_with(5, 2, TxKind::BadFlag));
+    assert!(rt; faults_with(6, 0, TxKind::NoInput));
+    assert!(rt; faults_with(90, 0, TxKind::NoOutput));
+    assert!(rt; faults_with(103, 0, TxKind::EmptyWitness));
     assert!(rt; has_fault(&[2, 0, 0, 0, 0xfd, 1, 0, 7], TxKind::LongForm, 6));
-    for len in 0..FLAGGED.len() {
-        assert!(rt; has_fault(&FLAGGED[..len], TxKind::Cut, len), "of {len}");
-    }
-    for len in 0..COINBASE.len() {
-        assert!(rt; has_fault(&COINBASE[..len], TxKind::Cut, len), "of {len}");
-    }
+}
+
+#[test]
+fn reads_shortest_forms_alone(rt: HostRuntime) -> Result<(), Fail> {
+    // Numbers of outputs: none, and longer forms of one.
+    assert!(rt; has_fault(&behind_input(rt.alloc(), &[0, 9])?, TxKind::NoOutput, 47));
+    assert!(rt;
+        has_fault(
+            &behind_input(rt.alloc(), &[0xfd, 1, 0, 5])?,
+            TxKind::LongForm,
+            49
+        )
+    );
+    assert!(rt;
+        has_fault(
+            &behind_input(rt.alloc(), &[0xfe, 1, 0, 0, 0, 5])?,
+            TxKind::LongForm,
+            51
+        )
+    );
+    // The number of a script's bytes: 252 in three bytes is too long, 253 isn't.
+    let script = [1, 5, 0, 0, 0, 0, 0, 0, 0, 0xfd, 252, 0, 7];
+    assert!(rt; has_fault(&behind_input(rt.alloc(), &script)?, TxKind::LongForm, 58));
+    let script = [1, 5, 0, 0, 0, 0, 0, 0, 0, 0xfd, 253, 0, 7];
+    assert!(rt; has_fault(&behind_input(rt.alloc(), &script)?, TxKind::Cut, 60));
+    Ok(())
 }

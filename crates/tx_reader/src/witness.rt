@@ -2,12 +2,11 @@ ghost use Rattle.std.specs.Prelude.{◌≡◌, ◌-◌, ◌≤◌, false, ◌||�
 ghost use Rattle.block_grammar.specs.Witness.{has_item};
 ghost use Rattle.block_grammar.specs.Combinators.{map_from, many_from, nonzero_from};
 ghost use Rattle.block_grammar.specs.Reading.{counted_from, stack_from, last_stack_from, stacks_from};
-ghost use Rattle.wire_read.specs.Seen.{seen};
-ghost use Rattle.tx_reader.specs.Rests.{seen_rest, rest_read};
+ghost use Rattle.wire_read.specs.Seen.{seen, seen_rest, rest_read};
 
-use wire_read::{Fault, counted_at, size_at};
 use block_grammar::TxKind;
 use std::marker::Model;
+use wire_read::{Fault, counted_at, size_at};
 
 /// The witness of a transaction (BIP 144): a list of byte strings for each input. Contracts see these lists.
 #[derive(Drop)]
@@ -20,7 +19,7 @@ pub(crate) struct Witness<'a> {
 impl<'a> Model for Witness<'a> {
     ghost use Rattle.std.specs.Prelude.{◌-◌, false, List, ℕ};
     ghost use Rattle.block_grammar.specs.Reading.{stacks_from};
-    ghost use Rattle.tx_reader.specs.Rests.{values_read};
+    ghost use Rattle.wire_read.specs.Seen.{values_read};
 
     ghost Value = { List (List (List ℕ)) };
 

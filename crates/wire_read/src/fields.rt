@@ -4,9 +4,9 @@ ghost use Rattle.block_grammar.specs.Combinators.{nonzero_from};
 ghost use Rattle.block_grammar.specs.Reading.{number_from, piece_from, size_from, counted_from};
 ghost use Rattle.wire_read.specs.Seen.{seen};
 
+use crate::cursor::{Cursor, WireFault};
 use crate::fault::{Fault, cut};
 use block_grammar::TxKind;
-use crate::cursor::{Cursor, WireFault};
 
 /// A number of 4 bytes, low byte first.
 pub fn u32_at<'a>(bytes: &'a [u8]) -> Result<(u32, &'a [u8]), Fault<'a>>

@@ -1,69 +1,136 @@
 use super::*;
-use std::test::Fail;
+use block_grammar::TxKind;
+use std::process::Abort;
 
-const FIELDS: [u8; 27] = [
+/// A byte, a number of 4 bytes and one of 8, five compact sizes of one to five bytes with the two byte strings behind
+/// the last ones, and two bytes more.
+static FIELDS: [u8; 27] = [
     0x07, 0x01, 0x02, 0x03, 0x84, 1, 2, 3, 4, 5, 6, 7, 0x88, 0xfc, 0xfd, 0xfd, 0x00, 0xfe, 0, 0, 1,
     0, 0x02, 0xaa, 0xbb, 0xcc, 0xff,
 ];
 
+/// One call of a cursor.
+#[derive(Clone, Copy)]
+enum Call {
+    U8,
+    U32,
+    U64,
+    Size,
+    Take(u64),
+}
+
+/// The number that a call gives, or for bytes the first of them (0 where there are none).
+fn called(cursor: &mut Cursor<'_>, call: Call) -> Result<u64, WireFault> {
+    match call {
+        Call::U8 => Ok(u64::from(cursor.u8()?)),
+        Call::U32 => Ok(u64::from(cursor.u32()?)),
+        Call::U64 => cursor.u64(),
+        Call::Size => cursor.size(),
+        Call::Take(n) => {
+            let piece = cursor.take(n)?;
+            Ok(piece.first().map_or(0, |byte| u64::from(*byte)))
+        }
+    }
+}
+
+/// The call answers this, and the cursor stands there after it.
+fn gives(rt: &impl Abort, cursor: &mut Cursor<'_>, call: Call, want: u64, at: usize) {
+    let got = called(cursor, call);
+    assert!(rt; got == Ok(want) && cursor.at() == at, "up to {at}");
+}
+
 #[test]
-fn reads_fields_in_order(rt: HostRuntime) -> Result<(), Fail> {
+fn reads_fields_in_order(rt: HostRuntime) {
     let mut cursor = Cursor::new(&FIELDS);
-    assert_eq!(rt; cursor.at(), 0);
-    assert_eq!(rt; cursor.u8(), Ok(7));
-    assert_eq!(rt; cursor.u32(), Ok(0x8403_0201));
-    assert_eq!(rt; cursor.u64(), Ok(0x8807_0605_0403_0201));
-    assert_eq!(rt; cursor.size(), Ok(0xfc));
-    assert_eq!(rt; cursor.size(), Ok(0xfd));
-    assert_eq!(rt; cursor.at(), 17);
-    assert_eq!(rt; cursor.size(), Ok(0x1_0000));
-    assert_eq!(rt; cursor.size(), Ok(2));
-    assert_eq!(rt; cursor.take(2), Ok([0xaa, 0xbb].as_slice()));
-    assert_eq!(rt; cursor.take(0), Ok([].as_slice()));
-    assert_eq!(rt; cursor.at(), 25);
-    // One byte more is left than 0xcc, and it begins a form of nine bytes.
+    gives(&rt, &mut cursor, Call::U8, 7, 1);
+    gives(&rt, &mut cursor, Call::U32, 0x8403_0201, 5);
+    gives(&rt, &mut cursor, Call::U64, 0x8807_0605_0403_0201, 13);
+    gives(&rt, &mut cursor, Call::Size, 0xfc, 14);
+    gives(&rt, &mut cursor, Call::Size, 0xfd, 17);
+    gives(&rt, &mut cursor, Call::Size, 0x1_0000, 22);
+    gives(&rt, &mut cursor, Call::Size, 2, 23);
+    gives(&rt, &mut cursor, Call::Take(2), 0xaa, 25);
+    gives(&rt, &mut cursor, Call::Take(0), 0, 25);
+    gives(&rt, &mut cursor, Call::U8, 0xcc, 26);
+}
+
+/// Behind so many bytes the call answers this fault, and the cursor hasn't moved.
+fn faults(rt: &impl Abort, bytes: &[u8], behind: u64, call: Call, want: WireFault) {
+    let mut cursor = Cursor::new(bytes);
+    let skipped = cursor.take(behind).is_ok();
+    let at = cursor.at();
+    let got = called(&mut cursor, call);
+    assert!(rt; skipped && got == Err(want) && cursor.at() == at, "at {at}");
+}
+
+#[test]
+fn tells_cut_fields(rt: HostRuntime) {
     let cut = WireFault::Cut { at: 27 };
-    assert_eq!(rt; cursor.take(3), Err(cut));
-    assert_eq!(rt; cursor.take(u64::MAX), Err(cut));
-    assert_eq!(rt; cursor.u32(), Err(cut));
-    assert_eq!(rt; cursor.u64(), Err(cut));
-    assert_eq!(rt; cursor.at(), 25);
-    assert_eq!(rt; cursor.u8(), Ok(0xcc));
-    assert_eq!(rt; cursor.size(), Err(cut));
-    assert_eq!(rt; cursor.at(), 26);
-    assert_eq!(rt; cursor.u8(), Ok(0xff));
-    assert_eq!(rt; cursor.u8(), Err(cut));
-    assert_eq!(rt; cursor.size(), Err(cut));
-    Ok(())
+    faults(&rt, &FIELDS, 25, Call::Take(3), cut);
+    faults(&rt, &FIELDS, 25, Call::Take(u64::MAX), cut);
+    faults(&rt, &FIELDS, 24, Call::U32, cut);
+    faults(&rt, &FIELDS, 20, Call::U64, cut);
+    faults(&rt, &FIELDS, 27, Call::U8, cut);
+    faults(&rt, &FIELDS, 27, Call::Size, cut);
+    faults(&rt, &FIELDS, 26, Call::Size, cut);
 }
 
 #[test]
 fn tells_longer_forms(rt: HostRuntime) {
-    // A byte stands in front of each form.
-    let forms: [(&[u8], Result<u64, WireFault>); 8] = [
-        (&[9, 0xfd, 0xfc, 0], Err(WireFault::LongForm { at: 3 })),
-        (&[9, 0xfd, 0xfc], Err(WireFault::Cut { at: 3 })),
-        (
-            &[9, 0xfe, 0xff, 0xff, 0, 0, 5],
-            Err(WireFault::LongForm { at: 5 }),
-        ),
-        (&[9, 0xfe, 0, 0, 1, 0, 5], Ok(0x1_0000)),
-        (
-            &[9, 0xff, 0xff, 0xff, 0xff, 0xff, 0, 0, 0, 0],
-            Err(WireFault::LongForm { at: 9 }),
-        ),
-        (&[9, 0xff, 0, 0, 0, 0, 1, 0, 0, 0], Ok(0x1_0000_0000)),
-        (
-            &[9, 0xff, 1, 0, 0, 0, 0, 0, 0],
-            Err(WireFault::Cut { at: 9 }),
-        ),
-        (&[9], Err(WireFault::Cut { at: 1 })),
-    ];
-    for (bytes, wanted) in forms {
-        let mut cursor = Cursor::new(bytes);
-        assert_eq!(rt; cursor.u8(), Ok(9));
-        assert_eq!(rt; cursor.size(), wanted);
-        let moved = wanted.is_ok();
-        assert_eq!(rt; cursor.at() > 1, moved);
+    let long = |at: usize| WireFault::LongForm { at };
+    faults(&rt, &[9, 0xfd, 0xfc, 0], 1, Call::Size, long(3));
+    faults(&rt, &[9, 0xfe, 0xff, 0xff, 0, 0, 5], 1, Call::Size, long(5));
+    let nine = [9, 0xff, 0xff, 0xff, 0xff, 0xff, 0, 0, 0, 0];
+    faults(&rt, &nine, 1, Call::Size, long(9));
+    let cut = WireFault::Cut { at: 9 };
+    faults(&rt, &nine[..9], 1, Call::Size, cut);
+    let mut cursor = Cursor::new(&[0xff, 0, 0, 0, 0, 1, 0, 0, 0]);
+    gives(&rt, &mut cursor, Call::Size, 0x1_0000_0000, 9);
+}
+
+/// Whether this was read, with so many bytes left.
+fn reads(read: Result<(u64, &[u8]), Fault<'_>>, number: u64, left: usize) -> bool {
+    match read {
+        Ok((got, rest)) => got == number && rest.len() == left,
+        Err(_) => false,
     }
+}
+
+/// Whether the fault is of this kind, with so many bytes from its place on.
+fn stops<T: Drop>(read: Result<(T, &[u8]), Fault<'_>>, kind: TxKind, left: usize) -> bool {
+    match read {
+        Ok(_) => false,
+        Err(fault) => fault.kind == kind && fault.rest.len() == left,
+    }
+}
+
+#[test]
+fn reads_at_the_front(rt: HostRuntime) {
+    let number = u32_at(&[1, 2, 3, 0x84, 9]).map(|x| (u64::from(x.0), x.1));
+    assert!(rt; reads(number, 0x8403_0201, 1));
+    let number = u64_at(&[1, 0, 0, 0, 0, 0, 0, 0x80]);
+    assert!(rt; reads(number, 0x8000_0000_0000_0001, 0));
+    assert!(rt; reads(size_at(&[0xfd, 0xfd, 0, 5]), 0xfd, 1));
+    assert!(rt; reads(some_size_at(TxKind::NoInput, &[1, 5]), 1, 1));
+    assert!(rt; matches!(hash_at(&[7; 33]), Ok(([7, ..], [7]))));
+    assert!(rt; matches!(counted_at(&[2, 8, 9, 5]), Ok(([8, 9], [5]))));
+    assert!(rt; before(&[1, 2, 3], &[3]) == [1, 2]);
+}
+
+#[test]
+fn tells_the_first_fault(rt: HostRuntime) {
+    assert!(rt; stops(u32_at(&[1, 2, 3]), TxKind::Cut, 0));
+    assert!(rt; stops(u64_at(&[7; 7]), TxKind::Cut, 0));
+    assert!(rt; stops(hash_at(&[7; 31]), TxKind::Cut, 0));
+    assert!(rt; stops(size_at(&[0xfd, 1]), TxKind::Cut, 0));
+    assert!(rt; stops(size_at(&[0xfd, 0xfc, 0, 5]), TxKind::LongForm, 2));
+    assert!(rt;
+        stops(
+            some_size_at(TxKind::NoOutput, &[0, 5, 6]),
+            TxKind::NoOutput,
+            3
+        )
+    );
+    assert!(rt; stops(counted_at(&[2, 8]), TxKind::Cut, 0));
+    assert!(rt; cut().kind == TxKind::Cut && cut().rest.is_empty());
 }

@@ -1,7 +1,7 @@
 use Rattle.std.proofs.Common.{sym}
 use Rattle.block_grammar.specs.Reading.{output_from}
 use Rattle.tx_reader.specs.Fields.{seen_output}
-use Rattle.tx_reader.proofs.Many.{one_more}
+use Rattle.wire_read.proofs.ManyLaws.{one_more}
 use Rattle.tx_reader.proofs.outputs.behind_outputs.Goals as goal
 
 pub loop-preserved : goal.loop-preserved

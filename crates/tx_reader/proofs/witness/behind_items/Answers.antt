@@ -1,6 +1,6 @@
 use Rattle.std.proofs.Common.{sym}
 use Rattle.block_grammar.specs.Reading.{counted_from}
-use Rattle.tx_reader.proofs.Many.{one_more}
+use Rattle.wire_read.proofs.ManyLaws.{one_more}
 use Rattle.tx_reader.proofs.witness.behind_items.Goals as goal
 
 pub loop-preserved : goal.loop-preserved

@@ -1,6 +1,6 @@
 use Rattle.std.proofs.Common.{◌≡◌, ◌-◌, false}
 use Rattle.block_grammar.specs.Reading.{stacks_from}
-use Rattle.tx_reader.specs.Rests.{rest_read}
+use Rattle.wire_read.specs.Seen.{rest_read}
 use Rattle.tx_reader.proofs.witness.behind_stacks.Given as goal
 
 abbrev pub invariant-loop : goal.invariant-loop

@@ -1,6 +1,6 @@
 use Rattle.std.proofs.Common.{arith, Some}
 use Rattle.tx_reader.proofs.Texts.{flagged_text}
-use Rattle.tx_reader.proofs.full.flagged_in.Goals as goal
+use Rattle.tx_reader.proofs.transaction.flagged_in.Goals as goal
 
 pub invariant_of-tx : goal.invariant_of-tx
 invariant_of-tx c =

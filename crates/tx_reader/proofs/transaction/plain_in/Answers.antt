@@ -1,6 +1,6 @@
 use Rattle.std.proofs.Common.{arith, None}
 use Rattle.tx_reader.proofs.Texts.{plain_text}
-use Rattle.tx_reader.proofs.full.plain_in.Goals as goal
+use Rattle.tx_reader.proofs.transaction.plain_in.Goals as goal
 
 pub invariant_of-tx : goal.invariant_of-tx
 invariant_of-tx c =

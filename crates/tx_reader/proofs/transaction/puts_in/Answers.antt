@@ -1,6 +1,6 @@
 use Rattle.std.proofs.Common.{arith, ◌∙◌}
 use Rattle.tx_reader.proofs.Texts.{is_puts}
-use Rattle.tx_reader.proofs.full.puts_in.Goals as goal
+use Rattle.tx_reader.proofs.transaction.puts_in.Goals as goal
 
 pub before-text-requires : goal.before-text-requires
 before-text-requires c = (is_puts c.args.bytes.now c.in_ok-inputs.rest.now c.in_ok-outputs.after.now c.in_ok-inputs.inputs c.in_ok-outputs.outputs (λ i. omega (arith, c.type_inv.bytes i)) c.in_ok-inputs.ensures c.in_ok-outputs.ensures).shorter

@@ -1,8 +1,0 @@
-use Rattle.std.proofs.Common.{sym}
-use Rattle.block_grammar.specs.Reading.{input_at}
-use Rattle.tx_reader.specs.Fields.{seen_input}
-use Rattle.tx_reader.proofs.Loops.{one_more}
-use Rattle.tx_reader.proofs.inputs.past_inputs.Goals as goal
-
-pub loop-preserved : goal.loop-preserved
-loop-preserved c = one_more input_at c.args.count c.loop.counter c.loop.rest.now (seen_input c.in_ok-_input._input) c.in_ok-_input.after.now _ c.loop-test.true (sym c.in_ok-_input.ensures) c.loop.invariant

@@ -1,8 +1,0 @@
-use Rattle.std.proofs.Common.{sym}
-use Rattle.block_grammar.specs.Reading.{output_at}
-use Rattle.tx_reader.specs.Fields.{seen_output}
-use Rattle.tx_reader.proofs.Loops.{one_more}
-use Rattle.tx_reader.proofs.outputs.past_outputs.Goals as goal
-
-pub loop-preserved : goal.loop-preserved
-loop-preserved c = one_more output_at c.args.count c.loop.counter c.loop.rest.now (seen_output c.in_ok-_output._output) c.in_ok-_output.after.now _ c.loop-test.true (sym c.in_ok-_output.ensures) c.loop.invariant
