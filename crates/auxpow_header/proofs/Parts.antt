@@ -7,8 +7,11 @@ use Rattle.block_grammar.specs.Combinators.{then_from, map_from, many_from}
 use Rattle.block_grammar.specs.Reading.{size_from, piece_from, fields_from, branch_from}
 use Rattle.block_grammar.proofs.HeaderLaws.{fields_laws}
 use Rattle.block_grammar.proofs.PlaceLaws.{is_place}
-use Rattle.tx_reader.specs.Rests.{rest_read}
-use Rattle.tx_reader.proofs.Many.{Spot}
+use Rattle.wire_read.specs.Seen.{rest_read}
+use Rattle.block_grammar.specs.declared.kinds.TxKind.{TxKind}
+
+abbrev Spot : Type 0
+Spot = TxKind × List ℕ
 
 -- only the bytes after a list are kept
 list_rest : {A : Type 0} (n : ℕ) (r : Result (List A × List ℕ) Spot) → rest_read (map_from (λ (z : ℕ × List A). z.1) (then_from (λ (b : List ℕ). Ok (n, b)) (λ _ b. r)) []) ≡ rest_read r

@@ -1,18 +1,18 @@
 ghost use Rattle.std.specs.Prelude.{◌≡◌, ℕ, ◌↔◌, Ok, IsTrue};
 ghost use Rattle.block_grammar.specs.PureHeader.{IsMerged};
-ghost use Rattle.block_grammar.specs.Header.{header_hash};
+ghost use Rattle.block_grammar.specs.Header.{header_hash, header_text, FitsHeader};
 ghost use Rattle.block_grammar.specs.Header as full;
 ghost use Rattle.block_grammar.specs.Reading.{header_from};
 ghost use Rattle.wire_read.specs.Seen.{seen};
-ghost use Rattle.auxpow_header.specs.Front.{StandsFirst, IsRead, GivesHeader};
+ghost use Rattle.block_grammar.specs.Fault.{StandsFirst};
+ghost use Rattle.wire_read.specs.Front.{IsRead, Gives};
 
 use crate::fields::{Fields, fields_in};
 use crate::merge_part::{behind_merged, is_merged};
-use wire_read::{Fault, before};
 use nmc_base::Hash32;
 use sha2::{Digest, Sha256};
 use std::marker::Model;
-use tx_reader::TxFault;
+use wire_read::{Fault, TxFault, before};
 
 /// A header (Bitcoin's "Block Headers") with its merge-mining part, where it has one. Contracts see its contents.
 #[derive(Drop)]
@@ -94,11 +94,11 @@ fn header_in<'a>(bytes: &'a [u8]) -> Result<(Header<'a>, &'a [u8]), Fault<'a>>
 /// Reads the header with its merge-mining part at the front, and says how many bytes they take. Bytes may follow them.
 pub fn read_header<'a>(bytes: &'a [u8]) -> Result<(Header<'a>, usize), TxFault>
     // What is read is there, and each fault is the first.
-    ensures read { IsRead bytes.now result }
+    ensures read { IsRead header_text FitsHeader header_from bytes.now result }
     // A header at the front is read.
-    ensures only { (h : full.Header) (n : ℕ) → StandsFirst bytes.now h n → result ≡ Ok (h, n) }
+    ensures only { (h : full.Header) (n : ℕ) → StandsFirst header_text FitsHeader bytes.now h n → result ≡ Ok (h, n) }
     // The same, by the reader on lists.
-    ensures exact { GivesHeader bytes.now result }
+    ensures exact { Gives header_from bytes.now result }
 {
     match header_in(bytes) {
         Ok((header, rest)) => Ok((header, bytes.len() - rest.len())),

@@ -1,12 +1,12 @@
 ghost use Rattle.std.specs.Prelude.{◌≡◌};
 ghost use Rattle.block_grammar.specs.Combinators.{many_from};
 ghost use Rattle.block_grammar.specs.Reading.{transaction_from, piece_from, branch_from, merge_part_from, merged_from};
-ghost use Rattle.tx_reader.specs.Rests.{seen_rest, rest_read};
+ghost use Rattle.wire_read.specs.Seen.{seen_rest, rest_read};
 ghost use Rattle.auxpow_header.specs.Seen.{is_merged_version};
 
 use crate::fields::fields_in;
-use wire_read::{Fault, hash_at, size_at, u32_at};
 use tx_reader::read_tx;
+use wire_read::{Fault, hash_at, size_at, u32_at};
 
 /// The bytes after a transaction.
 fn behind_transaction<'a>(bytes: &'a [u8]) -> Result<&'a [u8], Fault<'a>>

@@ -9,3 +9,4 @@ pub mod HeaderLaws
 pub mod BlockLaws
 pub mod MerkleLaws
 pub mod Statements
+pub mod Lengths

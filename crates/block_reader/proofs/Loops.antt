@@ -1,39 +1,28 @@
 -- Reading transactions one after the other, as a loop does that keeps only the bytes after them.
-use Rattle.std.proofs.Common.{◌≡◌, ℕ, zero, suc, ◌-◌, ◌+◌, ◌≤◌, ◌<◌, List, [], ◌∷◌, ◌++◌, length, refl, sym, ap, ◌∙◌, arith}
+use Rattle.std.proofs.Common.{◌≡◌, ℕ, zero, suc, ◌-◌, ◌+◌, ◌≤◌, ◌<◌, List, [], ◌∷◌, length, refl, sym, ap, ◌∙◌, arith}
 use Rattle.std.specs.Prelude.{Result, Ok, Err}
-use Rattle.std.specs.List.{flat_map}
 use Rattle.std.proofs.lemmas.List.{length-append}
-use Rattle.block_grammar.specs.CompactSize.{compact_size}
 use Rattle.block_grammar.proofs.Readers.{IsBytes}
 use Rattle.block_grammar.specs.declared.kinds.TxKind.{TxKind}
 use Rattle.block_grammar.specs.declared.kinds.BlockKind.{BlockKind}
 use Rattle.block_grammar.specs.declared.kinds.BlockKind.TheVariants.{Header as in_header, Transaction as in_transaction}
-use Rattle.block_grammar.specs.Transaction.{Transaction, transaction_text}
-use Rattle.block_grammar.specs.Header.{Header, header_text}
-use Rattle.block_grammar.specs.Block.{Block, block_text}
-use Rattle.block_grammar.specs.Combinators.{◌>>=◌, Reader, then_from, map_from, many_from, retold, within}
+use Rattle.block_grammar.specs.Transaction.{Transaction}
+use Rattle.block_grammar.specs.Header.{Header}
+use Rattle.block_grammar.specs.Block.{Block, block_text, count_outputs}
+use Rattle.block_grammar.specs.Combinators.{◌>>=◌, Reader, then_from, many_from, retold, within}
 use Rattle.block_grammar.specs.Reading.{transaction_from, header_from, count_from, block_front_from}
 use Rattle.block_grammar.proofs.ReaderLaws.{bind_ok, ok_is}
 use Rattle.block_grammar.proofs.BlockLaws.{BlockSpot, block_front_laws}
-use Rattle.block_reader.specs.Seen.{rest_of, values_found, AreFound}
+use Rattle.block_grammar.proofs.Lengths.{transactions_short, outputs_short}
+use Rattle.wire_read.specs.Seen.{rest_read, values_read, AreRead}
+use Rattle.wire_read.proofs.ManyLaws.{rest_found, found_values, one_more}
 
-pub rest_found : {A : Type 0} (r : Result (A × List ℕ) BlockSpot) (rest : List ℕ) → Ok rest ≡ rest_of r → (x : A) × (r ≡ Ok (x, rest))
-rest_found (Ok x) rest e = let same : x.1 ≡ rest = cc in (x.0, ap (λ (t : List ℕ). Ok (x.0, t)) same)
-rest_found (Err w) rest e = absurd cc
-
-one_behind : {A : Type 0} (x : A) (r : Result (List A × List ℕ) BlockSpot) → rest_of (map_from (λ (z : A × List A). z.0 ∷ z.1) (then_from (λ (b : List ℕ). Ok (x, b)) (λ _ b. r)) []) ≡ rest_of r
-one_behind x (Ok xs) = refl
-one_behind x (Err e) = refl
-
-known : {A : Type 0} (read : Reader BlockKind A) (n : ℕ) (bytes : List ℕ) (x : A) (after : List ℕ) → read bytes ≡ Ok (x, after) → rest_of (many_from read (suc n) bytes) ≡ rest_of (many_from read n after)
-known read n bytes x after e = rw e (one_behind x (many_from read n after))
-
-pub one_more : {A : Type 0} (read : Reader BlockKind A) (count i : ℕ) (bytes after : List ℕ) (total : Result (List ℕ) BlockSpot) → i < count → Ok after ≡ rest_of (read bytes)
-    → rest_of (many_from read (count - i) bytes) ≡ total → rest_of (many_from read (count - (i + 1)) after) ≡ total
-one_more read count i bytes after total lt e so_far =
-    let k : count - i ≡ suc (count - (i + 1)) = omega arith in
+-- a loop over transactions keeps only the bytes after each
+pub one_behind : {A : Type 0} (read : Reader BlockKind A) (count i : ℕ) (bytes after : List ℕ) (total : Result (List ℕ) BlockSpot) → i < count → Ok after ≡ rest_read (read bytes)
+    → rest_read (many_from read (count - i) bytes) ≡ total → rest_read (many_from read (count - (i + 1)) after) ≡ total
+one_behind read count i bytes after total lt e so_far =
     let f = rest_found (read bytes) after e in
-    sym (ap (λ (n : ℕ). rest_of (many_from read n bytes)) k ∙ known read (count - (i + 1)) bytes f.0 after f.1) ∙ so_far
+    one_more read count i bytes f.0 after total lt f.1 so_far
 
 -- ---- the transactions by themselves
 
@@ -65,23 +54,6 @@ many_told {A = A} f read (suc n) bytes z e =
 
 -- ---- what a block is made of
 
-text_long : (t : Transaction) → 1 ≤ length (transaction_text t)
-unfolding transaction_text
-text_long t = omega arith
-
-texts_long : (ts : List Transaction) → length ts ≤ length (flat_map transaction_text ts)
-texts_long [] = omega arith
-texts_long (t ∷ ts) = omega (arith, texts_long ts, text_long t, length-append (transaction_text t) (flat_map transaction_text ts))
-
-block_long : (b : Block) → length b.transactions ≤ length (block_text b)
-unfolding block_text
-block_long b =
-    omega (arith, texts_long b.transactions, length-append (header_text b.header) (compact_size (length b.transactions) ++ flat_map transaction_text b.transactions), length-append (compact_size (length b.transactions)) (flat_map transaction_text b.transactions))
-
-found_values : {A E : Type 0} (r : Result (List A × List ℕ) E) (x : List A × List ℕ) → r ≡ Ok x → AreFound r × (values_found r ≡ x.0)
-found_values (Ok y) x e = (tt, ap (λ (z : _ × List ℕ). z.0) (ok_is y x e))
-found_values (Err w) x e = absurd cc
-
 front_known : (bytes rest behind after : List ℕ) (h : Header) (count : ℕ) (ts : List Transaction) → within in_header header_from bytes ≡ Ok (h, rest) → count_from rest ≡ Ok (count, behind)
     → many_from (within in_transaction transaction_from) count behind ≡ Ok (ts, after) → block_front_from bytes ≡ Ok (record { header = h; transactions = ts }, after)
 unfolding block_front_from
@@ -90,14 +62,15 @@ front_known bytes rest behind after h count ts e e' e'' = rw (e, e', e'') refl
 pub record Front (bytes behind after : List ℕ) (h : Header) (count : ℕ) : Type 0 where
   pub transactions : List Transaction
   pub whole : block_front_from bytes ≡ Ok (record { header = h; transactions = transactions }, after)
-  pub found : AreFound (many_from transaction_from count behind)
-  pub values : values_found (many_from transaction_from count behind) ≡ transactions
+  pub found : AreRead (many_from transaction_from count behind)
+  pub values : values_read (many_from transaction_from count behind) ≡ transactions
   pub len : length transactions ≡ count
   pub below : count ≤ length bytes
   pub some : 1 ≤ length transactions
+  pub few_outputs : count_outputs transactions ≤ length bytes
 
 pub is_front : (bytes rest behind after : List ℕ) (h : Header) (count : ℕ) → IsBytes bytes → Ok (h, rest) ≡ within in_header header_from bytes → Ok (count, behind) ≡ count_from rest
-    → Ok after ≡ rest_of (many_from (within in_transaction transaction_from) count behind) → Front bytes behind after h count
+    → Ok after ≡ rest_read (many_from (within in_transaction transaction_from) count behind) → Front bytes behind after h count
 is_front bytes rest behind after h count fits e e' e'' =
     let f = rest_found (many_from (within in_transaction transaction_from) count behind) after e'' in
     let b : Block = record { header = h; transactions = f.0 } in
@@ -112,5 +85,6 @@ is_front bytes rest behind after h count fits e e' e'' =
       values = v.1;
       len = m.1;
       some = t.fits.some_transaction;
-      below = omega (arith, m.1, block_long b, ap length t.parts, length-append (block_text b) after);
+      below = omega (arith, m.1, transactions_short b, ap length t.parts, length-append (block_text b) after);
+      few_outputs = omega (arith, outputs_short b, ap length t.parts, length-append (block_text b) after);
     }

@@ -1,5 +1,5 @@
 -- What was read, or the first fault, as the readers on lists give it.
-use Rattle.std.specs.Prelude.{ℕ, List, [], Option, Some, None, Result, Ok, Err}
+use Rattle.std.specs.Prelude.{ℕ, List, Option, Some, None, Result, Ok, Err}
 use Rattle.block_grammar.specs.declared.kinds.BlockKind.{BlockKind}
 use Rattle.block_reader.specs.declared.parts.Stop.{Stop}
 
@@ -11,20 +11,7 @@ abbrev pub stopped_rest : {X : Type 0} → (X → List ℕ) → Result X Stop �
 stopped_rest view (Ok x) = Ok (view x)
 stopped_rest view (Err stop) = Err (stop.kind, stop.rest.now)
 
--- the bytes after what was read, or the first fault
-abbrev pub rest_of : {A : Type 0} → Result (A × List ℕ) (BlockKind × List ℕ) → Result (List ℕ) (BlockKind × List ℕ)
-rest_of (Ok x) = Ok x.1
-rest_of (Err e) = Err e
-
 -- what was read, without the fault
 abbrev pub found_at : {A E : Type 0} → Result (A × List ℕ) E → Option (A × List ℕ)
 found_at (Ok x) = Some x
 found_at (Err e) = None
-
-abbrev pub values_found : {A E : Type 0} → Result (List A × List ℕ) E → List A
-values_found (Ok x) = x.0
-values_found (Err e) = []
-
-abbrev pub AreFound : {A E : Type 0} → Result (List A × List ℕ) E → Type 0
-AreFound (Ok x) = Unit {0}
-AreFound (Err e) = ⊥

@@ -1,5 +1,6 @@
-ghost use Rattle.std.specs.Prelude.{◌≡◌, ◌≤◌, ◌+◌, length, Ok};
+ghost use Rattle.std.specs.Prelude.{◌≡◌, ◌≤◌, ◌<◌, ◌+◌, ◌^◌, length, Ok};
 ghost use Rattle.block_grammar.specs.Block as full;
+ghost use Rattle.block_grammar.specs.Block.{count_outputs};
 ghost use Rattle.block_grammar.specs.Reading.{block_front_from, block_from};
 ghost use Rattle.block_reader.specs.Seen.{stopped};
 ghost use Rattle.block_reader.specs.Whole.{told, IsRead, GivesBlock};
@@ -27,14 +28,15 @@ pub struct Block<'a> {
 }
 
 impl<'a> Model for Block<'a> {
-    ghost use Rattle.std.specs.Prelude.{◌≡◌, ◌≤◌, length};
+    ghost use Rattle.std.specs.Prelude.{◌≡◌, ◌≤◌, ◌<◌, ◌^◌, length};
     ghost use Rattle.block_grammar.specs.Block as full;
+    ghost use Rattle.block_grammar.specs.Block.{count_outputs};
 
     ghost Value = { full.Block };
 
     ghost view = { λ b. record { header = b.header; transactions = b.txs } };
 
-    ghost invariant = { λ b. (b.count ≡ length b.txs) × (1 ≤ length b.txs) };
+    ghost invariant = { λ b. (b.count ≡ length b.txs) × (1 ≤ length b.txs) × (count_outputs b.txs < 2 ^ 32) };
 }
 
 impl<'a> Block<'a> {
@@ -49,13 +51,15 @@ impl<'a> Block<'a> {
     pub fn txs(&self) -> Txs<'a>
         ensures value { result ≡ self.now.transactions }
         ensures some { 1 ≤ length result }
+        ensures few_outputs { count_outputs self.now.transactions < 2 ^ 32 }
     {
         self.txs.again()
     }
 
     /// How many transactions there are.
     pub fn count(&self) -> u32
-        ensures { result ≡ length self.now.transactions }
+        ensures value { result ≡ length self.now.transactions }
+        ensures few_outputs { count_outputs self.now.transactions < 2 ^ 32 }
     {
         self.count
     }

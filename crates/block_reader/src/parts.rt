@@ -3,12 +3,13 @@
 ghost use Rattle.std.specs.Prelude.{◌≡◌};
 ghost use Rattle.block_grammar.specs.Combinators.{within, many_from};
 ghost use Rattle.block_grammar.specs.Reading.{transaction_from, header_from, count_from};
-ghost use Rattle.block_reader.specs.Seen.{stopped, stopped_rest, rest_of};
+ghost use Rattle.wire_read.specs.Seen.{rest_read};
+ghost use Rattle.block_reader.specs.Seen.{stopped, stopped_rest};
 
 use auxpow_header::{Header, read_header};
-use wire_read::size_at;
 use block_grammar::BlockKind;
 use tx_reader::read_tx;
+use wire_read::size_at;
 
 /// The first fault in a block, and the bytes from its place on.
 #[derive(Clone, Copy, Debug)]
@@ -51,7 +52,7 @@ pub(crate) fn count_in<'a>(bytes: &'a [u8]) -> Result<(u64, &'a [u8]), Stop<'a>>
 
 /// The bytes after a transaction.
 fn behind_transaction<'a>(bytes: &'a [u8]) -> Result<&'a [u8], Stop<'a>>
-    ensures { stopped_rest (λ rest. rest.now) result ≡ rest_of (within BlockKind.Transaction transaction_from bytes.now) }
+    ensures { stopped_rest (λ rest. rest.now) result ≡ rest_read (within BlockKind.Transaction transaction_from bytes.now) }
 {
     match read_tx(bytes) {
         Ok((_tx, len)) => Ok(bytes.split_at(len).1),
@@ -64,7 +65,7 @@ fn behind_transaction<'a>(bytes: &'a [u8]) -> Result<&'a [u8], Stop<'a>>
 
 /// The bytes after so many transactions.
 pub(crate) fn behind_transactions<'a>(count: u64, bytes: &'a [u8]) -> Result<&'a [u8], Stop<'a>>
-    ensures { stopped_rest (λ rest. rest.now) result ≡ rest_of (many_from (within BlockKind.Transaction transaction_from) count bytes.now) }
+    ensures { stopped_rest (λ rest. rest.now) result ≡ rest_read (many_from (within BlockKind.Transaction transaction_from) count bytes.now) }
 {
     let mut rest = bytes;
     for _ in 0..count {

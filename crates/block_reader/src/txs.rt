@@ -21,13 +21,13 @@ impl<'a> Model for Txs<'a> {
     ghost use Rattle.block_grammar.specs.Transaction.{Transaction};
     ghost use Rattle.block_grammar.specs.Combinators.{many_from};
     ghost use Rattle.block_grammar.specs.Reading.{transaction_from};
-    ghost use Rattle.block_reader.specs.Seen.{values_found, AreFound};
+    ghost use Rattle.wire_read.specs.Seen.{values_read, AreRead};
 
     ghost Value = { List Transaction };
 
-    ghost view = { λ s. values_found (many_from transaction_from s.count s.bytes.now) };
+    ghost view = { λ s. values_read (many_from transaction_from s.count s.bytes.now) };
 
-    ghost invariant = { λ s. AreFound (many_from transaction_from s.count s.bytes.now) };
+    ghost invariant = { λ s. AreRead (many_from transaction_from s.count s.bytes.now) };
 }
 
 impl<'a> Txs<'a> {

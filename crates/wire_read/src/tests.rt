@@ -114,7 +114,7 @@ fn reads_at_the_front(rt: HostRuntime) {
     assert!(rt; reads(some_size_at(TxKind::NoInput, &[1, 5]), 1, 1));
     assert!(rt; matches!(hash_at(&[7; 33]), Ok(([7, ..], [7]))));
     assert!(rt; matches!(counted_at(&[2, 8, 9, 5]), Ok(([8, 9], [5]))));
-    assert!(rt; before(&[1, 2, 3], &[3]) == [1, 2]);
+    assert!(rt; before(&[1, 2, 3], &[3]) == [1, 2].as_slice());
 }
 
 #[test]

@@ -1,7 +1,7 @@
 use Rattle.std.proofs.lemmas.Result.{err_from_is_err_and}
 use Rattle.std.proofs.Common.{sym}
 use Rattle.block_grammar.specs.Reading.{piece_from}
-use Rattle.tx_reader.proofs.Many.{one_more, stops}
+use Rattle.wire_read.proofs.ManyLaws.{one_more, stops}
 use Rattle.auxpow_header.proofs.merge_part.behind_hashes.Goals as goal
 
 pub loop-preserved : goal.loop-preserved

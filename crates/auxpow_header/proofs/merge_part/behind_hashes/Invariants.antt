@@ -1,7 +1,7 @@
 use Rattle.std.proofs.Common.{◌≡◌, ◌-◌}
 use Rattle.block_grammar.specs.Combinators.{many_from}
 use Rattle.block_grammar.specs.Reading.{piece_from}
-use Rattle.tx_reader.specs.Rests.{rest_read}
+use Rattle.wire_read.specs.Seen.{rest_read}
 use Rattle.auxpow_header.proofs.merge_part.behind_hashes.Given as goal
 
 abbrev pub invariant-loop : goal.invariant-loop
