@@ -5,6 +5,7 @@ use Rattle.std.specs.List.{flat_map}
 use Rattle.std.specs.Int.{w32, to_le_bytes}
 use Rattle.std.proofs.lemmas.Bool.{lt-ltb}
 use Rattle.std.proofs.lemmas.List.{length-append, drop_at}
+use Rattle.nmc_base.specs.Heights.{highest}
 use Rattle.nmc_base.specs.declared.chain_ends.Tip.{Tip}
 use Rattle.block_grammar.specs.CompactSize.{compact_size}
 use Rattle.block_grammar.specs.Transaction.{input_text, output_text, Transaction, transaction_text, txid_of}
@@ -35,14 +36,14 @@ plain_block_text : (fields : plain.PureHeader) (transactions : List Transaction)
 unfolding block_text full.header_text
 plain_block_text fields transactions count is lt = rw (append-nil (plain.pure_header_text fields), is, one_byte count lt) refl
 
-header_fits : (previous : Tip) (root : List ℕ) → previous.height ≤ 1999999999 → length previous.hash.0 ≡ 32 → length root ≡ 32
+header_fits : (previous : Tip) (root : List ℕ) → previous.height < highest → length previous.hash.0 ≡ 32 → length root ≡ 32
     → full.FitsHeader (record { fields = generated_header previous root; merged = None })
 header_fits previous root height hash len = record {
   fields = record { version = omega arith; previous = hash; root = len; time = omega (arith, height); bits = omega arith; nonce = omega arith };
   merged = λ set. set refl;
 }
 
-pub whole_is : (bytes : List ℕ) (previous : Tip) (making : Option Making) (contents : Contents) → previous.height ≤ 1999999999 → Holds contents (previous.height + 1) making → IsPutTogether bytes previous contents
+pub whole_is : (bytes : List ℕ) (previous : Tip) (making : Option Making) (contents : Contents) → previous.height < highest → Holds contents (previous.height + 1) making → IsPutTogether bytes previous contents
     → IsBlock bytes (generated_block previous making)
 unfolding generated_block
 whole_is bytes previous making contents height holds put =
@@ -61,7 +62,7 @@ whole_is bytes previous making contents height holds put =
       text = put.text ∙ text ∙ sym (plain_block_text (generated_header previous root) transactions contents.count (sym holds.count) (omega (arith, holds.few)));
     }
 
-pub whole_again : (bytes : List ℕ) (previous : Tip) (making : Option Making) (contents : Contents) → previous.height ≤ 1999999999 → Holds contents (previous.height + 1) making → IsPutTogether bytes previous contents
+pub whole_again : (bytes : List ℕ) (previous : Tip) (making : Option Making) (contents : Contents) → previous.height < highest → Holds contents (previous.height + 1) making → IsPutTogether bytes previous contents
     → block_from bytes ≡ Ok (generated_block previous making)
 whole_again bytes previous making contents height holds put = block_again bytes (generated_block previous making) (whole_is bytes previous making contents height holds put)
 
@@ -81,7 +82,7 @@ unfolding generated_block block_root
 generated_made previous making contents holds = record { previous_hash = refl; root = refl; carry = holds.carry }
 
 -- the bytes are no other block
-pub whole_made : (bytes : List ℕ) (previous : Tip) (making : Option Making) (contents : Contents) → previous.height ≤ 1999999999 → Holds contents (previous.height + 1) making → IsPutTogether bytes previous contents
+pub whole_made : (bytes : List ℕ) (previous : Tip) (making : Option Making) (contents : Contents) → previous.height < highest → Holds contents (previous.height + 1) making → IsPutTogether bytes previous contents
     → (b : Block) → IsBlock bytes b → IsMade b previous making
 whole_made bytes previous making contents height holds put b is =
     let same : generated_block previous making ≡ b = ok_is (generated_block previous making) b (sym (whole_again bytes previous making contents height holds put) ∙ block_again bytes b is) in

@@ -2,6 +2,7 @@
 use Rattle.std.specs.Prelude.{ℕ, ◌≤◌, ◌^◌, nat_le, nat_lt, if◌then◌else◌, List, [], ◌∷◌, ◌++◌, length}
 use Rattle.std.specs.List.{flat_map, AllByRecursion}
 use Rattle.std.specs.Int.{w16, to_le_bytes}
+use Rattle.block_maker.specs.declared.operation.TheConstants.{LONGEST_PART}
 use Rattle.name_script.specs.NameScript.{NameOperation, opcode_of, pushed_by}
 
 -- What stands before so many bytes in their shortest push (Bitcoin's "Script", "Constants"): up to 4B, the opcode that is
@@ -13,14 +14,14 @@ push_head count =
     else (if nat_lt count (2 ^ 8) then 0x4C ∷ count ∷ []
     else 0x4D ∷ to_le_bytes w16 count)
 
--- a value of 65,535 bytes at most in its shortest push
+-- a value that isn't too long for a push, in its shortest push
 abbrev pub shortest_push : List ℕ → List ℕ
 shortest_push value = push_head (length value) ++ value
 
 abbrev pub IsShortPart : List ℕ → Type 0
-IsShortPart part = length part ≤ 65535
+IsShortPart part = length part ≤ LONGEST_PART
 
--- each value that the operation pushes has 65,535 bytes at most
+-- each value that the operation pushes has a push
 abbrev pub HasShortPushes : NameOperation → Type 0
 HasShortPushes operation = AllByRecursion IsShortPart (pushed_by operation)
 

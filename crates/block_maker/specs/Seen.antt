@@ -5,6 +5,7 @@ use Rattle.block_grammar.specs.Block.{Block}
 use Rattle.name_script.specs.NameScript.{NameOperation, name_new, name_firstupdate, name_update}
 use Rattle.nmc_base.specs.declared.hashes.OutPoint.{OutPoint}
 use Rattle.nmc_base.specs.declared.chain_ends.Tip.{Tip}
+use Rattle.block_maker.specs.declared.operation.TheConstants.{LONGEST_PART}
 use Rattle.block_maker.specs.declared.operation.MakeOp.{MakeOp}
 use Rattle.block_maker.specs.declared.operation.MakeOp.TheVariants.{New, First, Update}
 use Rattle.block_maker.specs.Generated.{Making, generated_block}
@@ -39,5 +40,5 @@ block_on previous op = generated_block previous (asked_on previous op)
 -- each part has 65,535 bytes at most
 abbrev pub HasShortParts : MakeOp → Type 0
 HasShortParts (New hash) = Unit {0}
-HasShortParts (First name rand value spent) = (length name.now ≤ 65535) × (length rand.now ≤ 65535) × (length value.now ≤ 65535)
-HasShortParts (Update name value spent) = (length name.now ≤ 65535) × (length value.now ≤ 65535)
+HasShortParts (First name rand value spent) = (length name.now ≤ LONGEST_PART) × (length rand.now ≤ LONGEST_PART) × (length value.now ≤ LONGEST_PART)
+HasShortParts (Update name value spent) = (length name.now ≤ LONGEST_PART) × (length value.now ≤ LONGEST_PART)

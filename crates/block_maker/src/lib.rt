@@ -11,7 +11,7 @@ mod transaction;
 
 pub use law::{root_law, script_law};
 pub use maker::Maker;
-pub use operation::MakeOp;
+pub use operation::{LONGEST_PART, MakeOp};
 
 #[cfg(test)]
 mod tests;

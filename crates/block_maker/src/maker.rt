@@ -1,5 +1,7 @@
-ghost use Rattle.std.specs.Prelude.{◌≡◌, ◌+◌, ◌≤◌, length, slice_range, Ok, IfOk, IfSome};
+ghost use Rattle.std.specs.Prelude.{◌≡◌, ◌+◌, ◌<◌, ◌≤◌, length, slice_range, Ok, IfOk, IfSome};
 ghost use Rattle.std.specs.Option.{option_copied};
+ghost use Rattle.nmc_base.specs.Heights.{highest};
+ghost use Rattle.nmc_base.specs.declared.limits.TheConstants.{LONGEST_BLOCK};
 ghost use Rattle.block_grammar.specs.PureHeader as plain;
 ghost use Rattle.block_grammar.specs.Block.{IsBlock};
 ghost use Rattle.block_grammar.specs.Block as full;
@@ -26,7 +28,7 @@ pub struct Maker;
 
 /// The header of a block with this root on the tip: 80 bytes.
 fn header_in(alloc: Global, previous: Tip, root: Hash32) -> Result<Bytes, NoMemory>
-    requires { previous.height ≤ 1999999999 }
+    requires { previous.height < highest }
     ensures { IfOk result (λ text. text ≡ plain.pure_header_text (generated_header previous root.0)) }
 {
     let mut text = Bytes::copy_of(alloc, &VERSION.to_le_bytes())?;
@@ -40,7 +42,7 @@ fn header_in(alloc: Global, previous: Tip, root: Hash32) -> Result<Bytes, NoMemo
 
 /// A block of these contents on the tip.
 fn put_together(alloc: Global, previous: Tip, contents: &Contents) -> Result<Bytes, NoMemory>
-    requires { previous.height ≤ 1999999999 }
+    requires { previous.height < highest }
     ensures { IfOk result (λ bytes. IsPutTogether bytes previous contents.now) }
 {
     let mut bytes = header_in(alloc, previous, contents.root)?;
@@ -67,12 +69,12 @@ impl Maker {
         previous: Tip,
         op: Option<&MakeOp<'_>>,
     ) -> Result<Bytes, NoMemory>
-        requires height { previous.height ≤ 1999999999 }
+        requires height { previous.height < highest }
         requires parts { IfSome op (λ o. HasShortParts o.now) }
         // The bytes are the block of the definition, all of them.
         ensures block { IfOk result (λ bytes. IsBlock bytes (block_on previous (option_copied op.entry))) }
         // They are short enough to be read, and are read as that block.
-        ensures short { IfOk result (λ bytes. length bytes ≤ 8388608) }
+        ensures short { IfOk result (λ bytes. length bytes ≤ LONGEST_BLOCK) }
         ensures again { IfOk result (λ bytes. block_from bytes ≡ Ok (block_on previous (option_copied op.entry))) }
         // The block that the bytes are stands on the tip, and carries a name transaction of the operation, or none.
         ensures made { IfOk result (λ bytes. (b : full.Block) → IsBlock bytes b → IsMade b previous (asked_on previous (option_copied op.entry))) }

@@ -1,5 +1,8 @@
 use nmc_base::{Hash20, OutPoint};
 
+/// The greatest length of what a push holds behind a number of two bytes (Bitcoin's OP_PUSHDATA2).
+pub const LONGEST_PART: usize = 65_535;
+
 /// A name operation that a generated block is to carry, in a transaction of its own.
 ///
 /// Name, rand and value may be of any lengths that `Maker::block` takes: whether Namecoin's rules allow them isn't looked

@@ -2,6 +2,7 @@
 
 ghost use Rattle.std.specs.Prelude.{◌≡◌, ◌+◌, ◌++◌, ◌≤◌, length, IfOk, OnOk};
 ghost use Rattle.name_script.specs.NameScript.{IsNameScript};
+ghost use Rattle.block_maker.specs.declared.operation.TheConstants.{LONGEST_PART};
 ghost use Rattle.block_maker.specs.Script.{push_head, shortest_push, pushes_of, script_of, HasShortPushes};
 ghost use Rattle.block_maker.specs.Seen.{operation_of, HasShortParts};
 
@@ -47,7 +48,7 @@ fn push_head_to(script: &mut Bytes, count: u16) -> Result<(), NoMemory>
 
 /// Appends the shortest push of a value.
 fn push_to(script: &mut Bytes, value: &[u8]) -> Result<(), NoMemory>
-    requires { length value.now ≤ 65535 }
+    requires { length value.now ≤ LONGEST_PART }
     ensures push { OnOk result (script.new ≡ script.old ++ shortest_push value.now) }
     ensures short { OnOk result (length script.new ≤ length script.old + length value.now + 3) }
 {

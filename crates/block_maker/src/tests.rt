@@ -3,7 +3,7 @@ ghost use Rattle.block_maker.specs.Seen.{HasShortParts};
 
 use super::*;
 use block_reader::read_block;
-use nmc_base::{Bytes, Hash20, Hash32, OutPoint, Tip};
+use nmc_base::{Bytes, HIGHEST_HEIGHT, Hash20, Hash32, LONGEST_BLOCK, OutPoint, Tip};
 use std::alloc::Global;
 use std::test::Fail;
 
@@ -55,7 +55,7 @@ fn outpoint_of(text: &str) -> Result<OutPoint, Fail> {
 fn block_on(alloc: Global, previous: Tip, op: Option<&MakeOp<'_>>) -> Result<Bytes, Fail>
     requires { IfSome op (λ o. HasShortParts o.now) }
 {
-    if previous.height > 1_999_999_999 {
+    if previous.height >= HIGHEST_HEIGHT {
         return Err("too high")?;
     }
     Ok(Maker::new().block(alloc, previous, op)?)
@@ -75,7 +75,7 @@ fn first_block(alloc: Global, previous: Tip, parts: &str) -> Result<Bytes, Fail>
     let name = part_of(alloc, name)?;
     let rand = part_of(alloc, rand)?;
     let value = part_of(alloc, value)?;
-    if name.len() > 65_535 || rand.len() > 65_535 || value.len() > 65_535 {
+    if name.len() > LONGEST_PART || rand.len() > LONGEST_PART || value.len() > LONGEST_PART {
         return Err("too long")?;
     }
     let op = MakeOp::First {
@@ -92,7 +92,7 @@ fn update_block(alloc: Global, previous: Tip, parts: &str) -> Result<Bytes, Fail
     let (value, spent) = parts.split_once(' ').ok_or("a value")?;
     let name = part_of(alloc, name)?;
     let value = part_of(alloc, value)?;
-    if name.len() > 65_535 || value.len() > 65_535 {
+    if name.len() > LONGEST_PART || value.len() > LONGEST_PART {
         return Err("too long")?;
     }
     let op = MakeOp::Update {
@@ -121,7 +121,7 @@ fn asked_block(alloc: Global, previous: Tip, text: &str) -> Result<Bytes, Fail> 
 
 /// The hash of a block, as it is read back.
 fn hash_read(bytes: &[u8]) -> Result<Hash32, Fail> {
-    if bytes.len() > 8_388_608 {
+    if bytes.len() > LONGEST_BLOCK {
         return Err("too long")?;
     }
     let block = read_block(bytes).ok().ok_or("a block")?;
@@ -166,7 +166,7 @@ fn first_block_of_a_chain(rt: HostRuntime) -> Result<(), Fail> {
 
 #[test]
 fn longest_parts(rt: HostRuntime) -> Result<(), Fail> {
-    let part = vec![in rt.alloc(); 0x61u8; 65_535]?;
+    let part = vec![in rt.alloc(); 0x61u8; LONGEST_PART]?;
     let op = MakeOp::First {
         name: &part,
         rand: &part,

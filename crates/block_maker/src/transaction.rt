@@ -10,11 +10,8 @@ ghost use Rattle.block_maker.specs.Pieces.{seen_single, IsShortTransaction};
 use crate::fields::counted_to;
 use crate::operation::MakeOp;
 use crate::script::script_in;
-use nmc_base::{Bytes, Hash32, NoMemory, OutPoint};
+use nmc_base::{Bytes, Hash32, NAME_VERSION, NoMemory, OutPoint};
 use std::alloc::Global;
-
-/// The version of a transaction that carries a name (Namecoin's NAMECOIN_TX_VERSION).
-const NAME_VERSION: u32 = 0x7100;
 
 /// What the output of a name operation holds, in units.
 const NAME_AMOUNT: u64 = 1_000_000;

@@ -1,10 +1,13 @@
 -- What is read of the queue at a height, of the row that is there or of none.
-use Rattle.std.proofs.Common.{◌≡◌, ℕ, cond, Bool, true, false, Option, Some, None, is_some, nat_eq, refl, sym, ap, ◌∙◌, true≢false}
+use Rattle.std.proofs.Common.{◌≡◌, ℕ, cond, List, Bool, true, false, Option, Some, None, is_some, nat_eq, refl, sym, ap, ◌∙◌, true≢false}
 use Rattle.std.proofs.lemmas.Bool.{eqb-true}
-use Rattle.std.specs.Map.{lookup}
+use Rattle.std.proofs.lemmas.Map.Made.{is_some-lookup}
+use Rattle.std.specs.List.{list_any}
+use Rattle.std.specs.Map.{lookup, keys_of}
+use Rattle.indexmap.specs.IndexSet.{insert_key}
 use Rattle.nmc_base.specs.declared.hashes.OutPoint.{OutPoint}
 use Rattle.chain_names.specs.Points.{same_point, changed}
-use Rattle.chain_names.specs.Tables.{QueueSlots, row_of, row_at, queued_in, queue_places, is_filled}
+use Rattle.chain_names.specs.Tables.{QueueSlots, row_of, row_at, queued_in, queue_places, row_points, is_filled}
 use Rattle.chain_names.proofs.Changed.{changed-kept, read_at-changed, same_point-true}
 use Rattle.expiry_queue.specs.OneRow.{RowSlots, row_queued, row_places}
 
@@ -47,3 +50,22 @@ module _ (old new : QueueSlots) (height : ℕ) (before after : RowSlots) (point 
   queue_places-changed row =
       read_at-changed nat_eq places_of old new height (Some after) updates
       ∙ ap (changed nat_eq (queue_places old) height) (row ∙ ap (λ (r : RowSlots). changed same_point (row_places r) point (value r)) (sym was))
+
+-- the outpoints that have a place in a row or in none
+abbrev pub points_of : Option RowSlots → List OutPoint
+points_of row = keys_of (row_of row)
+
+-- one row is another, and so are its outpoints in the queue
+pub row_points-changed : (old new : QueueSlots) (height : ℕ) (before after : RowSlots) (points : List OutPoint → List OutPoint)
+    → ((h : ℕ) → lookup (nat_eq h) new ≡ cond (nat_eq height h) (Some after) (lookup (nat_eq h) old))
+    → row_at old height ≡ before → keys_of after ≡ points (keys_of before)
+    → row_points new ≡ changed nat_eq (row_points old) height (points (row_points old height))
+row_points-changed old new height before after points updates was row =
+    read_at-changed nat_eq points_of old new height (Some after) updates
+    ∙ ap (changed nat_eq (row_points old) height) (row ∙ ap (λ (r : RowSlots). points (keys_of r)) (sym was))
+
+-- a place that is there stands where it stood
+pub placed_key : (row : RowSlots) (point : OutPoint) → is_some (lookup (same_point point) row) ≡ true → insert_key same_point (keys_of row) point ≡ keys_of row
+placed_key row point here =
+    let found : list_any (same_point point) (keys_of row) ≡ true = sym (is_some-lookup (same_point point) row) ∙ here in
+    rw found refl

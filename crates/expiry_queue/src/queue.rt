@@ -2,6 +2,7 @@ ghost use Rattle.std.specs.Prelude.{◌≡◌, ◌+◌, [], true, false, None, l
 ghost use Rattle.std.specs.List.{IsDistinct};
 ghost use Rattle.std.specs.Map.{lookup};
 ghost use Rattle.std.specs.Option.{is_some};
+ghost use Rattle.indexmap.specs.IndexSet.{insert_key};
 ghost use Rattle.chain_names.specs.Points.{same_point, changed};
 ghost use Rattle.chain_names.specs.Tables.{queued_in, queue_places, row_at, row_points};
 
@@ -89,6 +90,8 @@ impl Queue {
     ) -> Result<(), NoMemory>
         ensures queued { queued_in self.new ≡ queued_in self.old }
         ensures ok { OnOk result (queue_places self.new ≡ changed nat_eq (queue_places self.old) height (changed same_point (queue_places self.old height) at true)) }
+        // A new place stands last in its row.
+        ensures list { OnOk result (row_points self.new ≡ changed nat_eq (row_points self.old) height (insert_key same_point (row_points self.old height) at)) }
         ensures err { OnErr result (self.new ≡ self.old) }
         ensures cost { steps.new ≡ steps.old + 1 }
     {
@@ -104,6 +107,8 @@ impl Queue {
     pub fn unplace<L: Ledger>(&mut self, height: u32, at: &OutPoint, steps: &mut Steps<L>)
         ensures queued { queued_in self.new ≡ queued_in self.old }
         ensures places { queue_places self.new ≡ changed nat_eq (queue_places self.old) height (changed same_point (queue_places self.old height) at.now (queued_in self.old height at.now)) }
+        // Where there is no such place, the rows stay as they were, order and all.
+        ensures list { queue_places self.old height at.now ≡ queued_in self.old height at.now → row_points self.new ≡ row_points self.old }
         ensures row { row_at self.new height ≡ [] → lookup (nat_eq height) self.new ≡ None }
         ensures cost { steps.new ≡ steps.old + 1 }
     {
@@ -119,6 +124,7 @@ impl Queue {
         requires placed { queue_places self.old height at.now ≡ true }
         ensures queued { queued_in self.new ≡ changed nat_eq (queued_in self.old) height (changed same_point (queued_in self.old height) at.now true) }
         ensures places { queue_places self.new ≡ queue_places self.old }
+        ensures list { row_points self.new ≡ row_points self.old }
         ensures cost { steps.new ≡ steps.old + 1 }
     {
         steps.tick();
@@ -133,6 +139,7 @@ impl Queue {
         ensures value { result ≡ queued_in self.old height at.now }
         ensures queued { queued_in self.new ≡ changed nat_eq (queued_in self.old) height (changed same_point (queued_in self.old height) at.now false) }
         ensures places { queue_places self.new ≡ queue_places self.old }
+        ensures list { row_points self.new ≡ row_points self.old }
         ensures cost { steps.new ≡ steps.old + 1 }
     {
         steps.tick();
@@ -147,6 +154,7 @@ impl Queue {
         requires { is_some (lookup (nat_eq height) self.old) ≡ true }
         ensures queued { queued_in self.new ≡ queued_in self.old }
         ensures ok { OnOk result (queue_places self.new ≡ changed nat_eq (queue_places self.old) height (changed same_point (queue_places self.old height) at true)) }
+        ensures list { OnOk result (row_points self.new ≡ changed nat_eq (row_points self.old) height (insert_key same_point (row_points self.old height) at)) }
         ensures err { OnErr result (self.new ≡ self.old) }
     {
         match self.rows.get_mut(&height) {
@@ -160,6 +168,7 @@ impl Queue {
         requires { lookup (nat_eq height) self.old ≡ None }
         ensures queued { queued_in self.new ≡ queued_in self.old }
         ensures ok { OnOk result (queue_places self.new ≡ changed nat_eq (queue_places self.old) height (changed same_point (queue_places self.old height) at true)) }
+        ensures list { OnOk result (row_points self.new ≡ changed nat_eq (row_points self.old) height (insert_key same_point (row_points self.old height) at)) }
         ensures err { OnErr result (self.new ≡ self.old) }
     {
         let mut row = Row::new(*self.rows.allocator());
@@ -172,6 +181,7 @@ impl Queue {
     fn unplace_in_row(&mut self, height: u32, at: &OutPoint)
         ensures queued { queued_in self.new ≡ queued_in self.old }
         ensures places { queue_places self.new ≡ changed nat_eq (queue_places self.old) height (changed same_point (queue_places self.old height) at.now (queued_in self.old height at.now)) }
+        ensures list { queue_places self.old height at.now ≡ queued_in self.old height at.now → row_points self.new ≡ row_points self.old }
     {
         let Some(row) = self.rows.get_mut(&height) else {
             return;

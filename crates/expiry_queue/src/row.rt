@@ -1,6 +1,7 @@
 ghost use Rattle.std.specs.Prelude.{◌≡◌, [], true, false, Some, length, slice_get, OnOk, OnErr};
 ghost use Rattle.std.specs.List.{IsDistinct};
 ghost use Rattle.std.specs.Map.{keys_of, lookup};
+ghost use Rattle.indexmap.specs.IndexSet.{insert_key};
 ghost use Rattle.chain_names.specs.Points.{same_point, changed};
 ghost use Rattle.expiry_queue.specs.OneRow.{row_queued, row_places};
 
@@ -63,6 +64,7 @@ impl Row {
     pub fn place(&mut self, at: OutPoint) -> Result<(), NoMemory>
         ensures queued { row_queued self.new ≡ row_queued self.old }
         ensures ok { OnOk result (row_places self.new ≡ changed same_point (row_places self.old) at true) }
+        ensures list { OnOk result (keys_of self.new ≡ insert_key same_point (keys_of self.old) at) }
         ensures err { OnErr result (self.new ≡ self.old) }
     {
         if !self.points.contains_key(&at) {
@@ -75,6 +77,7 @@ impl Row {
     pub fn unplace(&mut self, at: &OutPoint)
         ensures queued { row_queued self.new ≡ row_queued self.old }
         ensures places { row_places self.new ≡ changed same_point (row_places self.old) at.now (row_queued self.old at.now) }
+        ensures list { row_places self.old at.now ≡ row_queued self.old at.now → self.new ≡ self.old }
     {
         if self.has_empty(at) {
             self.points.swap_remove(at);
@@ -86,6 +89,7 @@ impl Row {
         requires placed { row_places self.old at.now ≡ true }
         ensures queued { row_queued self.new ≡ changed same_point (row_queued self.old) at.now true }
         ensures places { row_places self.new ≡ row_places self.old }
+        ensures list { keys_of self.new ≡ keys_of self.old }
     {
         match self.points.insert(*at, true) {
             Ok(_) => {}
@@ -98,6 +102,7 @@ impl Row {
         ensures value { result ≡ row_queued self.old at.now }
         ensures queued { row_queued self.new ≡ changed same_point (row_queued self.old) at.now false }
         ensures places { row_places self.new ≡ row_places self.old }
+        ensures list { keys_of self.new ≡ keys_of self.old }
     {
         if !self.has(at) {
             return false;

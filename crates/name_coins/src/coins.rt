@@ -2,6 +2,7 @@ ghost use Rattle.std.specs.Prelude.{◌≡◌, ◌+◌, ◌≤◌, [], true, fal
 ghost use Rattle.std.specs.List.{IsDistinct};
 ghost use Rattle.std.specs.Map.{keys_of, lookup};
 ghost use Rattle.std.specs.Option.{is_some, option_copied};
+ghost use Rattle.indexmap.specs.IndexSet.{insert_key};
 ghost use Rattle.chain_names.specs.Points.{same_point, changed};
 ghost use Rattle.chain_names.specs.Tables.{coins_in, coin_places, AreCoinsFilled};
 
@@ -54,6 +55,8 @@ impl Coins {
     pub fn place<L: Ledger>(&mut self, at: OutPoint, steps: &mut Steps<L>) -> Result<(), NoMemory>
         ensures coins { coins_in self.new ≡ coins_in self.old }
         ensures ok { OnOk result (coin_places self.new ≡ changed same_point (coin_places self.old) at true) }
+        // A new place stands last.
+        ensures list { OnOk result (keys_of self.new ≡ insert_key same_point (keys_of self.old) at) }
         ensures err { OnErr result (self.new ≡ self.old) }
         ensures cost { steps.new ≡ steps.old + 1 }
     {
@@ -68,6 +71,8 @@ impl Coins {
     pub fn unplace<L: Ledger>(&mut self, at: &OutPoint, steps: &mut Steps<L>)
         ensures coins { coins_in self.new ≡ coins_in self.old }
         ensures places { coin_places self.new ≡ changed same_point (coin_places self.old) at.now (is_some (coins_in self.old at.now)) }
+        // Where there is no such place, the list stays as it was, order and all.
+        ensures list { coin_places self.old at.now ≡ is_some (coins_in self.old at.now) → self.new ≡ self.old }
         ensures cost { steps.new ≡ steps.old + 1 }
     {
         steps.tick();
@@ -81,6 +86,7 @@ impl Coins {
         requires placed { coin_places self.old at.now ≡ true }
         ensures coins { coins_in self.new ≡ changed same_point (coins_in self.old) at.now (Some coin) }
         ensures places { coin_places self.new ≡ coin_places self.old }
+        ensures list { keys_of self.new ≡ keys_of self.old }
         ensures cost { steps.new ≡ steps.old + 1 }
     {
         steps.tick();
@@ -95,6 +101,7 @@ impl Coins {
         ensures value { result ≡ coins_in self.old at.now }
         ensures coins { coins_in self.new ≡ changed same_point (coins_in self.old) at.now None }
         ensures places { coin_places self.new ≡ coin_places self.old }
+        ensures list { keys_of self.new ≡ keys_of self.old }
         ensures cost { steps.new ≡ steps.old + 1 }
     {
         steps.tick();

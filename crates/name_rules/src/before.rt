@@ -2,6 +2,7 @@
 
 ghost use Rattle.std.specs.Prelude.{◌≡◌, ◌+◌, ◌≤◌, ℕ, List, [], ◌∷◌};
 ghost use Rattle.std.specs.Result.{result_err};
+ghost use Rattle.nmc_base.specs.Heights.{highest};
 ghost use Rattle.name_script.specs.NameScript.{name_firstupdate, name_update};
 ghost use Rattle.chain_names.specs.Coins.{entry_of};
 ghost use Rattle.chain_names.specs.Verdict.{spent_tests, made_tests, is_taken, first_of, kind_of, by_output, verdict_by};
@@ -17,14 +18,11 @@ use crate::view::{CoinRef, NameView};
 use chain_names::RuleRefusal;
 use hash160::hash160_pair;
 use name_script::NameOp;
-use nmc_base::{Hash32, OutPoint, Profile, Steps};
+use nmc_base::{Hash32, LONGEST_RAND, OutPoint, Profile, Steps};
 use std::sync::ledger::Ledger;
 
 /// For how many blocks a commitment has to stand before the name is opened (Namecoin's MIN_FIRSTUPDATE_DEPTH).
 const MATURITY: u32 = 12;
-
-/// The greatest number of bytes of a salt.
-const RAND_LIMIT: usize = 20;
 
 /// What stands before a transaction, and the block that it is in.
 #[derive(Drop)]
@@ -32,7 +30,7 @@ pub(crate) struct Before<'v, V> {
     pub view: &'v V,
     pub profile: Profile,
     pub height: u32,
-    ghost within: { height ≤ 2000000000 },
+    ghost within: { height ≤ highest },
 }
 
 impl<'v, V: NameView> Before<'v, V> {
@@ -69,7 +67,7 @@ impl<'v, V: NameView> Before<'v, V> {
         if self.height < MATURITY || self.height - MATURITY < made {
             return Err(RuleRefusal::Immature);
         }
-        if rand.len() > RAND_LIMIT {
+        if rand.len() > LONGEST_RAND {
             return Err(RuleRefusal::RandTooLong);
         }
         if hash160_pair(rand, name) != *hash {

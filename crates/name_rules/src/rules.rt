@@ -15,16 +15,7 @@ use crate::inputs::Spent;
 use crate::outputs::Made;
 use crate::view::CoinRef;
 use chain_names::RuleRefusal;
-use nmc_base::Hash20;
-
-/// The version of a transaction that carries a name (Namecoin's NAMECOIN_TX_VERSION).
-const NAME_VERSION: u32 = 0x7100;
-
-/// The greatest number of bytes of a name (Namecoin's MAX_NAME_LENGTH).
-const NAME_LIMIT: usize = 255;
-
-/// The greatest number of bytes of a value (Namecoin's MAX_VALUE_LENGTH).
-const VALUE_LIMIT: usize = 1023;
+use nmc_base::{Hash20, LONGEST_NAME, LONGEST_VALUE, NAME_VERSION};
 
 /// Of the version, and of how many name inputs and name outputs there are.
 pub(crate) fn counted(
@@ -82,10 +73,10 @@ pub(crate) fn spent_coin<'v>(
     let Some(first) = spent.first() else {
         return Err(RuleRefusal::UpdateWithoutInput);
     };
-    if name.len() > NAME_LIMIT {
+    if name.len() > LONGEST_NAME {
         return Err(RuleRefusal::NameTooLong);
     }
-    if value.len() > VALUE_LIMIT {
+    if value.len() > LONGEST_VALUE {
         return Err(RuleRefusal::ValueTooLong);
     }
     Ok(first)

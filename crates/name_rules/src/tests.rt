@@ -53,18 +53,6 @@ fn coin_of(name: &[u8]) -> CoinRef<'_> {
     CoinRef::Named { name, height: 100 }
 }
 
-fn new(hash: &[u8]) -> NameOp<'_> {
-    NameOp::New { hash }
-}
-
-fn first<'a>(name: &'a [u8], rand: &'a [u8], value: &'a [u8]) -> NameOp<'a> {
-    NameOp::First { name, rand, value }
-}
-
-fn update<'a>(name: &'a [u8], value: &'a [u8]) -> NameOp<'a> {
-    NameOp::Update { name, value }
-}
-
 /// Whether there are at most ten.
 fn few(outputs: Outputs<'_>) -> bool
     ensures { IsTrue result → length outputs.entry ≤ 10 }
@@ -107,20 +95,34 @@ fn said<'a, L: Ledger>(
 }
 
 /// A row of a table: version, inputs, amount and operation of the one output, height, and the number of the verdict.
-type Row<'a> = (u32, &'a [u8], u64, Option<NameOp<'a>>, u16, u8);
+type Row = (u32, &'static [u8], u64, Option<NameOp<'static>>, u16, u8);
+
+fn same(rt: &impl Abort, got: u8, want: u8, row: usize) {
+    assert_eq!(rt; got, want, "row {row}");
+}
+
+fn verdict_of<L: Ledger>(
+    alloc: Global,
+    held: &Held<'_>,
+    row: &Row,
+    steps: &mut Steps<L>,
+) -> Result<u8, Fail> {
+    let (version, inputs, amount, operation, height, _wanted) = *row;
+    let bytes = transaction(alloc, version, inputs, &[(amount, operation)])?;
+    let verdict = said(held, &bytes, height, steps)?;
+    Ok(number(&verdict))
+}
 
 fn each_row<L: Ledger>(
     rt: &impl Abort,
     alloc: Global,
     held: &Held<'_>,
-    rows: &[Row<'_>],
+    rows: &[Row],
     steps: &mut Steps<L>,
 ) -> Result<(), Fail> {
     for (i, row) in rows.iter().enumerate() {
-        let (version, inputs, amount, operation, height, wanted) = *row;
-        let bytes = transaction(alloc, version, inputs, &[(amount, operation)])?;
-        let verdict = said(held, &bytes, height, steps)?;
-        assert_eq!(rt; number(&verdict), wanted, "row {i}");
+        let got = verdict_of(alloc, held, row, steps)?;
+        same(rt, got, row.5, i);
     }
     Ok(())
 }
@@ -136,86 +138,123 @@ fn table_coins() -> [(OutPoint, CoinRef<'static>); 5] {
     ]
 }
 
-static NAME_255: [u8; 255] = [b'a'; 255];
+const NAME_255: [u8; 255] = [b'a'; 255];
 
-static NAME_256: [u8; 256] = [b'a'; 256];
+const NAME_256: [u8; 256] = [b'a'; 256];
 
-static VALUE_1023: [u8; 1023] = [b'v'; 1023];
+const VALUE_1023: [u8; 1023] = [b'v'; 1023];
 
-static VALUE_1024: [u8; 1024] = [b'v'; 1024];
+const VALUE_1024: [u8; 1024] = [b'v'; 1024];
 
-static RAND_20: [u8; 20] = [b'r'; 20];
+const RAND_20: [u8; 20] = [b'r'; 20];
 
-static RAND_21: [u8; 21] = [b'r'; 21];
+const RAND_21: [u8; 21] = [b'r'; 21];
 
-static HASH_19: [u8; 19] = [7; 19];
+const HASH_19: [u8; 19] = [7; 19];
 
-static HASH_20: [u8; 20] = [7; 20];
+const HASH_20: [u8; 20] = [7; 20];
 
-static HASH_21: [u8; 21] = [7; 21];
+const HASH_21: [u8; 21] = [7; 21];
 
-/// The rules up to the coin that is spent.
-fn rows_of_the_transaction() -> [Row<'static>; 17] {
-    let opens = Some(first(b"d/example", b"salt", b"{}"));
-    let renews = Some(update(b"d/example", b"{}"));
-    let long_name = Some(update(&NAME_256, &VALUE_1024));
-    let long_value = Some(update(&NAME_255, &VALUE_1024));
-    [
-        (1, &[9], 0, None, 200, 0),
-        (NAMED, &[9], LEAST, Some(new(&HASH_20)), 200, 1),
-        (1, &[1, 9, 1], 0, None, 200, 10),
-        (NAMED, &[9, 2, 1], 0, renews, 200, 10),
-        (1, &[2], 0, renews, 200, 12),
-        (0x17100, &[9], 0, renews, 200, 13),
-        (NAMED, &[2], 0, None, 200, 14),
-        (NAMED, &[2], LEAST - 1, Some(new(&HASH_21)), 200, 15),
-        (NAMED, &[9], LEAST - 1, opens, 200, 15),
-        (NAMED, &[2], LEAST, Some(new(&HASH_21)), 200, 16),
-        (NAMED, &[9], LEAST, Some(new(&HASH_19)), 200, 17),
-        (NAMED, &[9], LEAST, Some(new(&HASH_21)), 200, 17),
-        (NAMED, &[9], LEAST, opens, 200, 18),
-        (NAMED, &[9], LEAST, long_name, 200, 18),
-        (NAMED, &[2], LEAST, long_name, 200, 19),
-        (NAMED, &[2], LEAST, long_value, 200, 20),
-        (
-            NAMED,
-            &[2],
-            LEAST,
-            Some(update(b"d/example", &VALUE_1023)),
-            200,
-            3,
-        ),
-    ]
-}
+const OPENS: Option<NameOp<'static>> = Some(NameOp::First {
+    name: b"d/example",
+    rand: b"salt",
+    value: b"{}",
+});
 
-/// The rules on the coin that is spent. The empty name stands since height 100.
-fn rows_of_the_coin() -> [Row<'static>; 15] {
-    let opens = Some(first(b"d/example", b"salt", b"{}"));
-    let renews = Some(update(b"d/example", b"{}"));
-    let longest = Some(first(&NAME_255, &RAND_20, &VALUE_1023));
-    let long_rand = Some(first(b"", &RAND_21, b""));
-    let swapped = Some(first(b"salt", b"d/example", b"{}"));
-    let empty = Some(first(b"", b"", b""));
-    [
-        (NAMED, &[2], LEAST, renews, 129, 3),
-        (NAMED, &[1], LEAST, renews, 129, 21),
-        (NAMED, &[4], LEAST, renews, 129, 22),
-        (NAMED, &[2], LEAST, opens, 111, 23),
-        (NAMED, &[1], LEAST, long_rand, 111, 24),
-        (NAMED, &[9, 1, 9], LEAST, opens, 111, 24),
-        (NAMED, &[9, 1, 9], LEAST, opens, 112, 2),
-        (NAMED, &[5], LEAST, longest, 112, 2),
-        (NAMED, &[1], LEAST, long_rand, 112, 25),
-        (NAMED, &[1], LEAST, longest, 112, 26),
-        (NAMED, &[1], LEAST, swapped, 112, 26),
-        (NAMED, &[1], LEAST, empty, 129, 26),
-        (NAMED, &[3], LEAST, empty, 129, 27),
-        (NAMED, &[3], LEAST, empty, 130, 2),
-        (NAMED, &[3], LEAST, Some(first(b"", &[0], b"")), 130, 26),
-    ]
-}
+const RENEWS: Option<NameOp<'static>> = Some(NameOp::Update {
+    name: b"d/example",
+    value: b"{}",
+});
 
-/// Each kind, each refusal but 11 and 28, and the next to each limit.
+const LONGEST_FIRST: Option<NameOp<'static>> = Some(NameOp::First {
+    name: &NAME_255,
+    rand: &RAND_20,
+    value: &VALUE_1023,
+});
+
+const LONG_RAND: Option<NameOp<'static>> = Some(NameOp::First {
+    name: b"",
+    rand: &RAND_21,
+    value: b"",
+});
+
+const EMPTY: Option<NameOp<'static>> = Some(NameOp::First {
+    name: b"",
+    rand: b"",
+    value: b"",
+});
+
+const ZERO_RAND: Option<NameOp<'static>> = Some(NameOp::First {
+    name: b"",
+    rand: &[0],
+    value: b"",
+});
+
+const SWAPPED: Option<NameOp<'static>> = Some(NameOp::First {
+    name: b"salt",
+    rand: b"d/example",
+    value: b"{}",
+});
+
+const LONG_NAME: Option<NameOp<'static>> = Some(NameOp::Update {
+    name: &NAME_256,
+    value: &VALUE_1024,
+});
+
+const LONG_VALUE: Option<NameOp<'static>> = Some(NameOp::Update {
+    name: &NAME_255,
+    value: &VALUE_1024,
+});
+
+const LONGEST_VALUE: Option<NameOp<'static>> = Some(NameOp::Update {
+    name: b"d/example",
+    value: &VALUE_1023,
+});
+
+const COMMITS: Option<NameOp<'static>> = Some(NameOp::New { hash: &HASH_20 });
+
+const SHORT: Option<NameOp<'static>> = Some(NameOp::New { hash: &HASH_19 });
+
+const LONG: Option<NameOp<'static>> = Some(NameOp::New { hash: &HASH_21 });
+
+/// The rules up to the coin that is spent, and then those on it: each kind, each refusal but 11 and 28, and the next to each
+/// limit. The empty name stands since height 100.
+static ROWS: [Row; 32] = [
+    (1, &[9], 0, None, 200, 0),
+    (NAMED, &[9], LEAST, COMMITS, 200, 1),
+    (1, &[1, 9, 1], 0, None, 200, 10),
+    (NAMED, &[9, 2, 1], 0, RENEWS, 200, 10),
+    (1, &[2], 0, RENEWS, 200, 12),
+    (0x17100, &[9], 0, RENEWS, 200, 13),
+    (NAMED, &[2], 0, None, 200, 14),
+    (NAMED, &[2], LEAST - 1, LONG, 200, 15),
+    (NAMED, &[9], LEAST - 1, OPENS, 200, 15),
+    (NAMED, &[2], LEAST, LONG, 200, 16),
+    (NAMED, &[9], LEAST, SHORT, 200, 17),
+    (NAMED, &[9], LEAST, LONG, 200, 17),
+    (NAMED, &[9], LEAST, OPENS, 200, 18),
+    (NAMED, &[9], LEAST, LONG_NAME, 200, 18),
+    (NAMED, &[2], LEAST, LONG_NAME, 200, 19),
+    (NAMED, &[2], LEAST, LONG_VALUE, 200, 20),
+    (NAMED, &[2], LEAST, LONGEST_VALUE, 129, 3),
+    (NAMED, &[2], LEAST, RENEWS, 129, 3),
+    (NAMED, &[1], LEAST, RENEWS, 129, 21),
+    (NAMED, &[4], LEAST, RENEWS, 129, 22),
+    (NAMED, &[2], LEAST, OPENS, 111, 23),
+    (NAMED, &[1], LEAST, LONG_RAND, 111, 24),
+    (NAMED, &[9, 1, 9], LEAST, OPENS, 111, 24),
+    (NAMED, &[9, 1, 9], LEAST, OPENS, 112, 2),
+    (NAMED, &[5], LEAST, LONGEST_FIRST, 112, 2),
+    (NAMED, &[1], LEAST, LONG_RAND, 112, 25),
+    (NAMED, &[1], LEAST, LONGEST_FIRST, 112, 26),
+    (NAMED, &[1], LEAST, SWAPPED, 112, 26),
+    (NAMED, &[1], LEAST, EMPTY, 129, 26),
+    (NAMED, &[3], LEAST, EMPTY, 129, 27),
+    (NAMED, &[3], LEAST, EMPTY, 130, 2),
+    (NAMED, &[3], LEAST, ZERO_RAND, 130, 26),
+];
+
 fn table<L: Ledger>(rt: &impl Abort, alloc: Global, blank: Blank) -> Result<(), Fail>
     requires name { blank.name ≡ L.name }
     requires parts { blank.parts ≡ L.parts }
@@ -228,10 +267,8 @@ fn table<L: Ledger>(rt: &impl Abort, alloc: Global, blank: Blank) -> Result<(), 
         name: b"",
         height: 100,
     };
-    let rows = rows_of_the_transaction();
-    each_row(rt, alloc, &held, &rows, &mut steps)?;
-    let rows = rows_of_the_coin();
-    each_row(rt, alloc, &held, &rows, &mut steps)
+    each_row(rt, alloc, &held, &ROWS, &mut steps)?;
+    outputs_in_order(rt, alloc, &held, &mut steps)
 }
 
 #[test]
@@ -239,63 +276,47 @@ fn verdicts_of_the_table(rt: HostRuntime) -> Result<(), Fail> {
     table::<Brand>(&rt, rt.alloc(), Blank::new(1))
 }
 
-/// The name output is the second; two name outputs are refused, and before them two name inputs.
-fn outputs_in_order<L: Ledger>(rt: &impl Abort, alloc: Global, blank: Blank) -> Result<(), Fail>
-    requires name { blank.name ≡ L.name }
-    requires parts { blank.parts ≡ L.parts }
-    requires some { 0 < blank.parts }
-{
-    let mut steps = Steps::<L>::new(blank);
-    let coins = table_coins();
-    let held = Held {
-        coins: &coins,
-        name: b"",
-        height: 100,
-    };
-    let opens = Some(first(b"d/example", b"salt", b"{}"));
-    let second = transaction(alloc, NAMED, &[1], &[(0, None), (LEAST, opens), (0, None)])?;
-    let wanted = Verdict::First {
-        name: b"d/example",
-        value: b"{}",
-        output: 1,
-        spent: point(1),
-    };
-    assert_eq!(rt; said(&held, &second, 112, &mut steps)?, wanted);
-    let two = [(LEAST, opens), (0, None), (LEAST, opens)];
-    let outputs = transaction(alloc, NAMED, &[1], &two)?;
-    let verdict = said(&held, &outputs, 112, &mut steps)?;
-    assert_eq!(rt; number(&verdict), 11);
-    let both = transaction(alloc, 1, &[1, 2], &two)?;
-    let verdict = said(&held, &both, 112, &mut steps)?;
-    assert_eq!(rt; number(&verdict), 10);
+/// Two outputs that open a name, with another between them.
+static TWO: [(u64, Option<NameOp<'static>>); 3] = [(LEAST, OPENS), (0, None), (LEAST, OPENS)];
+
+/// Two name outputs are refused, and before them two name inputs.
+fn outputs_in_order<L: Ledger>(
+    rt: &impl Abort,
+    alloc: Global,
+    held: &Held<'_>,
+    steps: &mut Steps<L>,
+) -> Result<(), Fail> {
+    let one = transaction(alloc, NAMED, &[1], &TWO)?;
+    same(rt, number(&said(held, &one, 112, steps)?), 11, 0);
+    let both = transaction(alloc, 1, &[1, 2], &TWO)?;
+    same(rt, number(&said(held, &both, 112, steps)?), 10, 1);
     Ok(())
 }
 
-#[test]
-fn outputs_by_place(rt: HostRuntime) -> Result<(), Fail> {
-    outputs_in_order::<Brand>(&rt, rt.alloc(), Blank::new(1))
+/// Rows whose output stands where a coin is already: that is the last thing refused.
+static MADE_TWICE: [Row; 4] = [
+    (NAMED, &[9], LEAST, COMMITS, 120, 28),
+    (NAMED, &[1], LEAST, OPENS, 120, 28),
+    (NAMED, &[2], LEAST, RENEWS, 120, 28),
+    (NAMED, &[1], LEAST, EMPTY, 120, 26),
+];
+
+/// The outpoint of the first output of the one transaction that is so built.
+fn made_by(alloc: Global, row: &Row) -> Result<OutPoint, Fail> {
+    let bytes = transaction(alloc, row.0, row.1, &[(row.2, row.3)])?;
+    let (tx, _len) = read_tx(&bytes).ok().ok_or("a transaction")?;
+    let txid = txid(&tx);
+    Ok(OutPoint { txid, index: 0 })
 }
 
-/// A coin at the outpoint that is made is the last thing refused.
 fn made_twice<L: Ledger>(rt: &impl Abort, alloc: Global, blank: Blank) -> Result<(), Fail>
     requires name { blank.name ≡ L.name }
     requires parts { blank.parts ≡ L.parts }
     requires some { 0 < blank.parts }
 {
     let mut steps = Steps::<L>::new(blank);
-    let cases = [
-        (9, new(&[7; 20]), 28),
-        (1, first(b"d/example", b"salt", b""), 28),
-        (2, update(b"d/example", b""), 28),
-        (1, first(b"d/example", b"", b""), 26),
-    ];
-    for (input, operation, wanted) in cases {
-        let bytes = transaction(alloc, NAMED, &[input], &[(LEAST, Some(operation))])?;
-        let (tx, _len) = read_tx(&bytes).ok().ok_or("a transaction")?;
-        let made = OutPoint {
-            txid: txid(&tx),
-            index: 0,
-        };
+    for (i, row) in MADE_TWICE.iter().enumerate() {
+        let made = made_by(alloc, row)?;
         let coins = [
             (point(1), commitment(&EXAMPLE)),
             (point(2), coin_of(b"d/example")),
@@ -306,8 +327,7 @@ fn made_twice<L: Ledger>(rt: &impl Abort, alloc: Global, blank: Blank) -> Result
             name: b"",
             height: 100,
         };
-        let verdict = said(&held, &bytes, 120, &mut steps)?;
-        assert_eq!(rt; number(&verdict), wanted);
+        same(rt, verdict_of(alloc, &held, row, &mut steps)?, row.5, i);
     }
     Ok(())
 }

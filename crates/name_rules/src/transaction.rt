@@ -1,4 +1,5 @@
 ghost use Rattle.std.specs.Prelude.{◌≡◌, ◌+◌, ◌≤◌, ◌^◌, [], length};
+ghost use Rattle.nmc_base.specs.Heights.{highest};
 ghost use Rattle.block_grammar.specs.Transaction.{txid_of};
 ghost use Rattle.chain_names.specs.Verdict.{verdict};
 ghost use Rattle.chain_names.specs.Meaning.{Means};
@@ -24,7 +25,7 @@ pub fn check<'a, V: NameView, L: Ledger>(
     steps: &mut Steps<L>,
 ) -> Verdict<'a>
     requires txid { txid.now.0 ≡ txid_of tx.now }
-    requires height { height ≤ 2000000000 }
+    requires height { height ≤ highest }
     requires outputs { length tx.now.outputs ≤ 2 ^ 32 }
     ensures verdict { seen_verdict result ≡ verdict profile (V.maps view.now) height tx.now }
     // What it then says of the coins and of the transaction.

@@ -1,5 +1,6 @@
 ghost use Rattle.std.specs.Prelude.{◌≡◌, ◌+◌, ◌≤◌, IfSome};
 ghost use Rattle.std.specs.Option.{option_map};
+ghost use Rattle.nmc_base.specs.Heights.{highest};
 ghost use Rattle.chain_names.specs.Coins.{Maps, entry_of};
 ghost use Rattle.name_rules.specs.Seen.{seen_coin};
 
@@ -28,6 +29,6 @@ pub trait NameView {
     /// The height at which a name was given its last value, also where the name is expired.
     fn entry_height<L: Ledger>(&self, name: &[u8], steps: &mut Steps<L>) -> Option<u32>
         ensures entry { result ≡ option_map (λ i. i.height) (entry_of ((maps self.now).names name.now)) }
-        ensures height { IfSome result (λ h. h ≤ 2000000000) }
+        ensures height { IfSome result (λ h. h ≤ highest) }
         ensures cost { steps.new ≤ steps.old + 1 };
 }

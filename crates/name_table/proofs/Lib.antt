@@ -1,3 +1,4 @@
 mod ByBytesLemmas
 mod EntryLemmas
+mod KeyLemmas
 mod Readings

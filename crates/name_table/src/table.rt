@@ -3,6 +3,7 @@ ghost use Rattle.std.specs.List.{IsDistinct};
 ghost use Rattle.std.specs.Map.{keys_of};
 ghost use Rattle.std.specs.Option.{is_some, option_copied};
 ghost use Rattle.std.specs.Str.{bytes_eq};
+ghost use Rattle.indexmap.specs.IndexSet.{insert_key};
 ghost use Rattle.chain_names.specs.Changes.{without_entry};
 ghost use Rattle.chain_names.specs.Coins.{entry_of};
 ghost use Rattle.chain_names.specs.Points.{changed};
@@ -70,6 +71,8 @@ impl Table {
     ) -> Result<(), NoMemory>
         ensures names { names_in self.new ≡ names_in self.old }
         ensures ok { OnOk result (name_places self.new ≡ changed bytes_eq (name_places self.old) name.now true) }
+        // A new place stands last.
+        ensures list { OnOk result (keys_of self.new ≡ insert_key bytes_eq (keys_of self.old) name.now) }
         ensures room { OnOk result (items ≤ room_in self.new name.now) }
         ensures no_less { (other : List ℕ) → room_in self.old other ≤ room_in self.new other }
         ensures others { room_in self.new ≡ changed bytes_eq (room_in self.old) name.now (room_in self.new name.now) }
@@ -88,6 +91,8 @@ impl Table {
     pub fn unplace<L: Ledger>(&mut self, name: &[u8], steps: &mut Steps<L>)
         ensures names { names_in self.new ≡ names_in self.old }
         ensures places { name_places self.new ≡ changed bytes_eq (name_places self.old) name.now (is_some (entry_of (names_in self.old name.now))) }
+        // Where there is no such place, the list stays as it was, order and all.
+        ensures list { name_places self.old name.now ≡ is_some (entry_of (names_in self.old name.now)) → self.new ≡ self.old }
         ensures room { room_in self.new ≡ changed bytes_eq (room_in self.old) name.now (if is_some (entry_of (names_in self.old name.now)) then room_in self.old name.now else 0) }
         ensures cost { steps.new ≡ steps.old + 1 }
     {
@@ -103,6 +108,7 @@ impl Table {
         requires room { 1 ≤ room_in self.old name.now }
         ensures names { names_in self.new ≡ changed bytes_eq (names_in self.old) name.now (names_in self.old name.now ++ item ∷ []) }
         ensures places { name_places self.new ≡ name_places self.old }
+        ensures list { keys_of self.new ≡ keys_of self.old }
         ensures room { room_in self.new ≡ changed bytes_eq (room_in self.old) name.now (room_in self.old name.now - 1) }
         ensures cost { steps.new ≡ steps.old + 1 }
     {
@@ -118,6 +124,7 @@ impl Table {
         ensures value { result ≡ entry_of (names_in self.old name.now) }
         ensures names { names_in self.new ≡ changed bytes_eq (names_in self.old) name.now (without_entry (names_in self.old name.now)) }
         ensures places { name_places self.new ≡ name_places self.old }
+        ensures list { keys_of self.new ≡ keys_of self.old }
         ensures room { room_in self.new ≡ room_in self.old }
         ensures cost { steps.new ≡ steps.old + 1 }
     {
@@ -155,6 +162,7 @@ impl Table {
         requires { name_places self.old name.now ≡ true }
         ensures names { names_in self.new ≡ names_in self.old }
         ensures places { name_places self.new ≡ name_places self.old }
+        ensures list { keys_of self.new ≡ keys_of self.old }
         ensures room { OnOk result (items ≤ room_in self.new name.now) }
         ensures no_less { room_in self.old name.now ≤ room_in self.new name.now }
         ensures others { room_in self.new ≡ changed bytes_eq (room_in self.old) name.now (room_in self.new name.now) }
@@ -171,6 +179,8 @@ impl Table {
         requires { name_places self.old name.now ≡ false }
         ensures names { names_in self.new ≡ names_in self.old }
         ensures ok { OnOk result (name_places self.new ≡ changed bytes_eq (name_places self.old) name.now true) }
+        // A new place stands last.
+        ensures list { OnOk result (keys_of self.new ≡ insert_key bytes_eq (keys_of self.old) name.now) }
         ensures room { OnOk result (items ≤ room_in self.new name.now) }
         ensures others { room_in self.new ≡ changed bytes_eq (room_in self.old) name.now (room_in self.new name.now) }
         ensures err { OnErr result (self.new ≡ self.old) }

@@ -1,4 +1,5 @@
-ghost use Rattle.std.specs.Prelude.{◌≡◌, ◌≤◌};
+ghost use Rattle.std.specs.Prelude.{◌≡◌, suc, ◌≤◌};
+ghost use Rattle.nmc_base.specs.Heights.{highest};
 ghost use Rattle.nmc_base.specs.Expiry.{expiry_depth, is_expired, least_amount};
 
 use crate::hashes::Hash32;
@@ -15,7 +16,7 @@ pub enum Profile {
 impl Profile {
     /// For how many blocks the coin of a name stands at the height.
     pub fn depth(self, height: u32) -> u32
-        requires { height ≤ 2000000001 }
+        requires { height ≤ suc highest }
         ensures { result ≡ expiry_depth self height }
     {
         match self {
@@ -34,8 +35,8 @@ impl Profile {
 
     /// Whether a name that was last changed at one height is expired at the other.
     pub fn expired(self, made: u32, height: u32) -> bool
-        requires made { made ≤ 2000000001 }
-        requires height { height ≤ 2000000001 }
+        requires made { made ≤ suc highest }
+        requires height { height ≤ suc highest }
         ensures { result ≡ is_expired self made height }
     {
         made + self.depth(height) <= height

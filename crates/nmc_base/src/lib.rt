@@ -4,6 +4,7 @@
 mod byte_list;
 mod chain_ends;
 mod hashes;
+mod limits;
 mod no_memory;
 mod roomy_list;
 mod steps;
@@ -11,6 +12,9 @@ mod steps;
 pub use byte_list::Bytes;
 pub use chain_ends::{Base, Profile, Tip};
 pub use hashes::{Hash20, Hash32, OutPoint};
+pub use limits::{
+    HIGHEST_HEIGHT, LONGEST_BLOCK, LONGEST_NAME, LONGEST_RAND, LONGEST_VALUE, NAME_VERSION,
+};
 pub use no_memory::NoMemory;
 pub use roomy_list::{RoomyList, Words};
 pub use steps::Steps;

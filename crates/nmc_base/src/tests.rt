@@ -1,4 +1,4 @@
-use crate::{Bytes, Hash20, Hash32, NoMemory, OutPoint, Words};
+use crate::{Bytes, Hash20, Hash32, NoMemory, OutPoint, Profile, Words};
 use std::alloc::Global;
 use std::process::Abort;
 use std::test::Fail;
@@ -15,78 +15,134 @@ const EMPTY: [u8; 20] = [
     0xb2, 0x25, 0x8d, 0x31,
 ];
 
+fn same(rt: &impl Abort, got: &[u8], want: &[u8]) {
+    assert_eq!(rt; got, want);
+}
+
+fn number(rt: &impl Abort, got: u64, want: u64) {
+    assert_eq!(rt; got, want);
+}
+
 #[test]
 fn hashes_as_people_write_them(rt: HostRuntime) -> Result<(), Fail> {
     let block = format!(in rt.alloc(); "{}", Hash32(FIRST_BLOCK))?;
-    assert_eq!(rt;
-        block.as_str(),
-        "000000000019d6689c085ae165831e934ff763ae46a2a6c172b3f1b60a8ce26f"
+    same(
+        &rt,
+        block.as_bytes(),
+        b"000000000019d6689c085ae165831e934ff763ae46a2a6c172b3f1b60a8ce26f",
     );
     let digest = format!(in rt.alloc(); "{}", Hash20(EMPTY))?;
-    assert_eq!(rt; digest.as_str(), "9c1185a5c5e9fc54612808977ee8f548b2258d31");
+    same(
+        &rt,
+        digest.as_bytes(),
+        b"9c1185a5c5e9fc54612808977ee8f548b2258d31",
+    );
     let refusal = format!(in rt.alloc(); "{}", NoMemory)?;
-    assert_eq!(rt; refusal.as_str(), "out of memory");
+    same(&rt, refusal.as_bytes(), b"out of memory");
     Ok(())
+}
+
+/// The first byte of the txid and the index of outpoints in their order.
+static POINTS: [(u8, u32); 4] = [(0, 0), (0, 1), (1, 0), (1, 256)];
+
+fn point(row: &(u8, u32)) -> OutPoint {
+    let mut txid = [!row.0; 32];
+    txid[0] = row.0;
+    OutPoint {
+        txid: Hash32(txid),
+        index: row.1,
+    }
 }
 
 #[test]
 fn outpoints_in_order(rt: HostRuntime) {
-    let mut late = [0u8; 32];
-    late[0] = 1;
-    let mut early = [9u8; 32];
-    early[0] = 0;
-    let rows = [(early, 0), (early, 1), (late, 0), (late, 256)];
-    for i in 0..4 {
-        for j in 0..4 {
-            let a = OutPoint {
-                txid: Hash32(rows[i].0),
-                index: rows[i].1,
-            };
-            let b = OutPoint {
-                txid: Hash32(rows[j].0),
-                index: rows[j].1,
-            };
-            assert_eq!(rt; a.cmp(&b), i.cmp(&j));
-            assert_eq!(rt; a.order(&b), i.cmp(&j));
+    for (i, a) in POINTS.iter().enumerate() {
+        for (j, b) in POINTS.iter().enumerate() {
+            assert!(rt; point(a).order(&point(b)) == i.cmp(&j));
         }
     }
+}
+
+/// For how many blocks the coin of a name stands at heights next to the borders of its rule.
+static DEPTHS: [(Profile, u32, u32); 9] = [
+    (Profile::Regtest, 0, 30),
+    (Profile::Regtest, 2_000_000_001, 30),
+    (Profile::Main, 0, 12_000),
+    (Profile::Main, 23_999, 12_000),
+    (Profile::Main, 24_001, 12_001),
+    (Profile::Main, 47_999, 35_999),
+    (Profile::Main, 48_000, 36_000),
+    (Profile::Main, 48_001, 36_000),
+    (Profile::Main, 2_000_000_001, 36_000),
+];
+
+/// A height at which a name was changed, a height, and whether it is expired there.
+static EXPIRIES: [(Profile, u32, u32, bool); 6] = [
+    (Profile::Regtest, 13, 42, false),
+    (Profile::Regtest, 13, 43, true),
+    (Profile::Main, 1_000, 12_999, false),
+    (Profile::Main, 1_000, 13_000, true),
+    (Profile::Main, 12_001, 36_001, false),
+    (Profile::Main, 12_000, 36_001, true),
+];
+
+#[test]
+fn names_expire_by_their_profile(rt: HostRuntime) {
+    for &(profile, height, depth) in &DEPTHS {
+        number(&rt, profile.depth(height) as u64, depth as u64);
+    }
+    for &(profile, made, height, expired) in &EXPIRIES {
+        assert!(rt; profile.expired(made, height) == expired);
+    }
+    number(&rt, Profile::Regtest.least_amount(), 1_000_000);
+    number(&rt, Profile::Main.least_amount(), 0);
 }
 
 #[test]
 fn bytes_grow_and_empty(rt: HostRuntime) -> Result<(), Fail> {
     let mut bytes = Bytes::new(rt.alloc());
-    assert!(rt; bytes.as_slice().is_empty());
     bytes.extend(b"name")?;
     bytes.extend(b"")?;
     bytes.extend(b"coin")?;
-    assert_eq!(rt; bytes.as_slice(), b"namecoin".as_slice());
+    same(&rt, bytes.as_slice(), b"namecoin");
     let copy = Bytes::copy_of(rt.alloc(), bytes.as_slice())?;
+    same(&rt, copy.as_slice(), b"namecoin");
+    let mut other = bytes.empty_alike();
+    other.zeros(3)?;
+    other.as_mut_slice()[1] = 7;
+    same(&rt, other.as_slice(), &[0, 7, 0]);
     bytes.clear();
-    assert!(rt; bytes.as_slice().is_empty());
-    assert_eq!(rt; copy.as_slice(), b"namecoin".as_slice());
+    same(&rt, bytes.as_slice(), b"");
     Ok(())
 }
 
-fn word(rt: &impl Abort, alloc: Global, text: &[u8]) -> Bytes {
-    Bytes::copy_of(alloc, text).expect(rt, "memory for a word")
+fn word(alloc: Global, words: &mut Words, text: &[u8]) -> Result<(), NoMemory> {
+    let word = Bytes::copy_of(alloc, text)?;
+    words.reserve(1)?;
+    words.push(word);
+    Ok(())
+}
+
+fn last_is(rt: &impl Abort, word: Option<Bytes>, want: &[u8]) {
+    match word {
+        Some(word) => same(rt, word.as_slice(), want),
+        None => assert!(rt; false),
+    }
 }
 
 #[test]
 fn words_with_room(rt: HostRuntime) -> Result<(), Fail> {
     let mut words = Words::new(rt.alloc());
-    assert_eq!(rt; words.len(), 0);
-    assert!(rt; words.item(0).is_none());
-    assert!(rt; words.pop().is_none());
-    words.reserve(2)?;
-    words.push(word(&rt, rt.alloc(), b"one"));
-    words.push(word(&rt, rt.alloc(), b"two"));
-    assert_eq!(rt; words.len(), 2);
-    let last = words.item(1).expect(&rt, "the second word");
-    assert_eq!(rt; last.as_slice(), b"two".as_slice());
+    word(rt.alloc(), &mut words, b"one")?;
+    word(rt.alloc(), &mut words, b"two")?;
+    number(&rt, words.len() as u64, 2);
+    match words.item(0) {
+        Some(first) => same(&rt, first.as_slice(), b"one"),
+        None => assert!(rt; false),
+    }
     assert!(rt; words.item(2).is_none());
-    assert_eq!(rt; words.as_slice().len(), 2);
-    let taken = words.pop().expect(&rt, "the last word");
-    assert_eq!(rt; taken.as_slice(), b"two".as_slice());
-    assert_eq!(rt; words.len(), 1);
+    last_is(&rt, words.pop(), b"two");
+    last_is(&rt, words.pop(), b"one");
+    assert!(rt; words.pop().is_none());
     Ok(())
 }

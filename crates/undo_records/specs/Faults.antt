@@ -7,6 +7,7 @@ use Rattle.chain_names.specs.declared.coin.Coin.{Coin}
 use Rattle.chain_names.specs.declared.coin.HeldCoin.{HeldCoin}
 use Rattle.chain_names.specs.declared.undo.UndoOp.{UndoOp}
 use Rattle.chain_names.specs.Undo.{UndoRecord}
+use Rattle.nmc_base.specs.declared.limits.TheConstants.{LONGEST_VALUE}
 use Rattle.undo_records.specs.declared.fault.UndoFault.{UndoFault}
 use Rattle.undo_records.specs.declared.fault.UndoFault.TheVariants.{Cut, BadTag, Unsorted, NoMemory}
 use Rattle.undo_records.specs.Text.{point_text, name_text, coin_text, op_text, held_text, undo_text}
@@ -21,12 +22,12 @@ pub record IsOther (tags bytes : List ℕ) : Type 0 where
   pub text : bytes ≡ first ∷ more
   pub other : AllByRecursion (λ tag. first ≢ tag) tags
 
--- the length of a value is there, and it is above 1023
+-- the length of a value is there, and it is above the limit
 pub record IsLongLength (bytes : List ℕ) : Type 0 where
   pub number : ℕ
   pub more : List ℕ
   pub text : bytes ≡ to_le_bytes w16 number ++ more
-  pub long : 1023 < number
+  pub long : LONGEST_VALUE < number
   pub fits : number < 2 ^ 16
 
 -- ---- within an operation

@@ -4,6 +4,7 @@ use Rattle.std.specs.Prelude.{ℕ, zero, suc, ◌==◌, Bool, true, false, nat_l
 use Rattle.std.specs.Int.{Width, w16, w32, byte_len, from_le_bytes}
 use Rattle.std.specs.declared.cmp.Ordering.{Ordering}
 use Rattle.std.specs.declared.cmp.Ordering.TheVariants.{Less, Equal, Greater}
+use Rattle.nmc_base.specs.declared.limits.TheConstants.{LONGEST_VALUE}
 use Rattle.nmc_base.specs.declared.hashes.OutPoint.{OutPoint}
 use Rattle.nmc_base.specs.Hash.{outpoint_cmp}
 use Rattle.chain_names.specs.declared.coin.Coin.{Coin}
@@ -51,9 +52,9 @@ checked_from kind test read bytes = do
   x ← read bytes
   if test x.0 then Ok x else Err (kind, bytes)
 
--- the length of a value: at most 1023
+-- the length of a value, which has a limit
 unfoldable pub value_length_from : Reads ℕ
-value_length_from = checked_from BadTag (λ n. nat_le n 1023) (number_from w16)
+value_length_from = checked_from BadTag (λ n. nat_le n LONGEST_VALUE) (number_from w16)
 
 unfoldable pub value_from : Reads (List ℕ)
 value_from = map_from (λ x. x.1) (then_from value_length_from piece_from)

@@ -3,6 +3,7 @@ use Rattle.std.specs.Prelude.{◌≡◌, ℕ, ◌<◌, ◌≤◌, ◌^◌, List,
 use Rattle.std.specs.List.{AllByRecursion}
 use Rattle.std.specs.declared.cmp.Ordering.TheVariants.{Less}
 use Rattle.nmc_base.specs.declared.hashes.OutPoint.{OutPoint}
+use Rattle.nmc_base.specs.declared.limits.TheConstants.{LONGEST_NAME, LONGEST_VALUE}
 use Rattle.nmc_base.specs.Hash.{outpoint_cmp}
 use Rattle.chain_names.specs.declared.coin.Coin.{Coin}
 use Rattle.chain_names.specs.declared.coin.Coin.TheVariants.{New, Named}
@@ -18,7 +19,7 @@ pub record FitsPoint (point : OutPoint) : Type 0 where
   pub index : point.index < 2 ^ 32
 
 abbrev pub FitsName : List ℕ → Type 0
-FitsName name = length name ≤ 255
+FitsName name = length name ≤ LONGEST_NAME
 
 -- a coin that has no name longer than that
 abbrev pub HasShortName : Coin → Type 0
@@ -38,7 +39,7 @@ FitsNamedCoin (Named name height) = (height < 2 ^ 32) × FitsName name
 pub record FitsItem (item : Item) : Type 0 where
   pub height : item.height < 2 ^ 32
   pub at : FitsPoint item.at
-  pub value : length item.value ≤ 1023
+  pub value : length item.value ≤ LONGEST_VALUE
 
 abbrev pub FitsBefore : Option Item → Type 0
 FitsBefore None = Unit {0}

@@ -6,10 +6,7 @@ ghost use Rattle.undo_records.specs.Reading.{number_from, piece_from, name_from,
 ghost use Rattle.undo_records.specs.Fields.{seen};
 
 use crate::fault::{Fault, FaultKind, cut};
-use nmc_base::{Hash32, OutPoint};
-
-/// The longest value that a name may have, in bytes.
-const LONGEST_VALUE: u16 = 1023;
+use nmc_base::{Hash32, LONGEST_VALUE, OutPoint};
 
 /// A number of 2 bytes, low byte first.
 fn u16_at<'a>(bytes: &'a [u8]) -> Result<(u16, &'a [u8]), Fault<'a>>
@@ -72,13 +69,13 @@ pub(crate) fn name_at<'a>(bytes: &'a [u8]) -> Result<(&'a [u8], &'a [u8]), Fault
     }
 }
 
-/// The length of a value: at most 1023.
+/// The length of a value, which has a limit.
 #[tactic(auto, unfolding(crate::specs::Reading::value_length_from))]
 fn value_length_at<'a>(bytes: &'a [u8]) -> Result<(u16, &'a [u8]), Fault<'a>>
     ensures { seen (λ x. (x.0, x.1.now)) result ≡ value_length_from bytes.now }
 {
     let (len, rest) = u16_at(bytes)?;
-    if len > LONGEST_VALUE {
+    if len as usize > LONGEST_VALUE {
         return Err(Fault {
             kind: FaultKind::BadTag,
             rest: bytes,

@@ -1,6 +1,7 @@
-use crate::{Coin, UndoFault, UndoOp, read, write};
+use crate::{UndoFault, read, write};
 use nmc_base::{Bytes, NoMemory};
 use std::alloc::Global;
+use std::process::Abort;
 use std::test::Fail;
 
 /// The length of the text.
@@ -58,92 +59,30 @@ fn changed(alloc: Global, at: usize, byte: u8) -> Result<Bytes, NoMemory> {
     Ok(text)
 }
 
-/// The height of the coin, and its name where it has one.
-fn seen(coin: &Coin) -> (u32, &[u8]) {
-    match coin {
-        Coin::New { hash, height } => (*height, &hash.0[..0]),
-        Coin::Named { name, height } => (*height, name.as_slice()),
-    }
+fn same(rt: &impl Abort, got: &[u8], want: &[u8]) {
+    assert_eq!(rt; got, want);
 }
 
-#[test]
-fn reads_each_operation(rt: HostRuntime) -> Result<(), Fail> {
-    let text = text(rt.alloc())?;
-    let (undo, len) = read(rt.alloc(), text.as_slice())?;
-    assert_eq!(rt; len, LEN);
-    assert_eq!(rt; undo.block.0, [0xb0; 32]);
-    assert_eq!(rt; undo.ops.len(), 3);
-    match undo.ops.item(0) {
-        Some(UndoOp::New { made }) => assert_eq!(rt; made.index, 1),
-        _ => assert!(rt; false),
-    }
-    match undo.ops.item(1) {
-        Some(
-            UndoOp::First {
-                made,
-                spent,
-                coin,
-                name,
-                before,
-            },
-        ) => {
-            assert_eq!(rt; made.index, 258);
-            assert_eq!(rt; spent.txid.0, [3; 32]);
-            assert!(rt; seen(coin) == (5, b"".as_slice()));
-            assert_eq!(rt; name.as_slice(), b"d/a".as_slice());
-            assert!(rt; before.is_none());
-        }
-        _ => assert!(rt; false),
-    }
-    match undo.ops.item(2) {
-        Some(
-            UndoOp::Update {
-                coin,
-                before: Some(item),
-                ..
-            },
-        ) => {
-            assert!(rt; seen(coin) == (262, b"d/a".as_slice()));
-            assert_eq!(rt; item.height, 262);
-            assert_eq!(rt; item.value.as_slice(), b"{}".as_slice());
-        }
-        _ => assert!(rt; false),
-    }
-    assert_eq!(rt; undo.expired.len(), 3);
-    let last = undo.expired.item(2).ok_or("a third coin")?;
-    assert_eq!(rt; last.at.index, 257);
-    assert!(rt; seen(&last.coin) == (7, b"".as_slice()));
-    Ok(())
+/// What is written of the record that the text is read as, behind other bytes.
+fn written(alloc: Global, text: &Bytes) -> Result<Bytes, Fail> {
+    let (undo, _len) = read(alloc, text.as_slice())?;
+    let mut out = Bytes::copy_of(alloc, b"before")?;
+    write(&undo, &mut out)?;
+    Ok(out)
 }
 
 #[test]
 fn writes_what_was_read(rt: HostRuntime) -> Result<(), Fail> {
     let text = text(rt.alloc())?;
-    let (undo, _len) = read(rt.alloc(), text.as_slice())?;
-    let mut out = Bytes::copy_of(rt.alloc(), b"before")?;
-    write(&undo, &mut out)?;
+    let out = written(rt.alloc(), &text)?;
     let (before, written) = out.as_slice().split_at(6);
-    assert_eq!(rt; before, b"before".as_slice());
-    assert_eq!(rt; written, text.as_slice());
-    out.extend(b"behind")?;
-    let (_undo, len) = read(rt.alloc(), out.as_slice().split_at(6).1)?;
-    assert_eq!(rt; len, LEN);
-    Ok(())
-}
-
-#[test]
-fn each_front_is_cut(rt: HostRuntime) -> Result<(), Fail> {
-    let text = text(rt.alloc())?;
-    for at in 0..LEN {
-        let front = text.as_slice().get(..at).ok_or("a front")?;
-        let fault = read(rt.alloc(), front).err();
-        assert_eq!(rt; fault, Some(UndoFault::Cut { at }));
-    }
+    same(&rt, before, b"before");
+    same(&rt, written, text.as_slice());
     Ok(())
 }
 
 /// A byte that is put at a place, and the fault that it makes.
-const HOSTILE: [(usize, u8, UndoFault); 19] = [
+static HOSTILE: [(usize, u8, UndoFault); 19] = [
     // an operation's tag
     (36, 0x50, UndoFault::BadTag { at: 36 }),
     (36, 0x54, UndoFault::BadTag { at: 36 }),
@@ -173,36 +112,39 @@ const HOSTILE: [(usize, u8, UndoFault); 19] = [
     (437, 1, UndoFault::Cut { at: LEN }),
 ];
 
+fn faulted(alloc: Global, at: usize, byte: u8) -> Result<Option<UndoFault>, Fail> {
+    let bytes = changed(alloc, at, byte)?;
+    Ok(read(alloc, bytes.as_slice()).err())
+}
+
 #[test]
 fn tells_the_first_fault(rt: HostRuntime) -> Result<(), Fail> {
-    for (at, byte, fault) in HOSTILE {
-        let bytes = changed(rt.alloc(), at, byte)?;
-        assert_eq!(rt;
-            read(rt.alloc(), bytes.as_slice()).err(),
-            Some(fault),
-            "at {at}"
-        );
+    for &(at, byte, fault) in &HOSTILE {
+        let found = faulted(rt.alloc(), at, byte)?;
+        assert!(rt; found == Some(fault));
     }
     Ok(())
 }
 
+/// Each fault, as it is displayed.
+static SHOWN: [(UndoFault, &str); 4] = [
+    (UndoFault::Cut { at: 4 }, "the undo record is cut at byte 4"),
+    (
+        UndoFault::BadTag { at: 36 },
+        "no such tag or length in an undo record at byte 36",
+    ),
+    (
+        UndoFault::Unsorted { at: 354 },
+        "an expired coin out of order at byte 354",
+    ),
+    (UndoFault::NoMemory, "out of memory"),
+];
+
 #[test]
 fn says_what_is_wrong(rt: HostRuntime) -> Result<(), Fail> {
-    let rows = [
-        (UndoFault::Cut { at: 4 }, "the undo record is cut at byte 4"),
-        (
-            UndoFault::BadTag { at: 36 },
-            "no such tag or length in an undo record at byte 36",
-        ),
-        (
-            UndoFault::Unsorted { at: 354 },
-            "an expired coin out of order at byte 354",
-        ),
-        (UndoFault::NoMemory, "out of memory"),
-    ];
-    for (fault, text) in rows {
+    for &(fault, text) in &SHOWN {
         let shown = format!(in rt.alloc(); "{fault}")?;
-        assert_eq!(rt; shown.as_str(), text);
+        same(&rt, shown.as_bytes(), text.as_bytes());
     }
     Ok(())
 }
@@ -220,13 +162,10 @@ fn written_or_not(alloc: Global) -> Option<bool> {
 
 #[test]
 fn a_refused_write_leaves_the_list(rt: HostRuntime) {
-    match written_or_not(rt.alloc()) {
-        Some(kept) => assert!(rt; kept),
-        None => {}
-    }
+    assert!(rt; written_or_not(rt.alloc()) != Some(false));
 }
 
 #[test]
 fn with_memory_a_record_is_written(rt: HostRuntime) {
-    assert_eq!(rt; written_or_not(rt.alloc()), Some(true));
+    assert!(rt; written_or_not(rt.alloc()) == Some(true));
 }

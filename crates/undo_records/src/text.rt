@@ -3,6 +3,7 @@
 ghost use Rattle.std.specs.Prelude.{◌≡◌, ◌++◌, ◌<◌, ◌≤◌, ◌^◌, length, OnOk};
 ghost use Rattle.std.specs.List.{flat_map, AllByRecursion};
 ghost use Rattle.std.specs.Int.{w16, w32, to_le_bytes};
+ghost use Rattle.nmc_base.specs.declared.limits.TheConstants.{LONGEST_VALUE};
 ghost use Rattle.undo_records.specs.Text.{point_text, name_text, coin_text, item_text, before_text, change_of, change_text, op_text, held_text};
 ghost use Rattle.undo_records.specs.Writable.{FitsName, HasShortName, FitsItem, FitsBefore, FitsOp, FitsHeld};
 
@@ -56,7 +57,7 @@ fn add_coin(out: &mut Bytes, coin: &Coin) -> Result<(), NoMemory>
 
 /// A value behind its length.
 fn add_value(out: &mut Bytes, value: &[u8]) -> Result<(), NoMemory>
-    requires { length value.now ≤ 1023 }
+    requires { length value.now ≤ LONGEST_VALUE }
     ensures { OnOk result (out.new ≡ out.old ++ (to_le_bytes w16 (length value.now) ++ value.now)) }
 {
     let len = value.len() as u16;

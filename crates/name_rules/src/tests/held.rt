@@ -3,6 +3,7 @@ ghost use Rattle.std.specs.Option.{option_map};
 ghost use Rattle.std.specs.Str.{bytes_eq};
 ghost use Rattle.std.specs.Map.{lookup};
 ghost use Rattle.chain_names.specs.Points.{same_point, point_at};
+ghost use Rattle.nmc_base.specs.Heights.{highest};
 ghost use Rattle.name_rules.specs.Seen.{seen_coin};
 
 use crate::{CoinRef, NameView};
@@ -15,7 +16,7 @@ pub struct Held<'a> {
     pub coins: &'a [(OutPoint, CoinRef<'a>)],
     pub name: &'a [u8],
     pub height: u32,
-    ghost within: { height ≤ 2000000000 },
+    ghost within: { height ≤ highest },
 }
 
 impl<'a> NameView for Held<'a> {

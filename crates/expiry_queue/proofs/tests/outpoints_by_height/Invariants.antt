@@ -1,4 +1,4 @@
 use Rattle.expiry_queue.proofs.tests.outpoints_by_height.Given as goal
 
-abbrev pub ghosts-outpoints_come_and_go : goal.ghosts-outpoints_come_and_go
-ghosts-outpoints_come_and_go g a = record { name = a.blank.name; parts = a.blank.parts }
+abbrev pub ghosts-rows_in_order : goal.ghosts-rows_in_order
+ghosts-rows_in_order g a = record { name = a.blank.name; parts = a.blank.parts }

@@ -5,6 +5,7 @@ use Rattle.chain_names.specs.Tables.{row_of}
 use Rattle.chain_names.proofs.Changed.{read_at-kept}
 use Rattle.expiry_queue.specs.OneRow.{RowSlots}
 use Rattle.expiry_queue.proofs.RowReadings.{places_of, queued_in-changed}
+use Rattle.expiry_queue.proofs.RowReadings.{points_of}
 use Rattle.expiry_queue.proofs.queue.Queue.take.Goals as goal
 
 pub returns-clause-queued : goal.returns-clause-queued
@@ -20,3 +21,10 @@ returns-clause-places g c =
     let here = sym (ap is_some c.in-Some.ensures.value) in
     let updates = ((c.get_mut.follows.holds c.take.new.self).3 here).0 in
     rw (← c.self.view_is) (read_at-kept nat_eq places_of eqb-true _ _ _ _ updates (rw has (sym c.take.ensures.places)))
+
+pub returns-clause-list : goal.returns-clause-list
+returns-clause-list g c =
+    let has : lookup (nat_eq c.args.height) c.self.inside.rows.entries ≡ Some c.in-Some.row.now = sym c.in-Some.ensures.value in
+    let here = sym (ap is_some c.in-Some.ensures.value) in
+    let updates = ((c.get_mut.follows.holds c.take.new.self).3 here).0 in
+    rw (← c.self.view_is) (read_at-kept nat_eq points_of eqb-true _ _ _ _ updates (rw has (sym c.take.ensures.list)))

@@ -5,6 +5,8 @@ use Rattle.chain_names.specs.Tables.{queued_in, queue_places, row_of}
 use Rattle.chain_names.proofs.Changed.{read_at-kept}
 use Rattle.expiry_queue.specs.OneRow.{RowSlots, row_queued}
 use Rattle.expiry_queue.proofs.RowReadings.{queued_of, height_kept, point_kept, queue_places-changed}
+use Rattle.std.specs.Map.{keys_of}
+use Rattle.expiry_queue.proofs.RowReadings.{points_of}
 use Rattle.expiry_queue.proofs.queue.Queue.unplace_in_row.Goals as goal
 
 pub returns-in_default-clause-places : goal.returns-in_default-clause-places
@@ -28,3 +30,11 @@ returns-clause-places c =
     let here = sym (ap is_some c.in-Some.ensures.value) in
     let updates = ((c.get_mut.follows.holds c.unplace.new.self).3 here).0 in
     rw (← c.self.view_is) (queue_places-changed c.self.inside.rows.entries _ c.args.height _ _ _ (λ (row : RowSlots). row_queued row c.args.at.now) updates (ap row_of has) c.unplace.ensures.places)
+
+pub returns-clause-list : goal.returns-clause-list
+returns-clause-list c h =
+    let has : lookup (nat_eq c.args.height) c.self.inside.rows.entries ≡ Some c.in-Some.row.now = sym c.in-Some.ensures.value in
+    let here = sym (ap is_some c.in-Some.ensures.value) in
+    let updates = ((c.get_mut.follows.holds c.unplace.new.self).3 here).0 in
+    let same = c.unplace.ensures.list (rw has at (rw (← c.self.view_is) at h)) in
+    rw (← c.self.view_is) (read_at-kept nat_eq points_of eqb-true _ _ _ _ updates (rw has (sym (ap (λ (row : RowSlots). keys_of row) same))))

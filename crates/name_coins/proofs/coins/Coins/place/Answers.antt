@@ -1,4 +1,8 @@
-use Rattle.std.proofs.Common.{◌≡◌, Option, Some, None, is_some, refl, sym, false, true≢false}
+use Rattle.std.proofs.Common.{◌≡◌, Option, Some, None, is_some, refl, sym, ◌∙◌, true, false, true≢false}
+use Rattle.std.specs.List.{list_any}
+use Rattle.std.specs.Map.{keys_of}
+use Rattle.std.proofs.lemmas.Map.Made.{is_some-lookup}
+use Rattle.indexmap.proofs.SetLemmas.{keys_insert_entry}
 use Rattle.chain_names.specs.declared.coin.Coin.{Coin}
 use Rattle.chain_names.specs.Points.{same_point}
 use Rattle.chain_names.specs.Tables.{filled_by}
@@ -16,3 +20,13 @@ returns-in_ok-insert-clause-coins g c =
 
 pub returns-in_ok-insert-clause-ok : goal.returns-in_ok-insert-clause-ok
 returns-in_ok-insert-clause-ok g c = rw (← c.self.view_is) (read_at-changed same_point is_some _ _ _ _ c.in_ok-insert.ensures.updates.0)
+
+pub returns-in_ok-insert-clause-list : goal.returns-in_ok-insert-clause-list
+returns-in_ok-insert-clause-list g c =
+    rw (c.in_ok-insert.ensures.entries, ← c.self.view_is) (keys_insert_entry same_point c.self.inside.places.entries c.args.at None)
+
+pub returns-else-not-contains_key-clause-list : goal.returns-else-not-contains_key-clause-list
+returns-else-not-contains_key-clause-list g c =
+    let here : list_any (same_point c.args.at) (keys_of c.args.self.now) ≡ true =
+    rw (← c.self.view_is) (sym (is_some-lookup (same_point c.args.at) c.self.inside.places.entries) ∙ sym c.if-not-contains_key.ensures) in
+    rw here refl

@@ -8,6 +8,7 @@ use Rattle.chain_names.specs.Tables.{names_in}
 use Rattle.name_table.specs.ByBytes.{by_bytes}
 use Rattle.name_table.proofs.ByBytesLemmas.{found}
 use Rattle.name_table.proofs.Readings.{reads, kept, no_items}
+use Rattle.name_table.proofs.KeyLemmas.{inserted_keys}
 use Rattle.name_table.proofs.table.Table.add.Goals as goal
 
 pub returns-clause-names : goal.returns-clause-names
@@ -35,3 +36,7 @@ returns-clause-others c =
     let read = reads c.self.inside.places.entries _ c.in_ok-key.key.items _ updates.1 updates.3 in
     let now = found c.in_ok-key.key.items c.insert.new.self.entries _ updates.1 in
     rw (← c.in_ok-key.ensures.items, ← c.self.view_is) (read.room ∙ ap (changed bytes_eq _ _) (rw now refl))
+
+pub returns-clause-list : goal.returns-clause-list
+returns-clause-list c =
+    rw (c.in_ok-insert.ensures.entries, ← c.self.view_is, ← c.in_ok-key.ensures.items) (inserted_keys c.self.inside.places.entries c.in_ok-key.key c.reserve.new.self)

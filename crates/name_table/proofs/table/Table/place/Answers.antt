@@ -1,5 +1,7 @@
 use Rattle.std.proofs.Common.{◌≡◌, true, false, sym, ◌∙◌, arith}
-use Rattle.std.specs.Map.{lookup}
+use Rattle.std.specs.List.{list_any}
+use Rattle.std.specs.Map.{lookup, keys_of}
+use Rattle.std.proofs.lemmas.Map.Made.{is_some-lookup}
 use Rattle.std.specs.Str.{bytes_eq}
 use Rattle.chain_names.specs.Tables.{name_places, room_in}
 use Rattle.name_table.proofs.ByBytesLemmas.{lookup-by_bytes}
@@ -28,3 +30,10 @@ returns-else-contains_key-clause-no_less g c =
     rw (← c.self.view_is, lookup-by_bytes c.args.name.now c.self.inside.places.entries) (sym c.if-contains_key.ensures) in
     let none : room_in c.args.self.now c.args.name.now ≡ 0 = no_spare (lookup (bytes_eq c.args.name.now) c.args.self.now) absent in
     no_room_fell (room_in c.args.self.now) (room_in c.add.new.self) c.args.name.now c.add.ensures.others (omega arith)
+
+pub returns-then-contains_key-clause-list : goal.returns-then-contains_key-clause-list
+returns-then-contains_key-clause-list g c =
+    let placed : name_places c.args.self.now c.args.name.now ≡ true =
+    rw (← c.self.view_is, lookup-by_bytes c.args.name.now c.self.inside.places.entries) (sym c.if-contains_key.ensures) in
+    let here : list_any (bytes_eq c.args.name.now) (keys_of c.args.self.now) ≡ true = sym (is_some-lookup (bytes_eq c.args.name.now) c.args.self.now) ∙ placed in
+    on_ok_from c.widen.result (rw here c.widen.ensures.list)

@@ -9,6 +9,7 @@ use Rattle.name_table.specs.ByBytes.{by_bytes}
 use Rattle.name_table.proofs.ByBytesLemmas.{found}
 use Rattle.name_table.proofs.EntryLemmas.{popped-entry, popped-rest}
 use Rattle.name_table.proofs.Readings.{reads, kept}
+use Rattle.name_table.proofs.KeyLemmas.{same_keys}
 use Rattle.name_table.proofs.table.Table.pop.Goals as goal
 
 pub returns-in_err-history-clause-value : goal.returns-in_err-history-clause-value
@@ -51,3 +52,6 @@ returns-clause-room g c =
     let read = reads c.self.inside.places.entries _ c.args.name.now _ (wrote.3 here).1 (wrote.3 here).3 in
     let has = found c.args.name.now c.self.inside.places.entries _ (sym c.in_ok-history.ensures.value) in
     rw (← c.self.view_is) (read.room ∙ kept (room_in (by_bytes c.self.inside.places.entries)) c.args.name.now _ (rw has (sym c.pop.ensures.spare)))
+
+pub returns-clause-list : goal.returns-clause-list
+returns-clause-list g c = rw (← c.self.view_is) (same_keys c.self.inside.places.entries _ (c.get_mut.follows.holds c.pop.new.self).1)

@@ -5,6 +5,7 @@ use Rattle.chain_names.specs.Tables.{name_places, room_in}
 use Rattle.name_table.specs.ByBytes.{by_bytes}
 use Rattle.name_table.proofs.ByBytesLemmas.{found}
 use Rattle.name_table.proofs.Readings.{reads, kept}
+use Rattle.name_table.proofs.KeyLemmas.{same_keys}
 use Rattle.name_table.proofs.table.Table.push.Goals as goal
 
 pub push-requires : goal.push-requires
@@ -43,3 +44,6 @@ returns-clause-room g c =
     let has = found c.args.name.now c.self.inside.places.entries _ (sym c.in-Some.ensures.value) in
     let less : c.push.new.self.spare ≡ c.in-Some.history.now.spare - 1 = omega (arith, c.push.ensures.spare) in
     rw (← c.self.view_is) (rw has (read.room ∙ ap (changed bytes_eq _ _) less))
+
+pub returns-clause-list : goal.returns-clause-list
+returns-clause-list g c = rw (← c.self.view_is) (same_keys c.self.inside.places.entries _ (c.get_mut.follows.holds c.push.new.self).1)

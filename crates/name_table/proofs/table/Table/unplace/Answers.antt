@@ -1,10 +1,14 @@
-use Rattle.std.proofs.Common.{◌≡◌, [], true, None, refl, sym, ◌∙◌}
+use Rattle.std.proofs.Common.{◌≡◌, [], true, false, None, refl, sym, ap, ◌∙◌}
 use Rattle.std.specs.Map.{lookup}
 use Rattle.std.specs.Str.{bytes_eq}
 use Rattle.chain_names.specs.Tables.{names_in, name_places, room_in}
 use Rattle.name_table.specs.ByBytes.{by_bytes}
 use Rattle.name_table.proofs.EntryLemmas.{empty_from_length, filled_from_length}
 use Rattle.name_table.proofs.Readings.{reads, kept, has_entry, has_place}
+use Rattle.chain_names.specs.Coins.{entry_of}
+use Rattle.std.specs.Option.{is_some}
+use Rattle.name_table.proofs.KeyLemmas.{none_from}
+use Rattle.name_table.proofs.ByBytesLemmas.{lookup-by_bytes}
 use Rattle.name_table.proofs.table.Table.unplace.Goals as goal
 
 pub returns-then-is_empty-clause-names : goal.returns-then-is_empty-clause-names
@@ -37,3 +41,11 @@ returns-else-is_empty-clause-room g c =
     let some = λ (h : names_in c.args.self.now c.args.name.now ≡ []). filled_from_length c.held.result.now c.if-is_empty.ensures (c.held.ensures ∙ h) in
     let entry = has_entry (lookup (bytes_eq c.args.name.now) c.args.self.now) some in
     rw entry (sym (kept (room_in c.args.self.now) c.args.name.now _ refl))
+
+pub returns-then-is_empty-clause-list : goal.returns-then-is_empty-clause-list
+returns-then-is_empty-clause-list g c h =
+    let empty = sym c.held.ensures ∙ empty_from_length c.held.result.now c.if-is_empty.ensures in
+    let absent : name_places c.args.self.now c.args.name.now ≡ false = h ∙ ap (λ items. is_some (entry_of items)) empty in
+    let none : lookup (bytes_eq c.args.name.now) c.args.self.now ≡ None = none_from _ absent in
+    let result : c.swap_remove.result ≡ None = c.swap_remove.ensures.value ∙ sym (lookup-by_bytes c.args.name.now c.self.inside.places.entries) ∙ rw c.self.view_is none in
+    rw (← c.self.view_is) (ap by_bytes (rw result at c.swap_remove.ensures.unchanged))

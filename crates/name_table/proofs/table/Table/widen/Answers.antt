@@ -8,6 +8,7 @@ use Rattle.name_table.specs.ByBytes.{by_bytes}
 use Rattle.chain_names.proofs.Changed.{set_value-same}
 use Rattle.name_table.proofs.ByBytesLemmas.{has_bytes, found}
 use Rattle.name_table.proofs.Readings.{reads, kept}
+use Rattle.name_table.proofs.KeyLemmas.{same_keys}
 use Rattle.name_table.proofs.table.Table.widen.Goals as goal
 
 pub unreachable-requires : goal.unreachable-requires
@@ -59,3 +60,6 @@ returns-clause-err c =
     on_err_weaker c.reserve.result (λ same.
     rw (← c.self.view_is) (ap by_bytes (wrote.0 ∙ ap (set_value (has_bytes c.args.name.now) c.self.inside.places.entries) same ∙ set_value-same (has_bytes c.args.name.now) c.self.inside.places.entries _ (sym c.in-Some.ensures.value))))
     c.reserve.ensures.err
+
+pub returns-clause-list : goal.returns-clause-list
+returns-clause-list c = rw (← c.self.view_is) (same_keys c.self.inside.places.entries _ (c.get_mut.follows.holds c.reserve.new.self).1)
