@@ -1,2 +1,4 @@
-pub mod Following
-pub mod Undoing
+pub mod StandingLemmas
+pub mod RefusalLemmas
+pub mod UndoLemmas
+pub mod SoundLemmas

@@ -4,6 +4,6 @@
 mod laws;
 
 pub use laws::{
-    base_stands, connecting_again_redoes, connects_stand, disconnecting_undoes, disconnects_stand,
-    one_index,
+    base_stands, chains_are_sound, connecting_again_redoes, connects_follow, connects_stand,
+    disconnecting_undoes, disconnects_follow, disconnects_stand, one_index, same_stands,
 };

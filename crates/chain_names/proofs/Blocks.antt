@@ -83,13 +83,14 @@ maps_of-next profile log height = λ i. record { coins = fun_ext (λ point. late
 -- ---- blocks
 
 -- the index follows the chain: a block without a refusal changes the maps as the log says
-pub index_maps-next : (profile : Profile) (base : ℕ) (block : List ℕ) (blocks : List (List ℕ))
-    → refused_in profile (next_height base blocks) 1 (behind_coinbase (transactions_in block)) (log_of base blocks) ≡ None
-    → index_maps profile base (block ∷ blocks) ≡ after_block profile (next_height base blocks) (behind_coinbase (transactions_in block)) (index_maps profile base blocks)
-index_maps-next profile base block blocks e =
+pub index_maps-next : (profile : Profile) (start : Log) (base : ℕ) (block : List ℕ) (blocks : List (List ℕ))
+    → refused_in profile (next_height base blocks) 1 (behind_coinbase (transactions_in block)) (log_of start base blocks) ≡ None
+    → index_maps profile start base (block ∷ blocks)
+    ≡ after_block profile (next_height base blocks) (behind_coinbase (transactions_in block)) (index_maps profile start base blocks)
+index_maps-next profile start base block blocks e =
     let height = next_height base blocks in
     let ts = behind_coinbase (transactions_in block) in
-    let log = log_of base blocks in
+    let log = log_of start base blocks in
     ap (λ n. maps_of profile (all_touches height ts log) (suc n)) (next_above base blocks block)
     ∙ maps_of-next profile (all_touches height ts log) height
     ∙ ap (without_expired profile (suc height)) (all_follow profile height 1 ts log (sym (refused_in-maps profile height 1 ts log) ∙ e))

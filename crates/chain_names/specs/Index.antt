@@ -21,8 +21,8 @@ abbrev pub next_height : ℕ → List (List ℕ) → ℕ
 next_height base blocks = suc (base + length blocks)
 
 -- the coins that the next block may spend, and the histories
-abbrev pub index_maps : Profile → ℕ → List (List ℕ) → Maps
-index_maps profile base blocks = maps_of profile (log_of base blocks) (next_height base blocks)
+abbrev pub index_maps : Profile → Log → ℕ → List (List ℕ) → Maps
+index_maps profile start base blocks = maps_of profile (log_of start base blocks) (next_height base blocks)
 
 abbrev pub value_of : Option Item → Option (List ℕ)
 value_of None = None

@@ -6,5 +6,6 @@ pub mod Verdict
 pub mod Meaning
 pub mod Changes
 pub mod Index
+pub mod Start
 pub mod Tables
 pub mod Undo

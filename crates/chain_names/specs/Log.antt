@@ -1,5 +1,5 @@
--- The outpoint log of a chain: what its transactions spend, and the name outputs that they make. Nothing is ever taken
--- from it. The newest event stands first.
+-- The outpoint log of a chain: the makes that it starts with, and then what its transactions spend and the name outputs
+-- that they make. Nothing is ever taken from it. The newest event stands first.
 use Rattle.std.specs.Prelude.{ℕ, suc, ◌+◌, List, [], ◌∷◌, length, drop, Option, Some, None, Result, Ok, Err}
 use Rattle.block_grammar.specs.Transaction.{TxInput, TxOutput, Transaction, txid_of}
 use Rattle.block_grammar.specs.Block.{Block}
@@ -52,7 +52,7 @@ transactions_read (Err e) = []
 abbrev pub transactions_in : List ℕ → List Transaction
 transactions_in bytes = transactions_read (block_from bytes)
 
--- the log of the blocks on a base of this height, the newest block first
-abbrev pub log_of : ℕ → List (List ℕ) → Log
-log_of base [] = []
-log_of base (block ∷ blocks) = all_touches (suc (base + length blocks)) (behind_coinbase (transactions_in block)) (log_of base blocks)
+-- the log of the blocks on a base with this start list and this height, the newest block first
+abbrev pub log_of : Log → ℕ → List (List ℕ) → Log
+log_of start base [] = start
+log_of start base (block ∷ blocks) = all_touches (suc (base + length blocks)) (behind_coinbase (transactions_in block)) (log_of start base blocks)

@@ -1,6 +1,6 @@
 //! Laws of the definitions. Each is the contract of a function that does nothing.
 
-ghost use Rattle.std.specs.Prelude.{◌≡◌, ℕ, suc, ◌+◌, ◌<◌, ◌≤◌, Bool, true, false, nat_eq, List, Option, Some, None, ◌∷◌};
+ghost use Rattle.std.specs.Prelude.{◌≡◌, ℕ, suc, ◌+◌, ◌<◌, ◌≤◌, Bool, true, false, nat_eq, List, [], ◌∷◌, Option, Some, None};
 ghost use Rattle.std.specs.List.{list_any};
 ghost use Rattle.block_grammar.specs.Transaction.{Transaction};
 ghost use Rattle.nmc_base.specs.declared.chain_ends.Profile.{Profile};
@@ -15,15 +15,21 @@ ghost use Rattle.chain_names.specs.Verdict.{verdict};
 ghost use Rattle.chain_names.specs.Meaning.{Means};
 ghost use Rattle.chain_names.specs.Changes.{after_all, after_block, back_ops, cleared, first_refused, undo_ops, unless_named_at};
 ghost use Rattle.chain_names.specs.Index.{index_maps, next_height, refused_in};
+ghost use Rattle.chain_names.specs.Start.{IsStart};
 ghost use Rattle.chain_names.specs.Tables.{is_named_at, queue_of};
 
 /// The maps follow the log: a block without a refusal changes them by its verdicts, and then the coins that are expired
 /// in the next block go.
 pub fn index_follows()
-    ensures { (profile : Profile) (base : ℕ) (block : List ℕ) (blocks : List (List ℕ))
-        → refused_in profile (next_height base blocks) 1 (behind_coinbase (transactions_in block)) (log_of base blocks) ≡ None
-        → index_maps profile base (block ∷ blocks)
-        ≡ after_block profile (next_height base blocks) (behind_coinbase (transactions_in block)) (index_maps profile base blocks) }
+    ensures { (profile : Profile) (start : Log) (base : ℕ) (block : List ℕ) (blocks : List (List ℕ))
+        → refused_in profile (next_height base blocks) 1 (behind_coinbase (transactions_in block)) (log_of start base blocks) ≡ None
+        → index_maps profile start base (block ∷ blocks)
+        ≡ after_block profile (next_height base blocks) (behind_coinbase (transactions_in block)) (index_maps profile start base blocks) }
+{}
+
+/// A chain may start with no makes.
+pub fn starts_empty()
+    ensures { (profile : Profile) (base : ℕ) → IsStart profile base [] }
 {}
 
 /// The refusal of a block's transactions by the log, searched anew for each, is the one by the maps.

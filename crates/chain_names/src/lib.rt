@@ -8,8 +8,8 @@ mod undo;
 
 pub use coin::{Coin, HeldCoin, Item};
 pub use laws::{
-    due_coins, expiry_laws, index_follows, queue_follows, refusals_agree, undoing_restores,
-    verdict_meaning,
+    due_coins, expiry_laws, index_follows, queue_follows, refusals_agree, starts_empty,
+    undoing_restores, verdict_meaning,
 };
 pub use refusal::RuleRefusal;
 pub use undo::UndoOp;

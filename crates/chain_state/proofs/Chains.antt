@@ -16,8 +16,12 @@ use Rattle.nmc_base.specs.declared.chain_ends.Tip.{Tip}
 use Rattle.chain_names.specs.declared.undo.UndoOp.{UndoOp}
 use Rattle.undo_laws.specs.Expired.{IsDue}
 use Rattle.undo_laws.specs.Sound.{IsSound, count_outputs}
-use Rattle.undo_laws.proofs.Soundness.{block_sound}
-use Rattle.undo_laws.proofs.Beginning.{base_sound}
+use Rattle.undo_laws.specs.State.{IsState, IsUpTo}
+use Rattle.undo_laws.proofs.Soundness.{block_sound, sound_state}
+use Rattle.undo_laws.proofs.StartLemmas.{base_sound}
+use Rattle.undo_records.specs.Writable.{IsWritable}
+use Rattle.chain_state.specs.Measure.{AreMeasured}
+use Rattle.chain_state.proofs.MeasureLemmas.{block_measured, block_writable, was_there}
 use Rattle.undo_records.specs.Seen.{seen_undo}
 use Rattle.undo_records.specs.declared.undo.Undo.{Undo}
 use Rattle.chain_names.specs.Coins.{Maps, maps_of, unless_expired}
@@ -34,7 +38,7 @@ use Rattle.chain_state.specs.Tables.{maps_by, IsBelow, IsStanding, AreFilled}
 use Rattle.chain_state.specs.Work.{FitsOps, HasSpentPlace, HasSpentRow, may_be_empty, may_be_empty_at, IsWork, maps_before}
 use Rattle.chain_state.specs.Block.{IsReady, HasFewOutputs, AppliedAll, Stopped}
 use Rattle.chain_state.specs.Stage.{Begins, StagesWell, StagesNames, Stages}
-use Rattle.chain_state.specs.declared.stage.Refusal.TheVariants.{BadBlock, NotOnTip, HeightLimit, MerkleMismatch, Rule, NotTip, AtBase}
+use Rattle.chain_state.specs.declared.stage.Refusal.TheVariants.{BadBlock, NotOnTip, HeightLimit, MerkleMismatch, Rule, JournalFull}
 use Rattle.chain_state.specs.declared.stage.StageOutcome.{StageOutcome}
 use Rattle.chain_state.specs.declared.stage.StageOutcome.TheVariants.{Staged, Refused, NoMemory}
 use Rattle.chain_state.proofs.Working.{all-weaker}
@@ -58,22 +62,45 @@ pub few_each : (ts : List Transaction) → count_outputs ts < 2 ^ 32 → AllByRe
 few_each [] few = tt
 few_each (t ∷ ts) few = (omega (arith, few), few_each ts (omega (arith, few)))
 
+-- ---- a state stands for the next block
+
+live_coin : (profile : Profile) (tip : ℕ) (maps : Maps) (state : IsState profile tip maps) (point : OutPoint) (coin : Option Coin) → maps.coins point ≡ coin → unless_expired profile (suc tip) coin ≡ coin
+live_coin profile tip maps state point None is = refl
+live_coin profile tip maps state point (Some (New hash made)) is = refl
+live_coin profile tip maps state point (Some (Named name made)) is = rw (state.named_coins point name made is).live refl
+
+pub state_standing : (profile : Profile) (tip : ℕ) (maps : Maps) → IsState profile tip maps → IsStanding profile (suc tip) (suc tip) maps
+state_standing profile tip maps state = record {
+  low_coins = λ point coin e. omega (arith, state.coin_heights point coin e);
+  low_names = λ name. all-weaker (IsUpTo tip) (IsBelow (suc tip)) (maps.names name) (λ item low. omega (arith, low)) (state.item_heights name);
+  live = fun_ext (λ point. live_coin profile tip maps state point (maps.coins point) refl);
+}
+
+pub indexed_state : (c : Indexed) → IsIndexed c → IsState c.base.profile c.tip.height (maps_by c.tables)
+indexed_state c indexed = sound_state c.base.profile c.base.height c.tip.height (maps_by c.tables) c.undos indexed.sound
+
 -- ---- the same index again
 
 module _ (c : Indexed) (indexed : IsIndexed c) (tables : Tables) (undos : Roomy Undo) (same_undos : newest_first undos.items ≡ c.undos) (same : maps_by tables ≡ maps_by c.tables) where
   pub returned_index : queued_in tables.queue ≡ queue_of (coins_in tables.coins) → AreFilled tables → IsIndexed (index_of c.base c.tip tables undos)
   returned_index queue filled = record {
-    height = indexed.height;
     hash = indexed.hash ∙ sym (ap (newest_hash c.base) same_undos);
     queue = queue;
     filled = filled;
-    standing = subst (IsStanding c.base.profile (suc c.tip.height) (suc c.tip.height)) (sym same) indexed.standing;
     sound = subst (λ us. IsSound c.base.profile c.base.height c.tip.height (maps_by tables) us) (sym same_undos)
         (subst (λ m. IsSound c.base.profile c.base.height c.tip.height m c.undos) (sym same) indexed.sound);
+    measured = subst AreMeasured (sym same) indexed.measured;
+    writable = subst (AllByRecursion IsWritable) (sym same_undos) indexed.writable;
   }
 
-  pub returned_same : SameIndex (index_of c.base c.tip tables undos) c
-  returned_same = record { base = refl; tip = refl; maps = same; undos = same_undos }
+  pub returned_same : queued_in tables.queue ≡ queue_of (coins_in tables.coins) → SameIndex (index_of c.base c.tip tables undos) c
+  returned_same queue = record {
+    base = refl;
+    tip = refl;
+    maps = same;
+    queue = queue ∙ ap (λ (m : Maps). queue_of m.coins) same ∙ sym indexed.queue;
+    undos = same_undos;
+  }
 
 -- the tables were handed back as they were given
 pub unused_index : (c : Indexed) → IsIndexed c → (tables : Tables) (undos : Roomy Undo) → newest_first undos.items ≡ c.undos → tables ≡ c.tables → IsIndexed (index_of c.base c.tip tables undos)
@@ -92,26 +119,25 @@ module _ (base : Base) (tip : Tip) (hash : Hash32) (whole : Whole) (undos : Room
 
     pub connected_index : IsIndexed (index_of base (record { height = tip.height + 1; hash = hash }) c.tables more)
     connected_index = record {
-      height = omega (arith, staged.height);
       hash = sym (ap (newest_hash base) undo_added);
       queue = commits.queue;
       filled = commits.filled;
-      standing = subst (λ n. IsStanding base.profile (suc n) (suc n) (maps_by c.tables)) (next_is tip.height)
-          (subst (IsStanding base.profile (suc (suc tip.height)) (suc (suc tip.height))) (sym commits.maps) staged.after);
       sound = subst (λ us. IsSound base.profile base.height (tip.height + 1) (maps_by c.tables) us) (sym undo_added)
           (subst (λ n. IsSound base.profile base.height n (maps_by c.tables) (staged_undo hash whole ∷ newest_first undos.items)) (next_is tip.height)
           (subst (λ m. IsSound base.profile base.height (suc tip.height) m (staged_undo hash whole ∷ newest_first undos.items)) (sym commits.maps) staged.sound_after));
+      measured = subst AreMeasured (sym commits.maps) staged.measured_after;
+      writable = subst (AllByRecursion IsWritable) (sym undo_added) staged.writable;
     }
 
   pub abandoned_index : (tables : Tables) → maps_by tables ≡ maps_before_block whole → queued_in tables.queue ≡ queue_of (coins_in tables.coins) → AreFilled tables
       → IsIndexed (index_of base tip tables undos)
   abandoned_index tables before queue filled = record {
-    height = omega (arith, staged.height);
     hash = staged.tip_hash;
     queue = queue;
     filled = filled;
-    standing = subst (IsStanding base.profile (suc tip.height) (suc tip.height)) (sym before) staged.before;
     sound = subst (λ m. IsSound base.profile base.height tip.height m (newest_first undos.items)) (sym before) staged.sound_before;
+    measured = subst AreMeasured (sym before) staged.measured_before;
+    writable = staged.writable.1;
   }
 
 -- ---- the next block
@@ -124,15 +150,6 @@ twice_at profile height (Some (Named name made)) = by (is_expired profile made h
     by : (b : Bool) → is_expired profile made height ≡ b → unless_expired profile height (cond b None (Some (Named name made))) ≡ cond b None (Some (Named name made))
     by true is = refl
     by false is = ap (λ b. cond b None (Some (Named name made))) is
-
-was_there : (profile : Profile) (height : ℕ) (slot : Option Coin) (coin : Coin) → unless_expired profile height slot ≡ Some coin → slot ≡ Some coin
-was_there profile height None coin e = e
-was_there profile height (Some (New hash made)) coin e = e
-was_there profile height (Some (Named name made)) coin e = by (is_expired profile made height) e
-  where
-    by : (b : Bool) → cond b None (Some (Named name made)) ≡ Some coin → Some (Named name made) ≡ Some coin
-    by true f = absurd cc
-    by false f = f
 
 -- what stood at a height stands at the next without what is expired there
 pub standing_next : (profile : Profile) (height : ℕ) (maps : Maps) → IsStanding profile height (suc height) maps → IsStanding profile (suc height) (suc height) (without_expired profile (suc height) maps)
@@ -188,7 +205,7 @@ module _ (c : Indexed) (indexed : IsIndexed c) (low : c.tip.height < highest) (g
     none_empty = begins.empty;
     low = omega (arith, height_is, low);
     standing = subst (λ h. IsStanding c.base.profile h (suc h) (maps_by w.tables)) (sym height_is)
-        (subst (IsStanding c.base.profile (suc c.tip.height) (suc (suc c.tip.height))) (sym same_maps) (higher_next c.base.profile (suc c.tip.height) (maps_by c.tables) indexed.standing));
+        (subst (IsStanding c.base.profile (suc c.tip.height) (suc (suc c.tip.height))) (sym same_maps) (higher_next c.base.profile (suc c.tip.height) (maps_by c.tables) (state_standing c.base.profile c.tip.height (maps_by c.tables) (indexed_state c indexed))));
   }
 
   pub refused_by : (block : Block) (ts : List Transaction) → ts ≡ behind_coinbase block.transactions → (first : Option RefusedBy)
@@ -253,19 +270,24 @@ module _ (c : Indexed) (indexed : IsIndexed c) (low : c.tip.height < highest) (g
           (subst (λ m. IsSound c.base.profile c.base.height (suc c.tip.height) m (staged_undo hash whole ∷ c.undos)) (sym after_is)
           (block_sound c.base.profile c.base.height c.tip.height 1 ts maps (staged_undo hash whole) c.undos indexed.sound unrefused low few ops_are due_are finishes.sorted))
 
-      pub staged_index : count_outputs ts < 2 ^ 32 → IsStagedIndex (staged_of c.base c.tip hash whole undos)
-      staged_index few = record {
+      tip_low : suc c.tip.height < 2 ^ 32
+      tip_low = omega (arith, low)
+
+      pub staged_index : count_outputs ts < 2 ^ 32 → length hash.0 ≡ 32 → IsStagedIndex (staged_of c.base c.tip hash whole undos)
+      staged_index few hash_length = record {
         height = low;
         tip_hash = indexed.hash ∙ sym (ap (newest_hash c.base) same_undos);
         work_height = finishes.height ∙ done_height;
         whole = finishes.whole;
-        before = subst (IsStanding c.base.profile (suc c.tip.height) (suc c.tip.height)) (sym (finishes.before ∙ done_before)) indexed.standing;
-        after = subst (λ h. IsStanding c.base.profile (suc h) (suc h) (maps_by whole.work.tables)) done_height
-            (subst (IsStanding c.base.profile (suc done.height) (suc done.height)) (sym finishes.maps)
-            (standing_next c.base.profile done.height (maps_by done.tables) applied.ready.standing));
         sound_before = subst (λ us. IsSound c.base.profile c.base.height c.tip.height (maps_before_block whole) us) (sym same_undos)
             (subst (λ m. IsSound c.base.profile c.base.height c.tip.height m c.undos) (sym (finishes.before ∙ done_before)) indexed.sound);
         sound_after = grown few;
+        measured_before = subst AreMeasured (sym (finishes.before ∙ done_before)) indexed.measured;
+        measured_after = subst AreMeasured (sym after_is) (block_measured c.base.profile (suc c.tip.height) ts maps tip_low (few_each ts few) indexed.measured);
+        writable = (
+          block_writable c.base.profile (suc c.tip.height) ts maps (staged_undo hash whole) tip_low (few_each ts few) indexed.measured hash_length (grown few).1.limits ops_are due_are,
+          subst (AllByRecursion IsWritable) (sym same_undos) indexed.writable,
+        );
       }
 
       pub staged_well : (block : Block) → ts ≡ behind_coinbase block.transactions → hash.0 ≡ header_hash block.header → StagesWell c block (staged_of c.base c.tip hash whole undos)
@@ -297,26 +319,26 @@ stages c block (Refused chain (NotOnTip tip)) on low root names = absurd names.1
 stages c block (Refused chain HeightLimit) on low root names = absurd names.1
 stages c block (Refused chain (MerkleMismatch computed)) on low root names = absurd names.1
 stages c block (Refused chain (Rule index refusal)) on low root names = (names.0, (on, low, root, names.1))
-stages c block (Refused chain (NotTip tip)) on low root names = absurd names.1
-stages c block (Refused chain AtBase) on low root names = absurd names.1
+stages c block (Refused chain JournalFull) on low root names = absurd names.1
 stages c block (NoMemory chain) on low root names = (names, on, low)
+
+none_measured : AreMeasured (record { coins = coins_in []; names = names_in [] })
+none_measured = record { coins = λ point coin e. absurd cc; items = λ name. tt }
 
 pub begun_index : (base : Base) (c : Tables) → base.height ≤ highest → c.coins ≡ [] → c.names ≡ [] → c.queue ≡ []
     → (undos : Roomy Undo) → undos.items ≡ [] → IsIndexed (index_of base (record { height = base.height; hash = base.hash }) c undos)
 begun_index base c low coins names queue undos none = record {
-  height = low;
   hash = sym (ap (λ us. newest_hash base (newest_first us)) none);
   sound = subst (λ us. IsSound base.profile base.height base.height (maps_by c) (newest_first us)) (sym none)
-      (subst (λ m. IsSound base.profile base.height base.height m []) (sym (λ i. record { coins = coins_in (coins i); names = names_in (names i) })) (base_sound base.profile base.height low));
+      (subst (λ m. IsSound base.profile base.height base.height m []) (sym (λ i. record { coins = coins_in (coins i); names = names_in (names i) })) (base_sound base.profile [] base.height low (record { makes = tt; few = omega arith })));
   queue = ap queued_in queue ∙ sym (ap (λ s. queue_of (coins_in s)) coins);
   filled = record {
     coins = subst AreCoinsFilled (sym coins) (λ point. refl);
     names = subst AreNamesFilled (sym names) (λ name. refl);
     queue = subst IsQueueFilled (sym queue) (λ height point. refl);
   };
-  standing = subst (λ s. IsStanding base.profile (suc base.height) (suc base.height) (record { coins = coins_in s; names = names_in c.names })) (sym coins)
-      (subst (λ s. IsStanding base.profile (suc base.height) (suc base.height) (record { coins = coins_in []; names = names_in s })) (sym names)
-      (record { low_coins = λ point coin e. absurd cc; low_names = λ name. tt; live = refl }));
+  measured = subst AreMeasured (sym (λ i. record { coins = coins_in (coins i); names = names_in (names i) })) none_measured;
+  writable = subst (λ us. AllByRecursion IsWritable (newest_first us)) (sym none) tt;
 }
 
 pub begun_maps : (base : Base) (c : Tables) → c.coins ≡ [] → c.names ≡ [] → maps_by c ≡ maps_of base.profile [] (suc base.height)

@@ -2,9 +2,8 @@
 use Rattle.std.proofs.Common.{◌≡◌, ℕ, zero, suc, ◌+◌, ◌-◌, ◌≤◌, Bool, true, false, nat_lt, not, ◌&&◌, List, [], ◌∷◌, ◌++◌, map, length, refl, sym, ap, subst, ◌∙◌, arith}
 use Rattle.std.specs.Str.{bytes_eq}
 use Rattle.std.proofs.lemmas.List.{length-map, length-reverse}
-use Rattle.std.proofs.Math.Path.{fun_ext}
 use Rattle.std.proofs.lemmas.Bool.Decides.{nat_tests}
-use Rattle.std.specs.Prelude.{Option, Some, None, ◌||◌, slice_get}
+use Rattle.std.specs.Prelude.{Some, None, ◌||◌, slice_get}
 use Rattle.std.specs.List.{list_any, AllByRecursion}
 use Rattle.nmc_base.specs.Roomy.{Roomy}
 use Rattle.nmc_base.specs.Expiry.{expiry_depth}
@@ -13,13 +12,11 @@ use Rattle.nmc_base.specs.declared.chain_ends.Tip.{Tip}
 use Rattle.nmc_base.specs.declared.chain_ends.Profile.{Profile}
 use Rattle.nmc_base.specs.declared.hashes.Hash32.{Hash32}
 use Rattle.nmc_base.specs.declared.hashes.OutPoint.{OutPoint}
-use Rattle.chain_names.specs.declared.coin.Coin.{Coin}
-use Rattle.chain_names.specs.declared.coin.Coin.TheVariants.{New, Named}
 use Rattle.chain_names.specs.declared.coin.HeldCoin.{HeldCoin}
 use Rattle.chain_names.specs.declared.undo.UndoOp.{UndoOp}
 use Rattle.chain_names.specs.declared.undo.UndoOp.TheVariants.{New as undo_new, First as undo_first, Update as undo_update}
 use Rattle.chain_names.specs.Points.{same_point}
-use Rattle.chain_names.specs.Coins.{Maps, unless_expired}
+use Rattle.chain_names.specs.Coins.{Maps}
 use Rattle.chain_names.specs.Changes.{back_ops}
 use Rattle.chain_names.specs.Tables.{coins_in, queued_in, queue_of, is_named_at}
 use Rattle.chain_names.specs.Undo.{UndoRecord}
@@ -27,21 +24,22 @@ use Rattle.chain_names.proofs.Changed.{bytes_eq-self, bytes_eq-true, same_point-
 use Rattle.undo_laws.specs.Expired.{is_held_at}
 use Rattle.undo_laws.specs.Fits.{IsJustExpired, IsUndoable, AreUndoable, with_restored}
 use Rattle.undo_laws.specs.Sound.{IsSound}
-use Rattle.undo_laws.specs.State.{IsState, IsUpTo}
-use Rattle.undo_laws.proofs.Soundness.{sound_state}
 use Rattle.undo_laws.proofs.Allowing.{fit_allows, expired-row, expired-none}
 use Rattle.undo_records.specs.Seen.{seen_undo}
 use Rattle.undo_records.specs.declared.undo.Undo.{Undo}
-use Rattle.chain_state.specs.Tables.{maps_by, HoldSame, IsBelow, IsStanding, AreFilled}
+use Rattle.chain_state.specs.Tables.{maps_by, HoldSame, AreFilled}
 use Rattle.chain_state.specs.Work.{spends, spends_at, FitsOp, FitsOps, HasSpentPlace, HasSpentRow}
 use Rattle.chain_state.specs.Whole.{is_queued_at, IsWhole, maps_before_block}
 use Rattle.chain_state.specs.Expiring.{CanReturn}
 use Rattle.chain_state.specs.Clearing.{IsClearing}
 use Rattle.chain_state.specs.Placing.{IsPlaced}
 use Rattle.chain_state.specs.Chain.{Indexed, IsIndexed, SameIndex, index_of, newest_first, newest_hash}
+use Rattle.undo_records.specs.Writable.{IsWritable}
+use Rattle.chain_state.specs.Measure.{AreMeasured}
+use Rattle.chain_state.proofs.MeasureLemmas.{undone_measured}
 use Rattle.chain_state.specs.Back.{block_work, IsStagedBack}
 use Rattle.chain_state.specs.StageBack.{IsBackRefusal, IsDisconnected, back_commit_steps}
-use Rattle.chain_state.specs.declared.stage.Refusal.TheVariants.{NotTip}
+use Rattle.chain_state.specs.declared.back.BackRefusal.TheVariants.{NotTip}
 use Rattle.chain_state.specs.declared.tables.Tables.{Tables}
 use Rattle.chain_state.proofs.Working.{all-weaker, or_left, or_right, or_both}
 use Rattle.chain_state.proofs.Chains.{newest_more, returned_index}
@@ -89,7 +87,7 @@ newest_none undos none = sym (length-map undos seen_undo) ∙ sym (length-revers
 pub not_the_tip : (c : Indexed) (undos : List Undo) (hash : Hash32) → c.undos ≡ newest_first undos → (length undos ≡ 0 → ⊥) → true ≡ not (bytes_eq hash.0 c.tip.hash.0)
     → SameIndex c c × IsBackRefusal c hash (NotTip c.tip.hash)
 not_the_tip c undos hash undos_are some differs = (
-  record { base = refl; tip = refl; maps = refl; undos = refl },
+  record { base = refl; tip = refl; maps = refl; queue = refl; undos = refl },
   (
     (λ none. some (newest_none undos (sym undos_are ∙ none))),
     (λ same. let bad : true ≡ false = differs ∙ ap (λ (h : Hash32). not (bytes_eq h.0 c.tip.hash.0)) same ∙ ap not (bytes_eq-self c.tip.hash.0) in cc),
@@ -103,20 +101,6 @@ is_the_tip a b same = let bytes : a.0 ≡ b.0 = bytes_eq-true a.0 b.0 (equal _ s
     equal : (x : Bool) → false ≡ not x → x ≡ true
     equal true e = refl
     equal false e = e
-
--- ---- a state stands for the next block
-
-live_coin : (profile : Profile) (tip : ℕ) (maps : Maps) (state : IsState profile tip maps) (point : OutPoint) (coin : Option Coin) → maps.coins point ≡ coin → unless_expired profile (suc tip) coin ≡ coin
-live_coin profile tip maps state point None is = refl
-live_coin profile tip maps state point (Some (New hash made)) is = refl
-live_coin profile tip maps state point (Some (Named name made)) is = rw (state.named_coins point name made is).live refl
-
-pub state_standing : (profile : Profile) (tip : ℕ) (maps : Maps) → IsState profile tip maps → IsStanding profile (suc tip) (suc tip) maps
-state_standing profile tip maps state = record {
-  low_coins = λ point coin e. omega (arith, state.coin_heights point coin e);
-  low_names = λ name. all-weaker (IsUpTo tip) (IsBelow (suc tip)) (maps.names name) (λ item low. omega (arith, low)) (state.item_heights name);
-  live = fun_ext (λ point. live_coin profile tip maps state point (maps.coins point) refl);
-}
 
 -- ---- what fits can be undone
 
@@ -196,10 +180,10 @@ module _ (c : Indexed) (indexed : IsIndexed c) (undo : UndoRecord) (below : List
     whole = λ ops expired ops_are expired_are.
         subst (λ es. IsWhole (block_work tables ops (record { items = es; spare = expired.spare }) empty c.tip.height)) (sym expired_are)
         (subst (λ os. IsWhole (block_work tables (record { items = os; spare = ops.spare }) (record { items = undo.expired; spare = expired.spare }) empty c.tip.height)) (sym ops_are) (work_back ops expired));
-    height = indexed.height;
     hash = indexed.hash ∙ ap (newest_hash c.base) undos_are;
-    standing = subst (IsStanding profile (suc c.tip.height) (suc c.tip.height)) (sym maps_same) indexed.standing;
     sound = subst (λ m. IsSound profile c.base.height c.tip.height m (undo ∷ below)) (sym maps_same) sound_here;
+    measured = subst AreMeasured (sym maps_same) indexed.measured;
+    writable = subst (AllByRecursion IsWritable) undos_are indexed.writable;
   }
 
 -- the tables hold the same as those that were given
@@ -213,7 +197,7 @@ stage_again c indexed given given_is tables undos same_undos same filled =
 pub same_again : (c : Indexed) (given : Tables) → given ≡ c.tables → (tables : Tables) (undos : Roomy Undo) → newest_first undos.items ≡ c.undos → HoldSame given tables → SameIndex (index_of c.base c.tip tables undos) c
 same_again c given given_is tables undos same_undos same =
     let held : HoldSame c.tables tables = subst (λ (t : Tables). HoldSame t tables) given_is same in
-    record { base = refl; tip = refl; maps = λ i. record { coins = held.coins i; names = held.names i }; undos = same_undos }
+    record { base = refl; tip = refl; maps = λ i. record { coins = held.coins i; names = held.names i }; queue = held.queue; undos = same_undos }
 
 -- ---- the disconnect is committed, or abandoned
 
@@ -257,18 +241,21 @@ module _ (base : Base) (tip : Tip) (tables : Tables) (undos : Roomy Undo) (empty
           (subst (λ n. IsSound base.profile base.height n (maps_by after) (newest_first front)) (sym height_is)
           (subst (λ m. IsSound base.profile base.height sound_was.0 m (newest_first front)) (sym maps) sound_was.2))
 
+      writable_was : AllByRecursion IsWritable (seen_undo undo ∷ newest_first front)
+      writable_was = subst (AllByRecursion IsWritable) (sym newest_was) staged.writable
+
       pub disconnected_index : queued_in after.queue ≡ queue_of (coins_in after.coins) → AreFilled after → IsIndexed (index_of base shorter after rest)
       disconnected_index queue filled = record {
-        height = omega (arith, staged.height);
         hash = hash_is;
         queue = queue;
         filled = filled;
-        standing = state_standing base.profile (tip.height - 1) (maps_by after) (sound_state base.profile base.height (tip.height - 1) (maps_by after) (newest_first rest.items) sound_now);
         sound = sound_now;
+        measured = subst AreMeasured (sym maps) (undone_measured (seen_undo undo) (maps_by tables) writable_was.0 staged.measured);
+        writable = subst (λ us. AllByRecursion IsWritable (newest_first us)) (sym rest_is) writable_was.1;
       }
 
-      pub disconnected : IsDisconnected (index_of base tip tables undos) (index_of base shorter after rest)
-      disconnected = record {
+      pub disconnected : queued_in after.queue ≡ queue_of (coins_in after.coins) → IsDisconnected (index_of base tip tables undos) (index_of base shorter after rest)
+      disconnected queue = record {
         undo = seen_undo undo;
         below = newest_first front;
         undos_were = ap newest_first undos_were ∙ newest_more front undo;
@@ -277,6 +264,7 @@ module _ (base : Base) (tip : Tip) (tables : Tables) (undos : Roomy Undo) (empty
         height = omega (arith, sound_was.1.above);
         hash = hash_is ∙ ap (λ us. newest_hash base (newest_first us)) rest_is;
         maps = maps;
+        queue = queue;
       }
 
     pub steps_are : back_commit_steps (newest_first undos.items) ≡ back_commit_steps (seen_undo undo ∷ newest_first front)
@@ -284,11 +272,11 @@ module _ (base : Base) (tip : Tip) (tables : Tables) (undos : Roomy Undo) (empty
 
   pub abandoned_back : (after : Tables) → maps_by after ≡ maps_by tables → queued_in after.queue ≡ queue_of (coins_in after.coins) → AreFilled after → IsIndexed (index_of base tip after undos)
   abandoned_back after same queue filled = record {
-    height = staged.height;
     hash = staged.hash ∙ ap (newest_hash base) (sym staged.undos_are);
     queue = queue;
     filled = filled;
-    standing = subst (IsStanding base.profile (suc tip.height) (suc tip.height)) (sym same) staged.standing;
     sound = subst (IsSound base.profile base.height tip.height (maps_by after)) (sym staged.undos_are)
         (subst (λ m. IsSound base.profile base.height tip.height m (staged.undo ∷ staged.below)) (sym same) staged.sound);
+    measured = subst AreMeasured (sym same) staged.measured;
+    writable = subst (AllByRecursion IsWritable) (sym staged.undos_are) staged.writable;
   }

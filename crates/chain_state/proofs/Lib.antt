@@ -16,5 +16,6 @@ pub mod Restoring
 pub mod Wholes
 pub mod Clear
 pub mod Places
+pub mod MeasureLemmas
 pub mod Chains
 pub mod Disconnecting

@@ -1,5 +1,6 @@
 -- Disconnecting the newest block of a chain.
-use Rattle.std.specs.Prelude.{◌≡◌, ℕ, suc, ◌≤◌, List, ◌∷◌}
+use Rattle.std.specs.Prelude.{◌≡◌, ℕ, List, ◌∷◌}
+use Rattle.std.specs.List.{AllByRecursion}
 use Rattle.nmc_base.specs.Roomy.{Roomy}
 use Rattle.nmc_base.specs.declared.chain_ends.Base.{Base}
 use Rattle.nmc_base.specs.declared.chain_ends.Tip.{Tip}
@@ -9,9 +10,10 @@ use Rattle.chain_names.specs.declared.undo.UndoOp.{UndoOp}
 use Rattle.chain_names.specs.Undo.{UndoRecord}
 use Rattle.undo_laws.specs.Sound.{IsSound}
 use Rattle.undo_records.specs.declared.undo.Undo.{Undo}
-use Rattle.chain_state.specs.Tables.{maps_by, IsStanding}
+use Rattle.undo_records.specs.Writable.{IsWritable}
+use Rattle.chain_state.specs.Measure.{AreMeasured}
+use Rattle.chain_state.specs.Tables.{maps_by}
 use Rattle.chain_state.specs.Whole.{IsWhole}
-use Rattle.nmc_base.specs.Heights.{highest}
 use Rattle.chain_state.specs.Chain.{index_of, newest_hash}
 use Rattle.chain_state.specs.declared.tables.Tables.{Tables}
 use Rattle.chain_state.specs.declared.whole.Whole.{Whole}
@@ -27,7 +29,7 @@ pub record IsStagedBack (base : Base) (tip : Tip) (tables : Tables) (undos : Roo
   pub undos_are : (index_of base tip tables undos).undos ≡ undo ∷ below
   pub whole : (ops : Roomy UndoOp) (expired : Roomy HeldCoin) → ops.items ≡ undo.ops → expired.items ≡ undo.expired
       → IsWhole (block_work tables ops expired empty tip.height)
-  pub height : tip.height ≤ highest
   pub hash : tip.hash ≡ newest_hash base (undo ∷ below)
-  pub standing : IsStanding base.profile (suc tip.height) (suc tip.height) (maps_by tables)
   pub sound : IsSound base.profile base.height tip.height (maps_by tables) (undo ∷ below)
+  pub measured : AreMeasured (maps_by tables)
+  pub writable : AllByRecursion IsWritable (undo ∷ below)

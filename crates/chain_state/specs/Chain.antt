@@ -1,5 +1,5 @@
 -- The index of a chain: its base and tip, what its tables say, and what undoes its blocks.
-use Rattle.std.specs.Prelude.{◌≡◌, ℕ, suc, ◌<◌, ◌≤◌, List, [], ◌∷◌, map, reverse, Option, None}
+use Rattle.std.specs.Prelude.{◌≡◌, suc, ◌<◌, ◌≤◌, List, [], ◌∷◌, map, reverse, Option, None}
 use Rattle.block_grammar.specs.Block.{Block}
 use Rattle.block_grammar.specs.Merkle.{block_root}
 use Rattle.block_grammar.specs.Header.{header_hash}
@@ -13,12 +13,15 @@ use Rattle.chain_names.specs.Log.{behind_coinbase}
 use Rattle.chain_names.specs.Changes.{Refused, first_refused, after_all, after_block, undo_ops}
 use Rattle.chain_names.specs.Tables.{coins_in, queued_in, queue_of}
 use Rattle.chain_names.specs.Undo.{UndoRecord}
+use Rattle.std.specs.List.{AllByRecursion}
 use Rattle.undo_laws.specs.Expired.{IsDue, IsSortedByPoint}
 use Rattle.undo_laws.specs.Sound.{IsSound}
 use Rattle.undo_records.specs.Seen.{seen_undo}
 use Rattle.undo_records.specs.declared.parts.Parts.{Parts}
 use Rattle.undo_records.specs.declared.undo.Undo.{Undo}
-use Rattle.chain_state.specs.Tables.{maps_by, IsStanding, AreFilled}
+use Rattle.undo_records.specs.Writable.{IsWritable}
+use Rattle.chain_state.specs.Measure.{AreMeasured}
+use Rattle.chain_state.specs.Tables.{maps_by, AreFilled}
 use Rattle.chain_state.specs.Whole.{IsWhole, maps_before_block}
 use Rattle.chain_state.specs.declared.tables.Tables.{Tables}
 use Rattle.chain_state.specs.declared.whole.Whole.{Whole}
@@ -53,28 +56,32 @@ abbrev pub newest_hash : Base → List UndoRecord → Hash32
 newest_hash base [] = base.hash
 newest_hash base (undo ∷ undos) = undo.block
 
--- The tables stand for the next block, each place holds something, and what undoes the blocks fits, down to the base.
+-- A sound index: the tip is that of its newest record, the queue is that of the coins, each place holds something, coins,
+-- histories and records are sound with the base, and each record can be written.
 pub record IsIndexed (c : Indexed) : Type 0 where
-  pub height : c.tip.height ≤ highest
   pub hash : c.tip.hash ≡ newest_hash c.base c.undos
   pub queue : queued_in c.tables.queue ≡ queue_of (coins_in c.tables.coins)
   pub filled : AreFilled c.tables
-  pub standing : IsStanding c.base.profile (suc c.tip.height) (suc c.tip.height) (maps_by c.tables)
   pub sound : IsSound c.base.profile c.base.height c.tip.height (maps_by c.tables) c.undos
+  pub measured : AreMeasured (maps_by c.tables)
+  pub writable : AllByRecursion IsWritable c.undos
 
--- the same index: base, tip, maps, and what undoes the blocks
+-- the same index: base, tip, the maps of coins, names and queue, and what undoes the blocks
 pub record SameIndex (a b : Indexed) : Type 0 where
   pub base : a.base ≡ b.base
   pub tip : a.tip ≡ b.tip
   pub maps : maps_by a.tables ≡ maps_by b.tables
+  pub queue : queued_in a.tables.queue ≡ queued_in b.tables.queue
   pub undos : a.undos ≡ b.undos
 
--- the index of a base alone
+-- the index of a base alone, without coins and names
 pub record IsAtBase (base : Base) (c : Indexed) : Type 0 where
+  pub low : base.height ≤ highest
   pub base_is : c.base ≡ base
   pub height : c.tip.height ≡ base.height
   pub hash : c.tip.hash ≡ base.hash
   pub maps : maps_by c.tables ≡ maps_of base.profile [] (suc base.height)
+  pub queue : queued_in c.tables.queue ≡ queue_of (coins_in c.tables.coins)
   pub undos : c.undos ≡ []
 
 -- ---- a block that is staged
@@ -99,10 +106,11 @@ pub record IsStagedIndex (s : StagedIndex) : Type 0 where
   pub tip_hash : s.tip.hash ≡ newest_hash s.base s.undos
   pub work_height : s.whole.work.height ≡ suc s.tip.height
   pub whole : IsWhole s.whole
-  pub before : IsStanding s.base.profile (suc s.tip.height) (suc s.tip.height) (maps_before_block s.whole)
-  pub after : IsStanding s.base.profile (suc (suc s.tip.height)) (suc (suc s.tip.height)) (maps_by s.whole.work.tables)
   pub sound_before : IsSound s.base.profile s.base.height s.tip.height (maps_before_block s.whole) s.undos
   pub sound_after : IsSound s.base.profile s.base.height (suc s.tip.height) (maps_by s.whole.work.tables) (staged_undo s.hash s.whole ∷ s.undos)
+  pub measured_before : AreMeasured (maps_before_block s.whole)
+  pub measured_after : AreMeasured (maps_by s.whole.work.tables)
+  pub writable : AllByRecursion IsWritable (staged_undo s.hash s.whole ∷ s.undos)
 
 -- ---- what staging a block answers
 
@@ -134,6 +142,7 @@ pub record IsConnected (s : StagedIndex) (c : Indexed) : Type 0 where
   pub height : c.tip.height ≡ suc s.tip.height
   pub hash : c.tip.hash ≡ s.hash
   pub maps : maps_by c.tables ≡ maps_by s.whole.work.tables
+  pub queue : queued_in c.tables.queue ≡ queue_of (coins_in c.tables.coins)
   pub undos : c.undos ≡ staged_undo s.hash s.whole ∷ s.undos
 
 -- the chain without it
@@ -141,4 +150,5 @@ pub record IsAbandoned (s : StagedIndex) (c : Indexed) : Type 0 where
   pub base : c.base ≡ s.base
   pub tip : c.tip ≡ s.tip
   pub maps : maps_by c.tables ≡ maps_before_block s.whole
+  pub queue : queued_in c.tables.queue ≡ queue_of (coins_in c.tables.coins)
   pub undos : c.undos ≡ s.undos

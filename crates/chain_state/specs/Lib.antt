@@ -5,6 +5,7 @@ pub mod Block
 pub mod Expiring
 pub mod Whole
 pub mod Clearing
+pub mod Measure
 pub mod Chain
 pub mod Stage
 pub mod Placing

@@ -8,7 +8,7 @@ use Rattle.chain_state.specs.Cost.{touched_by}
 use Rattle.chain_state.specs.declared.tables.Tables.{Tables}
 use Rattle.chain_state.specs.declared.work.Work.{Work}
 use Rattle.chain_state.specs.declared.stage.Refusal.{Refusal}
-use Rattle.chain_state.specs.declared.stage.Refusal.TheVariants.{BadBlock, NotOnTip, HeightLimit, MerkleMismatch, Rule, NotTip, AtBase}
+use Rattle.chain_state.specs.declared.stage.Refusal.TheVariants.{BadBlock, NotOnTip, HeightLimit, MerkleMismatch, Rule, JournalFull}
 use Rattle.chain_state.specs.declared.stage.StageOutcome.{StageOutcome}
 use Rattle.chain_state.specs.declared.stage.StageOutcome.TheVariants.{Staged, Refused, NoMemory}
 
@@ -34,6 +34,7 @@ IsCheap block (Staged s) before after = after + commit_steps s ≤ before + 8 * 
 IsCheap block (Refused c refusal) before after = Unit {0}
 IsCheap block (NoMemory c) before after = Unit {0}
 
+-- The first condition that holds. Bytes that are no block and a full journal are refused by the layers above.
 abbrev pub IsRefusal : Indexed → Block → Refusal → Type 0
 IsRefusal c block (BadBlock at) = ⊥
 IsRefusal c block (NotOnTip tip) = (block.header.fields.previous ≢ c.tip.hash.0) × (tip ≡ c.tip.hash)
@@ -42,8 +43,7 @@ IsRefusal c block (MerkleMismatch computed) =
     (block.header.fields.previous ≡ c.tip.hash.0) × (c.tip.height < highest) × (block.header.fields.root ≢ computed.0) × (computed.0 ≡ block_root block)
 IsRefusal c block (Rule index refusal) =
     (block.header.fields.previous ≡ c.tip.hash.0) × (c.tip.height < highest) × (block.header.fields.root ≡ block_root block) × (rule_refused c block ≡ Some (index, refusal))
-IsRefusal c block (NotTip tip) = ⊥
-IsRefusal c block AtBase = ⊥
+IsRefusal c block JournalFull = ⊥
 
 abbrev pub IsNamesRefusal : Indexed → Block → Refusal → Type 0
 IsNamesRefusal c block (BadBlock at) = ⊥
@@ -51,8 +51,7 @@ IsNamesRefusal c block (NotOnTip tip) = ⊥
 IsNamesRefusal c block HeightLimit = ⊥
 IsNamesRefusal c block (MerkleMismatch computed) = ⊥
 IsNamesRefusal c block (Rule index refusal) = rule_refused c block ≡ Some (index, refusal)
-IsNamesRefusal c block (NotTip tip) = ⊥
-IsNamesRefusal c block AtBase = ⊥
+IsNamesRefusal c block JournalFull = ⊥
 
 abbrev pub StagesNames : Indexed → Block → StageOutcome → Type 0
 StagesNames old block (Staged s) = StagesWell old block s

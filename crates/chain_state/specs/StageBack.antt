@@ -2,27 +2,26 @@
 use Rattle.std.specs.Prelude.{◌≡◌, ◌≢◌, ℕ, suc, ◌+◌, ◌*◌, ◌≤◌, List, [], ◌∷◌, length}
 use Rattle.nmc_base.specs.declared.hashes.Hash32.{Hash32}
 use Rattle.chain_names.specs.Changes.{undone}
+use Rattle.chain_names.specs.Tables.{coins_in, queued_in, queue_of}
 use Rattle.chain_names.specs.Undo.{UndoRecord}
 use Rattle.chain_state.specs.Tables.{maps_by}
 use Rattle.chain_state.specs.Chain.{Indexed, SameIndex, newest_hash}
-use Rattle.chain_state.specs.declared.stage.Refusal.{Refusal}
-use Rattle.chain_state.specs.declared.stage.Refusal.TheVariants.{BadBlock, NotOnTip, HeightLimit, MerkleMismatch, Rule, NotTip, AtBase}
+use Rattle.chain_state.specs.declared.back.BackRefusal.{BackRefusal}
+use Rattle.chain_state.specs.declared.back.BackRefusal.TheVariants.{AtBase, NotTip, JournalFull}
 use Rattle.chain_state.specs.declared.back.BackOutcome.{BackOutcome}
 use Rattle.chain_state.specs.declared.back.BackOutcome.TheVariants.{StagedBack, Refused, NoMemory}
 
--- the disconnect is staged
+-- the disconnect is staged: the hash is the tip's, and the tip is above the base
 pub record IsStagedBackOn (c : Indexed) (hash : Hash32) (s : Indexed) : Type 0 where
+  pub above : c.undos ≢ []
   pub hash_is : hash ≡ c.tip.hash
   pub same : SameIndex s c
 
-abbrev pub IsBackRefusal : Indexed → Hash32 → Refusal → Type 0
-IsBackRefusal c hash (BadBlock at) = ⊥
-IsBackRefusal c hash (NotOnTip tip) = ⊥
-IsBackRefusal c hash HeightLimit = ⊥
-IsBackRefusal c hash (MerkleMismatch computed) = ⊥
-IsBackRefusal c hash (Rule index refusal) = ⊥
+-- The first condition that holds. A full journal is refused by the layers above.
+abbrev pub IsBackRefusal : Indexed → Hash32 → BackRefusal → Type 0
 IsBackRefusal c hash AtBase = c.undos ≡ []
 IsBackRefusal c hash (NotTip tip) = (c.undos ≢ []) × (hash ≢ c.tip.hash) × (tip ≡ c.tip.hash)
+IsBackRefusal c hash JournalFull = ⊥
 
 -- the disconnect is staged, or refused by the first condition that holds, or memory ran out, for which none holds
 abbrev pub StagesBack : Indexed → Hash32 → BackOutcome → Type 0
@@ -40,6 +39,7 @@ pub record IsDisconnected (s c : Indexed) : Type 0 where
   pub height : s.tip.height ≡ suc c.tip.height
   pub hash : c.tip.hash ≡ newest_hash s.base below
   pub maps : maps_by c.tables ≡ undone undo.ops undo.expired (maps_by s.tables)
+  pub queue : queued_in c.tables.queue ≡ queue_of (coins_in c.tables.coins)
 
 -- ---- steps
 

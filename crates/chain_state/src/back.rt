@@ -4,7 +4,7 @@ ghost use Rattle.chain_state.specs.Chain.{SameIndex};
 ghost use Rattle.chain_state.specs.Chain as index;
 
 use crate::chain::Chain;
-use crate::stage::{Refusal, split};
+use crate::stage::split;
 use crate::tables::Tables;
 use crate::whole::Whole;
 use crate::work::Work;
@@ -38,11 +38,22 @@ impl Model for StagedBack {
     ghost invariant = { λ s. IsStagedBack s.base s.tip s.tables s.undos s.empty };
 }
 
+/// Why the newest block isn't disconnected.
+#[derive(Clone, Copy, PartialEq, Eq, Debug)]
+pub enum BackRefusal {
+    /// The chain has no block on its base.
+    AtBase,
+    /// The hash is another than the tip's, which is told.
+    NotTip { tip: Hash32 },
+    /// The journal has no room for the disconnect's record. An index without a journal has not this refusal.
+    JournalFull,
+}
+
 /// What came of staging a disconnect. A chain that is handed back is the one that was given.
 #[derive(Drop)]
 pub enum BackOutcome {
     StagedBack(StagedBack),
-    Refused(Chain, Refusal),
+    Refused(Chain, BackRefusal),
     NoMemory(Chain),
 }
 
@@ -71,11 +82,11 @@ impl Chain {
         ensures cost { IsBackCheap self result steps.old steps.new }
     {
         if self.parts.undos.len() == 0 {
-            return BackOutcome::Refused(self, Refusal::AtBase);
+            return BackOutcome::Refused(self, BackRefusal::AtBase);
         }
         if hash != self.tip.hash {
             let tip = self.tip.hash;
-            return BackOutcome::Refused(self, Refusal::NotTip { tip });
+            return BackOutcome::Refused(self, BackRefusal::NotTip { tip });
         }
         let Chain { base, tip, parts } = self;
         let (tables, undos) = split(parts);

@@ -1,4 +1,5 @@
 ghost use Rattle.std.specs.Prelude.{◌≡◌, ◌+◌, ◌≤◌, IfOk};
+ghost use Rattle.nmc_base.specs.declared.limits.TheConstants.{HIGHEST_HEIGHT};
 ghost use Rattle.chain_state.specs.Tables.{AreFilled};
 ghost use Rattle.chain_state.specs.Chain.{IsAtBase, IsIndexed, IsConnected, IsAbandoned, ArePartsOf, index_of, tables_of};
 ghost use Rattle.chain_state.specs.Stage.{commit_steps};
@@ -57,7 +58,7 @@ impl Model for StagedChain {
 impl Chain {
     /// The chain of a base alone, with no coin and no name.
     pub fn at_base(alloc: Global, base: Base) -> Result<Chain, NoMemory>
-        requires { base.height ≤ 2000000000 }
+        requires { base.height ≤ HIGHEST_HEIGHT }
         ensures { IfOk result (λ chain. IsAtBase base chain) }
     {
         let tables = Tables {
@@ -105,6 +106,8 @@ impl Chain {
     pub fn parts(&self) -> &Parts
         ensures parts { ArePartsOf self.now result.now }
         ensures filled { AreFilled (tables_of result.now) }
+        // They are sound with the base, the queue is that of the coins, and each undo record can be written.
+        ensures sound { IsIndexed self.now }
     {
         &self.parts
     }

@@ -14,7 +14,7 @@ mod view;
 mod whole;
 mod work;
 
-pub use back::{BackOutcome, StagedBack};
+pub use back::{BackOutcome, BackRefusal, StagedBack};
 pub use chain::{Chain, StagedChain};
 pub use stage::{Refusal, StageOutcome};
 pub use tables::Tables;

@@ -1,4 +1,5 @@
 ghost use Rattle.std.specs.Prelude.{◌≡◌, ◌<◌, ◌^◌, length, IfOk, IfErr, IsOk};
+ghost use Rattle.nmc_base.specs.declared.limits.TheConstants.{HIGHEST_HEIGHT};
 ghost use Rattle.chain_names.specs.Log.{behind_coinbase};
 ghost use Rattle.undo_laws.specs.Sound.{count_outputs};
 ghost use Rattle.chain_state.specs.Chain.{tables_of};
@@ -10,18 +11,15 @@ use crate::tables::Tables;
 use crate::work::Work;
 use block_reader::{Block, merkle_root};
 use name_rules::RuleRefusal;
-use nmc_base::{Hash32, RoomyList, Steps};
+use nmc_base::{HIGHEST_HEIGHT, Hash32, RoomyList, Steps};
 use std::alloc::Global;
 use std::sync::ledger::Ledger;
 use undo_records::{Parts, Undo};
 
-/// No chain is higher.
-const HIGHEST: u32 = 2_000_000_000;
-
-/// Why a block, or the disconnect of one, isn't staged.
+/// Why a block isn't connected.
 #[derive(Clone, Copy, PartialEq, Eq, Debug)]
 pub enum Refusal {
-    /// Its bytes are no block: at this place no block can go on so. A block that was read has not this refusal.
+    /// Its bytes are no block: at this offset no block can go on so. A block that was read has not this refusal.
     BadBlock { at: u32 },
     /// Its previous hash isn't the tip's.
     NotOnTip { tip: Hash32 },
@@ -31,10 +29,8 @@ pub enum Refusal {
     MerkleMismatch { computed: Hash32 },
     /// The transaction with this index breaks a rule on names. The coinbase has the index 0.
     Rule { tx: u32, refusal: RuleRefusal },
-    /// A disconnect names another block than the tip, whose hash is told.
-    NotTip { tip: Hash32 },
-    /// A disconnect where the chain has no block on its base.
-    AtBase,
+    /// The journal has no room for the block's record. An index without a journal has not this refusal.
+    JournalFull,
 }
 
 /// What came of staging a block. A chain that is handed back is the one that was given.
@@ -103,7 +99,7 @@ impl Chain {
         block: &Block<'_>,
         steps: &mut Steps<L>,
     ) -> StageOutcome
-        requires low { self.tip.height < 2000000000 }
+        requires low { self.tip.height < HIGHEST_HEIGHT }
         requires outputs { count_outputs (behind_coinbase block.now.transactions) < 2 ^ 32 }
         requires count { length block.now.transactions < 4294967296 }
         ensures names { StagesNames self block.now result }
@@ -167,7 +163,7 @@ impl Chain {
             let tip = self.tip.hash;
             return StageOutcome::Refused(self, Refusal::NotOnTip { tip });
         }
-        if self.tip.height >= HIGHEST {
+        if self.tip.height >= HIGHEST_HEIGHT {
             return StageOutcome::Refused(self, Refusal::HeightLimit);
         }
         let computed = match merkle_root(alloc, block) {

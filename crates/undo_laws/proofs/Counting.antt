@@ -146,7 +146,7 @@ few_after profile below ts maps few low short row = by (row == suc below) refl
           (all_names profile (suc below) row ts maps point named);
     }
 
-named_left : (profile : Profile) (height row : ℕ) (coin : Option Coin) → is_named_at row (unless_expired profile height coin) ≡ true → is_named_at row coin ≡ true
+pub named_left : (profile : Profile) (height row : ℕ) (coin : Option Coin) → is_named_at row (unless_expired profile height coin) ≡ true → is_named_at row coin ≡ true
 named_left profile height row None e = e
 named_left profile height row (Some (New hash made)) e = e
 named_left profile height row (Some (Named name made)) e = by (is_expired profile made height) e

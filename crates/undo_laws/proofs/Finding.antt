@@ -12,7 +12,7 @@ use Rattle.chain_names.specs.Points.{same_point}
 use Rattle.chain_names.specs.Coins.{Maps, unless_expired}
 use Rattle.chain_names.specs.Changes.{after_all, undo_ops}
 use Rattle.chain_names.specs.Index.{next_height, index_maps}
-use Rattle.chain_names.specs.Log.{behind_coinbase, transactions_in}
+use Rattle.chain_names.specs.Log.{Log, behind_coinbase, transactions_in}
 use Rattle.chain_names.specs.Undo.{UndoRecord}
 use Rattle.chain_names.proofs.Due.{unless_expired-row, unless_expired-none}
 use Rattle.chain_names.proofs.Shown.{true_is_not_false}
@@ -28,6 +28,7 @@ use Rattle.undo_laws.proofs.Fitting.{standing_live}
 use Rattle.undo_laws.proofs.Writing.{row_gone}
 use Rattle.undo_laws.proofs.Soundness.{sound_state}
 use Rattle.undo_laws.proofs.Beginning.{undo_by_maps, index_sound}
+use Rattle.undo_laws.proofs.Lengths.{accepted_few}
 
 -- ---- the coins of listed outpoints that are gone
 
@@ -118,35 +119,35 @@ due_points profile height after stands few = by (nat_lt (suc height) (expiry_dep
           (ap (unless_expired profile height) held ∙ standing_live profile height after point coin stands held ∙ sym held)) ∙ gone));
     }
 
-record HasUndo (profile : Profile) (base : ℕ) (block : List ℕ) (blocks : List (List ℕ)) : Type 0 where
+record HasUndo (profile : Profile) (start : Log) (base : ℕ) (block : List ℕ) (blocks : List (List ℕ)) : Type 0 where
   undo : UndoRecord
-  is_undo : IsUndoOf profile base block blocks undo
+  is_undo : IsUndoOf profile start base block blocks undo
 
-block_has_undo : (profile : Profile) (base : ℕ) (block : List ℕ) (blocks : List (List ℕ)) (us : List UndoRecord) → IsAccepted profile base block blocks
-    → AreAccepted profile base blocks → AreUndos profile base blocks us → HasUndo profile base block blocks
-block_has_undo profile base block blocks us accepted below undos =
+block_has_undo : (profile : Profile) (start : Log) (base : ℕ) (block : List ℕ) (blocks : List (List ℕ)) (us : List UndoRecord) → IsAccepted profile start base block blocks
+    → AreAccepted profile start base blocks → AreUndos profile start base blocks us → HasUndo profile start base block blocks
+block_has_undo profile start base block blocks us accepted below undos =
     let height = next_height base blocks in
     let ts = behind_coinbase (transactions_in block) in
-    let before = index_maps profile base blocks in
-    let state = sound_state profile base _ before us (index_sound profile base blocks us below undos) in
+    let before = index_maps profile start base blocks in
+    let state = sound_state profile base _ before us (index_sound profile start base blocks us below undos) in
     let after = after_all profile height ts before in
     let next = λ (point : OutPoint). unless_expired profile (suc height) (after.coins point) in
-    let listed = due_points profile height after (transactions_stand profile _ ts before state) (transactions_few profile _ ts before state accepted.few_outputs) in
+    let listed = due_points profile height after (transactions_stand profile _ ts before state) (transactions_few profile _ ts before state (accepted_few profile start base block blocks accepted)) in
     let all = found after.coins next listed.points in
     let u : UndoRecord = record { block = record { 0 = hash_in block }; ops = undo_ops profile height ts before; expired = all.helds } in
     record {
       undo = u;
-      is_undo = undo_by_maps profile base block blocks accepted.unrefused u refl refl
+      is_undo = undo_by_maps profile start base block blocks accepted.unrefused u refl refl
           (record { each = all.each; all = λ point coin held gone. all.all point coin held gone (listed.all point coin held gone) }) all.sorted;
     }
 
-pub record HasUndos (profile : Profile) (base : ℕ) (blocks : List (List ℕ)) : Type 0 where
+pub record HasUndos (profile : Profile) (start : Log) (base : ℕ) (blocks : List (List ℕ)) : Type 0 where
   pub undos : List UndoRecord
-  pub are_undos : AreUndos profile base blocks undos
+  pub are_undos : AreUndos profile start base blocks undos
 
-pub chain_has_undos : (profile : Profile) (base : ℕ) (blocks : List (List ℕ)) → AreAccepted profile base blocks → HasUndos profile base blocks
-chain_has_undos profile base [] accepted = record { undos = []; are_undos = tt }
-chain_has_undos profile base (block ∷ blocks) accepted =
-    let below = chain_has_undos profile base blocks accepted.1 in
-    let top = block_has_undo profile base block blocks below.undos accepted.0 accepted.1 below.are_undos in
+pub chain_has_undos : (profile : Profile) (start : Log) (base : ℕ) (blocks : List (List ℕ)) → AreAccepted profile start base blocks → HasUndos profile start base blocks
+chain_has_undos profile start base [] accepted = record { undos = []; are_undos = tt }
+chain_has_undos profile start base (block ∷ blocks) accepted =
+    let below = chain_has_undos profile start base blocks accepted.1 in
+    let top = block_has_undo profile start base block blocks below.undos accepted.0 accepted.1 below.are_undos in
     record { undos = top.undo ∷ below.undos; are_undos = (top.is_undo, below.are_undos) }

@@ -1,5 +1,5 @@
 -- Maps still stand after the transactions of a block, and after the coins that are due are gone.
-use Rattle.std.proofs.Common.{◌≡◌, ℕ, suc, Bool, true, false, not, cond, List, [], ◌∷◌, refl, sym, ap, ◌∙◌}
+use Rattle.std.proofs.Common.{◌≡◌, ℕ, suc, Bool, true, false, not, cond, List, [], ◌∷◌, refl, sym, ap, ◌∙◌, arith}
 use Rattle.std.specs.Prelude.{Option, Some, None}
 use Rattle.block_grammar.specs.Transaction.{Transaction, txid_of}
 use Rattle.nmc_base.specs.declared.hashes.OutPoint.{OutPoint}
@@ -54,7 +54,7 @@ pub verdict_stands : (profile : Profile) (height : ℕ) (maps : Maps) (t : Trans
     → Stands profile height height (after_verdict maps height (txid_of t) v)
 verdict_stands profile height maps t plain means stands = stands
 verdict_stands profile height maps t (commits hash place) means stands =
-    commitment_stands profile height maps (point_at (txid_of t) place) (record { 0 = hash }) stands means.output.fresh
+    commitment_stands profile height height height maps (point_at (txid_of t) place) (record { 0 = hash }) (omega arith) stands means.output.fresh
 verdict_stands profile height maps t (opens name value place spent) means stands = opened_stands profile height maps t name value place spent means stands
 verdict_stands profile height maps t (updates name value place spent) means stands = updated_stands profile height maps t name value place spent means stands
 verdict_stands profile height maps t (refused refusal) means stands = stands

@@ -1,5 +1,5 @@
 -- A block has no more outputs than bytes.
-use Rattle.std.proofs.Common.{◌≡◌, ℕ, ◌≤◌, List, [], ◌∷◌, ◌++◌, length, refl, sym, subst, arith, le_trans, length-append}
+use Rattle.std.proofs.Common.{◌≡◌, ℕ, ◌<◌, ◌≤◌, ◌^◌, List, [], ◌∷◌, ◌++◌, length, refl, sym, ap, subst, arith, le_trans, length-append}
 use Rattle.std.specs.Prelude.{Option, Some, None, Result, Ok, Err}
 use Rattle.std.specs.Int.{w32, to_le_bytes}
 use Rattle.std.specs.List.{flat_map}
@@ -10,9 +10,10 @@ use Rattle.block_grammar.specs.Witness.{stack_text}
 use Rattle.block_grammar.specs.Header.{header_text}
 use Rattle.block_grammar.specs.Block.{Block, IsBlock, block_text}
 use Rattle.block_grammar.specs.Reading.{block_from}
-use Rattle.block_grammar.proofs.BlockLaws.{block_takes}
-use Rattle.chain_names.specs.Log.{behind_coinbase, transactions_in, transactions_read}
-use Rattle.undo_laws.specs.Sound.{count_outputs}
+use Rattle.block_grammar.proofs.BlockLaws.{block_takes, block_again}
+use Rattle.chain_names.specs.Log.{Log, behind_coinbase, transactions_in, transactions_read}
+use Rattle.nmc_base.specs.declared.chain_ends.Profile.{Profile}
+use Rattle.undo_laws.specs.Sound.{count_outputs, IsAccepted}
 
 in_front : (a b : List ℕ) → length b ≤ length (a ++ b)
 in_front a b = omega (arith, length-append a b)
@@ -72,3 +73,11 @@ outputs-bytes bytes fits =
 pub outputs-block : (bytes : List ℕ) (b : Block) → IsBlock bytes b → count_outputs (behind_coinbase b.transactions) ≤ length bytes
 outputs-block bytes b is =
     le_trans (fewer_behind b.transactions) (subst (λ (text : List ℕ). count_outputs b.transactions ≤ length text) (sym is.text) (block_long b))
+
+-- so an accepted block has fewer than 2^32
+pub accepted_few : (profile : Profile) (start : Log) (base : ℕ) (block : List ℕ) (blocks : List (List ℕ)) → IsAccepted profile start base block blocks
+    → count_outputs (behind_coinbase (transactions_in block)) < 2 ^ 32
+accepted_few profile start base block blocks accepted =
+    let short : length block ≤ 8388608 = accepted.short in
+    let few : count_outputs (behind_coinbase accepted.content.transactions) ≤ length block = outputs-block block accepted.content accepted.is_block in
+    subst (λ ts. count_outputs (behind_coinbase ts) < 2 ^ 32) (sym (ap transactions_read (block_again block accepted.content accepted.is_block))) (omega arith)

@@ -11,6 +11,7 @@ pub mod Fitting
 pub mod Sorting
 pub mod Writing
 pub mod Soundness
+pub mod StartLemmas
 pub mod Beginning
 pub mod One
 pub mod Allowing

@@ -29,29 +29,29 @@ use Rattle.undo_laws.proofs.Standing.{Stands}
 abbrev pub with_commitment : Maps → OutPoint → Hash20 → ℕ → Maps
 with_commitment maps point hash height = record { coins = changed same_point maps.coins point (Some (New hash height)); names = maps.names }
 
-module _ (profile : Profile) (height : ℕ) (maps : Maps) (point : OutPoint) (hash : Hash20)
-    (stands : Stands profile height height maps) (fresh : maps.coins point ≡ None) where
-  commitment_low : (q : OutPoint) (coin : Coin) (b : Bool) → cond b (Some (New hash height)) (maps.coins q) ≡ Some coin → made_at coin ≤ height
+module _ (profile : Profile) (height top made : ℕ) (maps : Maps) (point : OutPoint) (hash : Hash20)
+    (low : made ≤ top) (stands : Stands profile height top maps) (fresh : maps.coins point ≡ None) where
+  commitment_low : (q : OutPoint) (coin : Coin) (b : Bool) → cond b (Some (New hash made)) (maps.coins q) ≡ Some coin → made_at coin ≤ top
   commitment_low q coin true e =
-      let same : New hash height ≡ coin = cc in
-      subst (λ c. made_at c ≤ height) same (omega arith)
+      let same : New hash made ≡ coin = cc in
+      subst (λ c. made_at c ≤ top) same low
   commitment_low q coin false e = stands.coin_heights q coin e
 
-  commitment_named : (q : OutPoint) (name : List ℕ) (made : ℕ) (b : Bool) → cond b (Some (New hash height)) (maps.coins q) ≡ Some (Named name made)
-      → IsStandingCoin profile height (maps.names name) made q
-  commitment_named q name made true e = absurd cc
-  commitment_named q name made false e = stands.named_coins q name made e
+  commitment_named : (q : OutPoint) (name : List ℕ) (at : ℕ) (b : Bool) → cond b (Some (New hash made)) (maps.coins q) ≡ Some (Named name at)
+      → IsStandingCoin profile height (maps.names name) at q
+  commitment_named q name at true e = absurd cc
+  commitment_named q name at false e = stands.named_coins q name at e
 
-  pub commitment_stands : Stands profile height height (with_commitment maps point hash height)
+  pub commitment_stands : Stands profile height top (with_commitment maps point hash made)
   commitment_stands = record {
     coin_heights = λ q coin. commitment_low q coin (same_point point q);
     item_heights = stands.item_heights;
     rising = stands.rising;
     lengths = stands.lengths;
-    named_coins = λ q name made. commitment_named q name made (same_point point q);
+    named_coins = λ q name at. commitment_named q name at (same_point point q);
     standing_names = λ name item entry live.
         let held = stands.standing_names name item entry live in
-        ap (λ b. cond b (Some (New hash height)) (maps.coins item.at)) (apart maps.coins point item.at (Named name item.height) fresh held) ∙ held;
+        ap (λ b. cond b (Some (New hash made)) (maps.coins item.at)) (apart maps.coins point item.at (Named name item.height) fresh held) ∙ held;
   }
 
 -- ---- a name moves

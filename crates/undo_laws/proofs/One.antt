@@ -14,6 +14,7 @@ use Rattle.nmc_base.specs.Hash.{outpoint_cmp}
 use Rattle.chain_names.specs.declared.coin.Coin.{Coin}
 use Rattle.chain_names.specs.declared.coin.HeldCoin.{HeldCoin}
 use Rattle.chain_names.specs.Points.{same_point}
+use Rattle.chain_names.specs.Log.{Log}
 use Rattle.chain_names.specs.Undo.{UndoRecord}
 use Rattle.chain_names.proofs.Shown.{true_is_not_false}
 use Rattle.undo_laws.specs.Expired.{points_of, IsSortedByPoint, is_held_at, IsGone, IsDue}
@@ -138,21 +139,21 @@ one_due now next xs ys left right left_sorted right_sorted =
 
 -- ---- records
 
-pub one_undo-block : (profile : Profile) (base : ℕ) (block : List ℕ) (blocks : List (List ℕ)) (u v : UndoRecord) → IsUndoOf profile base block blocks u
-    → IsUndoOf profile base block blocks v → u ≡ v
-one_undo-block profile base block blocks u v left right =
+pub one_undo-block : (profile : Profile) (start : Log) (base : ℕ) (block : List ℕ) (blocks : List (List ℕ)) (u v : UndoRecord) → IsUndoOf profile start base block blocks u
+    → IsUndoOf profile start base block blocks v → u ≡ v
+one_undo-block profile start base block blocks u v left right =
     let hash = left.hash ∙ sym right.hash in
     let ops = left.ops ∙ sym right.ops in
     let expired = one_due _ _ u.expired v.expired left.due right.due left.sorted right.sorted in
     λ i. record { block = record { 0 = hash i }; ops = ops i; expired = expired i }
 
-pub one_undo-chain : (profile : Profile) (base : ℕ) (blocks : List (List ℕ)) (us vs : List UndoRecord) → AreUndos profile base blocks us → AreUndos profile base blocks vs → us ≡ vs
-one_undo-chain profile base [] [] [] left right = refl
-one_undo-chain profile base [] [] (v ∷ vs) left right = absurd right
-one_undo-chain profile base [] (u ∷ us) vs left right = absurd left
-one_undo-chain profile base (block ∷ blocks) [] vs left right = absurd left
-one_undo-chain profile base (block ∷ blocks) (u ∷ us) [] left right = absurd right
-one_undo-chain profile base (block ∷ blocks) (u ∷ us) (v ∷ vs) left right =
-    let first = one_undo-block profile base block blocks u v left.0 right.0 in
-    let rest = one_undo-chain profile base blocks us vs left.1 right.1 in
+pub one_undo-chain : (profile : Profile) (start : Log) (base : ℕ) (blocks : List (List ℕ)) (us vs : List UndoRecord) → AreUndos profile start base blocks us → AreUndos profile start base blocks vs → us ≡ vs
+one_undo-chain profile start base [] [] [] left right = refl
+one_undo-chain profile start base [] [] (v ∷ vs) left right = absurd right
+one_undo-chain profile start base [] (u ∷ us) vs left right = absurd left
+one_undo-chain profile start base (block ∷ blocks) [] vs left right = absurd left
+one_undo-chain profile start base (block ∷ blocks) (u ∷ us) [] left right = absurd right
+one_undo-chain profile start base (block ∷ blocks) (u ∷ us) (v ∷ vs) left right =
+    let first = one_undo-block profile start base block blocks u v left.0 right.0 in
+    let rest = one_undo-chain profile start base blocks us vs left.1 right.1 in
     λ i. first i ∷ rest i

@@ -1,13 +1,16 @@
 -- Sound states, and the chains that are accepted on a base.
-use Rattle.std.specs.Prelude.{◌≡◌, ℕ, suc, ◌+◌, ◌<◌, ◌≤◌, ◌^◌, List, [], ◌∷◌, length, None}
+use Rattle.std.specs.Prelude.{◌≡◌, ℕ, suc, ◌+◌, ◌≤◌, List, [], ◌∷◌, length, None}
+use Rattle.block_grammar.specs.Block.{Block, IsBlock}
 use Rattle.block_grammar.specs.Transaction.{Transaction}
 use Rattle.nmc_base.specs.declared.chain_ends.Profile.{Profile}
 use Rattle.chain_names.specs.Coins.{Maps}
 use Rattle.chain_names.specs.Changes.{undone}
 use Rattle.chain_names.specs.Index.{next_height, refused_in}
-use Rattle.chain_names.specs.Log.{behind_coinbase, transactions_in, log_of}
+use Rattle.chain_names.specs.Log.{Log, behind_coinbase, transactions_in, log_of}
+use Rattle.chain_names.specs.Start.{IsStart}
 use Rattle.chain_names.specs.Undo.{UndoRecord}
 use Rattle.nmc_base.specs.Heights.{highest}
+use Rattle.nmc_base.specs.declared.limits.TheConstants.{LONGEST_BLOCK}
 use Rattle.undo_laws.specs.State.{IsState}
 use Rattle.undo_laws.specs.Fits.{FitsState}
 use Rattle.undo_laws.specs.Limits.{IsWithinLimits}
@@ -37,14 +40,21 @@ abbrev pub count_outputs : List Transaction → ℕ
 count_outputs [] = 0
 count_outputs (t ∷ ts) = length t.outputs + count_outputs ts
 
--- the block on these blocks: it is no higher than any chain may be, has fewer than 2^32 outputs behind the coinbase, and
--- none of its transactions is refused
-pub record IsAccepted (profile : Profile) (base : ℕ) (block : List ℕ) (blocks : List (List ℕ)) : Type 0 where
+-- the bytes on these blocks: they are a block of at most 8,388,608 bytes, which is no higher than any chain may be, and none
+-- of its transactions is refused
+pub record IsAccepted (profile : Profile) (start : Log) (base : ℕ) (block : List ℕ) (blocks : List (List ℕ)) : Type 0 where
   pub low : next_height base blocks ≤ highest
-  pub few_outputs : count_outputs (behind_coinbase (transactions_in block)) < 2 ^ 32
-  pub unrefused : refused_in profile (next_height base blocks) 1 (behind_coinbase (transactions_in block)) (log_of base blocks) ≡ None
+  pub content : Block
+  pub is_block : IsBlock block content
+  pub short : length block ≤ LONGEST_BLOCK
+  pub unrefused : refused_in profile (next_height base blocks) 1 (behind_coinbase (transactions_in block)) (log_of start base blocks) ≡ None
+
+-- a chain may begin so
+pub record IsBeginning (profile : Profile) (start : Log) (base : ℕ) : Type 0 where
+  pub low : base ≤ highest
+  pub starts : IsStart profile base start
 
 -- each block on those below it
-abbrev pub AreAccepted : Profile → ℕ → List (List ℕ) → Type 0
-AreAccepted profile base [] = base ≤ highest
-AreAccepted profile base (block ∷ blocks) = IsAccepted profile base block blocks × AreAccepted profile base blocks
+abbrev pub AreAccepted : Profile → Log → ℕ → List (List ℕ) → Type 0
+AreAccepted profile start base [] = IsBeginning profile start base
+AreAccepted profile start base (block ∷ blocks) = IsAccepted profile start base block blocks × AreAccepted profile start base blocks

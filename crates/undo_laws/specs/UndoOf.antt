@@ -31,18 +31,18 @@ hash_read (Err e) = []
 abbrev pub hash_in : List ℕ → List ℕ
 hash_in bytes = hash_read (block_from bytes)
 
--- The record undoes the block on these blocks, on a base of this height: its hash, its undo operations, and every coin
+-- The record undoes the block on these blocks, on a base with this start list and this height: its hash, its undo operations, and every coin
 -- of the whole log at its height that is none at the next.
-pub record IsUndoOf (profile : Profile) (base : ℕ) (block : List ℕ) (blocks : List (List ℕ)) (u : UndoRecord) : Type 0 where
+pub record IsUndoOf (profile : Profile) (start : Log) (base : ℕ) (block : List ℕ) (blocks : List (List ℕ)) (u : UndoRecord) : Type 0 where
   pub hash : u.block.0 ≡ hash_in block
-  pub ops : u.ops ≡ undo_ops_in profile (next_height base blocks) (behind_coinbase (transactions_in block)) (log_of base blocks)
-  pub due : IsDue (live_coin profile (log_of base (block ∷ blocks)) (next_height base blocks))
-      (live_coin profile (log_of base (block ∷ blocks)) (suc (next_height base blocks))) u.expired
+  pub ops : u.ops ≡ undo_ops_in profile (next_height base blocks) (behind_coinbase (transactions_in block)) (log_of start base blocks)
+  pub due : IsDue (live_coin profile (log_of start base (block ∷ blocks)) (next_height base blocks))
+      (live_coin profile (log_of start base (block ∷ blocks)) (suc (next_height base blocks))) u.expired
   pub sorted : IsSortedByPoint u.expired
 
 -- each block has its undo record
-abbrev pub AreUndos : Profile → ℕ → List (List ℕ) → List UndoRecord → Type 0
-AreUndos profile base [] [] = Unit {0}
-AreUndos profile base [] (u ∷ us) = ⊥
-AreUndos profile base (block ∷ blocks) [] = ⊥
-AreUndos profile base (block ∷ blocks) (u ∷ us) = IsUndoOf profile base block blocks u × AreUndos profile base blocks us
+abbrev pub AreUndos : Profile → Log → ℕ → List (List ℕ) → List UndoRecord → Type 0
+AreUndos profile start base [] [] = Unit {0}
+AreUndos profile start base [] (u ∷ us) = ⊥
+AreUndos profile start base (block ∷ blocks) [] = ⊥
+AreUndos profile start base (block ∷ blocks) (u ∷ us) = IsUndoOf profile start base block blocks u × AreUndos profile start base blocks us

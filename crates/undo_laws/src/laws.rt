@@ -12,6 +12,7 @@ ghost use Rattle.chain_names.specs.Log.{Log, behind_coinbase, log_of, transactio
 ghost use Rattle.chain_names.specs.Coins.{Maps, maps_of};
 ghost use Rattle.chain_names.specs.Changes.{after_all, after_block, first_refused, restored, undo_ops, undone};
 ghost use Rattle.chain_names.specs.Index.{index_maps, next_height, refused_in};
+ghost use Rattle.chain_names.specs.Start.{IsStart};
 ghost use Rattle.chain_names.specs.Tables.{is_named_at};
 ghost use Rattle.chain_names.specs.Undo.{UndoRecord};
 ghost use Rattle.undo_laws.specs.Expired.{IsSortedByPoint, IsGone, IsDue};
@@ -62,49 +63,50 @@ pub fn block_keeps_soundness()
         → IsSound profile base (suc tip) (after_block profile (suc tip) transactions maps) (u ∷ us) }
 {}
 
-/// A base alone, without coins and names, is sound.
+/// A base alone with a start list is sound.
 pub fn begins_sound()
-    ensures { (profile : Profile) (base : ℕ) → base ≤ highest → IsSound profile base base (maps_of profile [] (suc base)) [] }
+    ensures { (profile : Profile) (start : Log) (base : ℕ) → base ≤ highest → IsStart profile base start
+        → IsSound profile base base (maps_of profile start (suc base)) [] }
 {}
 
 /// The index of each chain of accepted blocks is sound, with the records that undo them.
 pub fn index_is_sound()
-    ensures { (profile : Profile) (base : ℕ) (blocks : List (List ℕ)) (us : List UndoRecord)
-        → AreAccepted profile base blocks → AreUndos profile base blocks us
-        → IsSound profile base (base + length blocks) (index_maps profile base blocks) us }
+    ensures { (profile : Profile) (start : Log) (base : ℕ) (blocks : List (List ℕ)) (us : List UndoRecord)
+        → AreAccepted profile start base blocks → AreUndos profile start base blocks us
+        → IsSound profile base (base + length blocks) (index_maps profile start base blocks) us }
 {}
 
 /// Each chain of accepted blocks has its undo records.
 pub fn chains_have_undos()
-    ensures { (profile : Profile) (base : ℕ) (blocks : List (List ℕ)) → AreAccepted profile base blocks
-        → (us : List UndoRecord) × AreUndos profile base blocks us }
+    ensures { (profile : Profile) (start : Log) (base : ℕ) (blocks : List (List ℕ)) → AreAccepted profile start base blocks
+        → (us : List UndoRecord) × AreUndos profile start base blocks us }
 {}
 
 /// A chain's last block has one undo record, and a chain one list of them.
 pub fn one_undo()
-    ensures block { (profile : Profile) (base : ℕ) (block : List ℕ) (blocks : List (List ℕ)) (u v : UndoRecord)
-        → IsUndoOf profile base block blocks u → IsUndoOf profile base block blocks v → u ≡ v }
-    ensures chain { (profile : Profile) (base : ℕ) (blocks : List (List ℕ)) (us vs : List UndoRecord)
-        → AreUndos profile base blocks us → AreUndos profile base blocks vs → us ≡ vs }
+    ensures block { (profile : Profile) (start : Log) (base : ℕ) (block : List ℕ) (blocks : List (List ℕ)) (u v : UndoRecord)
+        → IsUndoOf profile start base block blocks u → IsUndoOf profile start base block blocks v → u ≡ v }
+    ensures chain { (profile : Profile) (start : Log) (base : ℕ) (blocks : List (List ℕ)) (us vs : List UndoRecord)
+        → AreUndos profile start base blocks us → AreUndos profile start base blocks vs → us ≡ vs }
 {}
 
 /// The record of a chain's next block by the maps is the one by the log.
 pub fn undo_of_index()
-    ensures { (profile : Profile) (base : ℕ) (block : List ℕ) (blocks : List (List ℕ))
-        → refused_in profile (next_height base blocks) 1 (behind_coinbase (transactions_in block)) (log_of base blocks) ≡ None
+    ensures { (profile : Profile) (start : Log) (base : ℕ) (block : List ℕ) (blocks : List (List ℕ))
+        → refused_in profile (next_height base blocks) 1 (behind_coinbase (transactions_in block)) (log_of start base blocks) ≡ None
         → (u : UndoRecord) → u.block.0 ≡ hash_in block
-        → u.ops ≡ undo_ops profile (next_height base blocks) (behind_coinbase (transactions_in block)) (index_maps profile base blocks)
-        → IsDue (after_all profile (next_height base blocks) (behind_coinbase (transactions_in block)) (index_maps profile base blocks)).coins
-        (after_block profile (next_height base blocks) (behind_coinbase (transactions_in block)) (index_maps profile base blocks)).coins u.expired
-        → IsSortedByPoint u.expired → IsUndoOf profile base block blocks u }
+        → u.ops ≡ undo_ops profile (next_height base blocks) (behind_coinbase (transactions_in block)) (index_maps profile start base blocks)
+        → IsDue (after_all profile (next_height base blocks) (behind_coinbase (transactions_in block)) (index_maps profile start base blocks)).coins
+        (after_block profile (next_height base blocks) (behind_coinbase (transactions_in block)) (index_maps profile start base blocks)).coins u.expired
+        → IsSortedByPoint u.expired → IsUndoOf profile start base block blocks u }
 {}
 
 /// Undoing the last block of a chain by its record gives the index of the chain without it.
 pub fn index_goes_back()
-    ensures { (profile : Profile) (base : ℕ) (block : List ℕ) (blocks : List (List ℕ)) (u : UndoRecord)
-        → refused_in profile (next_height base blocks) 1 (behind_coinbase (transactions_in block)) (log_of base blocks) ≡ None
-        → IsUndoOf profile base block blocks u
-        → undone u.ops u.expired (index_maps profile base (block ∷ blocks)) ≡ index_maps profile base blocks }
+    ensures { (profile : Profile) (start : Log) (base : ℕ) (block : List ℕ) (blocks : List (List ℕ)) (u : UndoRecord)
+        → refused_in profile (next_height base blocks) 1 (behind_coinbase (transactions_in block)) (log_of start base blocks) ≡ None
+        → IsUndoOf profile start base block blocks u
+        → undone u.ops u.expired (index_maps profile start base (block ∷ blocks)) ≡ index_maps profile start base blocks }
 {}
 
 /// What is left of a sound chain without its last block is sound, and a sound chain has as many records as blocks.

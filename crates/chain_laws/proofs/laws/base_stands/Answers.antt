@@ -1,4 +1,4 @@
-use Rattle.chain_laws.proofs.Following.{base_stands}
+use Rattle.chain_laws.proofs.StandingLemmas.{base_stands}
 use Rattle.chain_laws.proofs.laws.base_stands.Goals as goal
 
 pub returns : goal.returns

@@ -1,4 +1,4 @@
-use Rattle.chain_laws.proofs.Undoing.{forth_and_back}
+use Rattle.chain_laws.proofs.UndoLemmas.{forth_and_back}
 use Rattle.chain_laws.proofs.laws.disconnecting_undoes.Goals as goal
 
 pub returns : goal.returns

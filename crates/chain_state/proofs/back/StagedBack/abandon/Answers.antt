@@ -1,6 +1,8 @@
-use Rattle.std.proofs.Common.{◌≡◌, ◌-◌, List, [], length, refl, sym, subst, ◌∙◌}
+use Rattle.std.proofs.Common.{◌≡◌, ◌-◌, List, [], length, refl, sym, ap, subst, ◌∙◌}
 use Rattle.std.specs.Prelude.{Some, slice_get}
 use Rattle.undo_records.specs.declared.undo.Undo.{Undo}
+use Rattle.chain_names.specs.Coins.{Maps}
+use Rattle.chain_names.specs.Tables.{queue_of}
 use Rattle.chain_state.specs.Back.{block_work}
 use Rattle.chain_state.specs.Chain.{Indexed, SameIndex, index_of}
 use Rattle.chain_state.specs.Clearing.{IsClearing}
@@ -38,6 +40,7 @@ returns g c =
     let spent = c.clear_spent.ensures.clearing s.tables undo.expired.items (subst (λ ops. IsClearing s.tables s.tables ops undo.expired.items) (sym c.as_slice-2.ensures) (whole_clearing work whole)) in
     let cleared = c.clear_expired.ensures.clearing s.tables (subst (λ held. IsClearing s.tables c.clear_spent.new.self [] held) (sym c.as_slice-3.ensures) spent) in
     let commits = committed work c.clear_expired.new.self whole cleared in
-    let same : SameIndex (index_of s.base s.tip c.clear_expired.new.self s.undos) (index_of s.base s.tip s.tables s.undos) = record { base = refl; tip = refl; maps = commits.maps; undos = refl } in
+    let same : SameIndex (index_of s.base s.tip c.clear_expired.new.self s.undos) (index_of s.base s.tip s.tables s.undos) =
+    record { base = refl; tip = refl; maps = commits.maps; queue = commits.queue ∙ ap (λ (m : Maps). queue_of m.coins) commits.maps ∙ sym whole.queue; undos = refl } in
     subst (λ (x : Indexed). SameIndex c.joined.result x) c.self.view_is
     (subst (λ (x : Indexed). SameIndex x (index_of s.base s.tip s.tables s.undos)) (sym c.joined.ensures) same)

@@ -25,7 +25,7 @@ returns-clause-disconnected g c =
     (subst (λ (x : Indexed). IsDisconnected (index.index_of s.base s.tip s.tables s.undos) x) (sym c.joined.ensures)
     (disconnected s.base s.tip s.tables s.undos s.empty c.self.invariant c.in-Some.undo c.pop.new.self.items c.in-Some.ensures.some
     c.pop.new.self refl c.abandon-tables.result c.abandon-tables.ensures.before c.newest_hash.result
-    (c.newest_hash.ensures ∙ ap (λ us. index.newest_hash s.base (index.newest_first us)) c.as_slice.ensures)))
+    (c.newest_hash.ensures ∙ ap (λ us. index.newest_hash s.base (index.newest_first us)) c.as_slice.ensures) c.abandon-tables.ensures.queue))
 
 pub returns-clause-cost : goal.returns-clause-cost
 returns-clause-cost g c =

@@ -18,7 +18,7 @@ returns-clause-stages g c =
     ∙ ap (λ (h : Hash32). h.0) (is_the_tip c.previous.result s.tip.hash (sym c.if-ne.false ∙ c.ne.ensures))
     ∙ ap (λ (x : Indexed). x.tip.hash.0) c.self.view_is in
     let low : c.args.self.tip.height < highest =
-    subst (λ (x : Indexed). x.tip.height < highest) c.self.view_is (omega (arith, c.if-self-ge-HIGHEST.false)) in
+    subst (λ (x : Indexed). x.tip.height < highest) c.self.view_is (omega (arith, c.if-self-ge-HIGHEST_HEIGHT.false)) in
     let root : block.header.fields.root ≡ block_root block =
     sym (c.root.ensures ∙ ap (λ (h : Header). h.fields.root) c.header-header.ensures)
     ∙ ap (λ (h : Hash32). h.0) (is_the_tip c.root.result c.in-Ok.root (sym c.if-ne-2.false ∙ c.ne-2.ensures))

@@ -5,9 +5,9 @@ use Rattle.undo_records.specs.declared.undo.Undo.{Undo}
 use Rattle.undo_records.specs.Seen.{seen_undo}
 use Rattle.chain_state.specs.Chain.{Indexed, SameIndex, indexed_of, index_of, newest_first}
 use Rattle.chain_state.specs.Clearing.{IsClearing}
-use Rattle.chain_state.specs.StageBack.{IsBackRefusal}
+use Rattle.chain_state.specs.StageBack.{IsBackRefusal, IsStagedBackOn}
 use Rattle.chain_state.specs.declared.tables.Tables.{Tables}
-use Rattle.chain_state.specs.declared.stage.Refusal.TheVariants.{NotTip}
+use Rattle.chain_state.specs.declared.back.BackRefusal.TheVariants.{NotTip}
 use Rattle.chain_state.proofs.Disconnecting.{EndsIn, ends_in, newest_is, not_the_tip, staged_back, stage_again, same_again, newest_none, is_the_tip}
 use Rattle.chain_state.proofs.chain.Chain.stage_back.Goals as goal
 
@@ -50,3 +50,17 @@ returns-in-Err-clause-stages g c =
     let some : whole.undos ≢ [] = λ none. c.if-len-eq0.false (c.len.ensures ∙ newest_none s.parts.undos.items none) in
     subst (λ (x : Indexed). SameIndex c.joined.result x × (x.undos ≢ []) × (c.args.hash ≡ x.tip.hash)) c.self.view_is
     (subst (λ (x : Indexed). SameIndex x whole) (sym c.joined.ensures) same, some, is_the_tip c.args.hash s.tip.hash c.if-ne.ensures)
+
+pub returns-in-Ok-clause-stages : goal.returns-in-Ok-clause-stages
+returns-in-Ok-clause-stages g c =
+    let s = c.self.inside in
+    let undos = c.split-tables.result.1 in
+    let whole : Indexed = indexed_of s.base s.tip s.parts in
+    let from : c.split-tables.result.0 ≡ whole.tables = c.split-tables.ensures.tables in
+    let some : whole.undos ≢ [] = λ none. c.if-len-eq0.false (c.len.ensures ∙ newest_none s.parts.undos.items none) in
+    subst (λ (x : Indexed). IsStagedBackOn x c.args.hash (index_of s.base s.tip c.make_room.new.self undos)) c.self.view_is
+    (record {
+      above = some;
+      hash_is = is_the_tip c.args.hash s.tip.hash c.if-ne.ensures;
+      same = same_again whole c.split-tables.result.0 from c.make_room.new.self undos (ap (λ (l : Roomy Undo). newest_first l.items) c.split-tables.ensures.undos) c.in-Ok.ensures.ok.2.same;
+    })

@@ -1,4 +1,4 @@
-use Rattle.std.proofs.Common.{◌≡◌, ◌<◌, ◌^◌, Some, refl, ap, sym, subst, ◌∙◌}
+use Rattle.std.proofs.Common.{length, ◌≡◌, ◌<◌, ◌^◌, Some, refl, ap, sym, subst, ◌∙◌}
 use Rattle.nmc_base.specs.Roomy.{Roomy}
 use Rattle.block_grammar.specs.Header.{header_hash}
 use Rattle.chain_names.specs.Log.{behind_coinbase}
@@ -10,6 +10,7 @@ use Rattle.chain_state.specs.Stage.{StagesWell}
 use Rattle.chain_state.specs.Work.{maps_before}
 use Rattle.chain_state.proofs.Chains.{few_each, begun_ready, staged_index, staged_well, given_back, stopped_back, refused_by, returned_index, returned_same, unused_index}
 use Rattle.chain_state.proofs.Costing.{staged_cost}
+use Rattle.chain_state.proofs.MeasureLemmas.{length-header_hash}
 use Rattle.chain_state.proofs.chain.Chain.stage_names.Goals as goal
 
 pub joined-requires : goal.joined-requires
@@ -27,7 +28,8 @@ pub invariant_of-result : goal.invariant_of-result
 invariant_of-result g c = (
   staged_index (indexed_of c.self.inside.base c.self.inside.tip c.self.inside.parts) c.self.invariant (subst (λ (x : Indexed). x.tip.height < highest) (sym c.self.view_is) c.requires.low) c.split-tables.result.0 c.split-tables.ensures.tables c.in-Ok.work c.in-Ok.ensures.ok
       c.apply_all.new.self c.behind_coinbase.result (rw c.in-Ok-None.field-0-is at c.in-Ok-None.ensures.applies) c.hash-hash.result c.in-Ok-finish.whole c.in-Ok-finish.ensures.ok
-      c.begin.new.undos (ap newest_first (c.begin.ensures.undos ∙ ap (λ (l : Roomy Undo). l.items) c.split-tables.ensures.undos)) (subst (λ ts. count_outputs ts < 2 ^ 32) (sym (c.behind_coinbase.ensures ∙ ap behind_coinbase c.txs.ensures.value)) c.requires.outputs),
+      c.begin.new.undos (ap newest_first (c.begin.ensures.undos ∙ ap (λ (l : Roomy Undo). l.items) c.split-tables.ensures.undos)) (subst (λ ts. count_outputs ts < 2 ^ 32) (sym (c.behind_coinbase.ensures ∙ ap behind_coinbase c.txs.ensures.value)) c.requires.outputs)
+      (ap length (c.hash-hash.ensures ∙ ap header_hash c.header.ensures) ∙ length-header_hash _),
   c.in-Ok.ensures.room refl,
 )
 
@@ -56,7 +58,8 @@ returns-in-Err-finish-clause-names g c =
     (ap newest_first (c.begin.ensures.undos ∙ ap (λ (l : Roomy Undo). l.items) c.split-tables.ensures.undos))
     (given_back (indexed_of c.self.inside.base c.self.inside.tip c.self.inside.parts) c.self.invariant (subst (λ (x : Indexed). x.tip.height < highest) (sym c.self.view_is) c.requires.low) c.split-tables.result.0 c.split-tables.ensures.tables c.in-Ok.work c.in-Ok.ensures.ok
     c.apply_all.new.self c.behind_coinbase.result (rw c.in-Ok-None.field-0-is at c.in-Ok-None.ensures.applies) c.abandon-tables-in-Err-finish.result
-    (c.abandon-tables-in-Err-finish.ensures.before ∙ ap maps_before c.in-Err-finish.ensures.err))))
+    (c.abandon-tables-in-Err-finish.ensures.before ∙ ap maps_before c.in-Err-finish.ensures.err))
+    c.abandon-tables-in-Err-finish.ensures.queue))
 
 pub returns-in-Ok-finish-clause-cost : goal.returns-in-Ok-finish-clause-cost
 returns-in-Ok-finish-clause-cost g c =
@@ -71,7 +74,7 @@ returns-in-Ok-Some-clause-names g c =
           (returned_same (indexed_of c.self.inside.base c.self.inside.tip c.self.inside.parts) c.self.invariant c.abandon.result c.begin.new.undos
           (ap newest_first (c.begin.ensures.undos ∙ ap (λ (l : Roomy Undo). l.items) c.split-tables.ensures.undos))
           (stopped_back (indexed_of c.self.inside.base c.self.inside.tip c.self.inside.parts) c.self.invariant (subst (λ (x : Indexed). x.tip.height < highest) (sym c.self.view_is) c.requires.low) c.split-tables.result.0 c.split-tables.ensures.tables c.in-Ok.work c.in-Ok.ensures.ok
-          c.apply_all.new.self declined.stopped c.abandon.result c.abandon.ensures.before))),
+          c.apply_all.new.self declined.stopped c.abandon.result c.abandon.ensures.before) c.abandon.ensures.queue)),
       subst (λ (x : Indexed). rule_refused x c.args.block.now ≡ Some (c.in-Ok-Some.tx, c.in-Ok-Some.refusal)) c.self.view_is
           (refused_by (indexed_of c.self.inside.base c.self.inside.tip c.self.inside.parts) c.self.invariant (subst (λ (x : Indexed). x.tip.height < highest) (sym c.self.view_is) c.requires.low) c.split-tables.result.0 c.split-tables.ensures.tables c.in-Ok.work c.in-Ok.ensures.ok
           c.args.block.now c.behind_coinbase.result (c.behind_coinbase.ensures ∙ ap behind_coinbase c.txs.ensures.value) _ declined.refusal_is),

@@ -1,13 +1,10 @@
 -- Disconnecting undoes connecting, and connecting again redoes.
 use Rattle.std.proofs.Common.{◌≡◌, ℕ, List, ◌∷◌, sym, ap, ◌∙◌, arith}
-use Rattle.std.specs.Prelude.{Some, None, Result, Ok}
 use Rattle.block_grammar.specs.Block.{Block, IsBlock}
-use Rattle.block_grammar.specs.Merkle.{block_root}
-use Rattle.block_grammar.proofs.BlockLaws.{block_again}
 use Rattle.nmc_base.specs.declared.chain_ends.Base.{Base}
 use Rattle.nmc_base.specs.declared.chain_ends.Tip.{Tip}
 use Rattle.nmc_base.specs.declared.hashes.Hash32.{Hash32}
-use Rattle.chain_names.specs.Changes.{Refused, undone}
+use Rattle.chain_names.specs.Changes.{undone}
 use Rattle.chain_names.specs.Undo.{UndoRecord}
 use Rattle.undo_laws.proofs.One.{one_undo-chain}
 use Rattle.chain_state.specs.Tables.{maps_by}
@@ -15,10 +12,13 @@ use Rattle.chain_state.specs.Chain.{Indexed, IsIndexed, SameIndex, StagedIndex, 
 use Rattle.chain_state.specs.Stage.{IsRefusal}
 use Rattle.chain_state.specs.StageBack.{IsStagedBackOn, IsDisconnected}
 use Rattle.chain_state.specs.declared.stage.Refusal.{Refusal}
-use Rattle.chain_state.specs.declared.stage.Refusal.TheVariants.{BadBlock, NotOnTip, HeightLimit, MerkleMismatch, Rule, NotTip, AtBase}
 use Rattle.chain_state.proofs.Disconnecting.{first_same, rest_same}
 use Rattle.chain_laws.specs.Standing.{StandsForChain}
-use Rattle.chain_laws.proofs.Following.{refused_alike, connects, disconnects}
+use Rattle.chain_names.specs.Coins.{Maps}
+use Rattle.chain_names.specs.Log.{Log}
+use Rattle.chain_names.specs.Tables.{queue_of}
+use Rattle.chain_laws.proofs.StandingLemmas.{connects, disconnects}
+use Rattle.chain_laws.proofs.RefusalLemmas.{valid_unrefused, refuses_by_chain}
 
 joined_hash : (a b : Hash32) → a.0 ≡ b.0 → a ≡ b
 joined_hash a b e = λ i. record { 0 = e i }
@@ -26,12 +26,13 @@ joined_hash a b e = λ i. record { 0 = e i }
 joined_tip : (a b : Tip) → a.height ≡ b.height → a.hash ≡ b.hash → a ≡ b
 joined_tip a b height hash = λ i. record { height = height i; hash = hash i }
 
-pub one_index : (base : Base) (blocks : List (List ℕ)) (a b : Indexed) → StandsForChain base blocks a → StandsForChain base blocks b → SameIndex a b
-one_index base blocks a b s t = record {
+pub one_index : (base : Base) (start : Log) (blocks : List (List ℕ)) (a b : Indexed) → StandsForChain base start blocks a → StandsForChain base start blocks b → SameIndex a b
+one_index base start blocks a b s t = record {
   base = s.base_is ∙ sym t.base_is;
   tip = joined_tip a.tip b.tip (s.height ∙ sym t.height) (joined_hash a.tip.hash b.tip.hash (s.hash ∙ sym t.hash));
   maps = s.maps ∙ sym t.maps;
-  undos = one_undo-chain base.profile base.height blocks a.undos b.undos s.undos t.undos;
+  queue = s.queue ∙ sym t.queue;
+  undos = one_undo-chain base.profile start base.height blocks a.undos b.undos s.undos t.undos;
 }
 
 -- ---- forth and back
@@ -44,50 +45,32 @@ forth_and_back old new back gone staged block hash indexed on connected off disc
     let undo_is : disconnected.undo ≡ work = first_same _ _ _ _ both in
     let below_is : disconnected.below ≡ old.undos = rest_same _ _ _ _ both ∙ on.undos in
     let base_is : back.base ≡ old.base = off.same.base ∙ connected.base ∙ on.base in
+    let maps : maps_by gone.tables ≡ maps_by old.tables =
+    disconnected.maps
+    ∙ ap (λ (u : UndoRecord). undone u.ops u.expired (maps_by back.tables)) undo_is
+    ∙ ap (undone work.ops work.expired) (off.same.maps ∙ connected.maps)
+    ∙ on.before in
     record {
       base = disconnected.base ∙ base_is;
       tip = joined_tip gone.tip old.tip
           (omega (arith, disconnected.height, ap (λ t. t.height) off.same.tip, connected.height, ap (λ t. t.height) on.tip))
           (disconnected.hash ∙ ap (λ x. newest_hash x disconnected.below) base_is ∙ ap (newest_hash old.base) below_is ∙ sym indexed.hash);
-      maps = disconnected.maps
-          ∙ ap (λ (u : UndoRecord). undone u.ops u.expired (maps_by back.tables)) undo_is
-          ∙ ap (undone work.ops work.expired) (off.same.maps ∙ connected.maps)
-          ∙ on.before;
+      maps = maps;
+      queue = disconnected.queue ∙ ap (λ (m : Maps). queue_of m.coins) maps ∙ sym indexed.queue;
       undos = disconnected.undos ∙ below_is;
     }
 
 -- ---- back and forth
 
-one_read : {E : Type 0} (r : Result Block E) (a b : Block) → r ≡ Ok a → r ≡ Ok b → a ≡ b
-one_read r a b first second = let same : Ok a ≡ Ok b = sym first ∙ second in cc
-
-module _ (base : Base) (bytes : List ℕ) (blocks : List (List ℕ)) (old back gone : Indexed) (block : Block) (hash : Hash32)
-    (s : StandsForChain base (bytes ∷ blocks) old) (is : IsBlock bytes block) (off : IsStagedBackOn old hash back) (disconnected : IsDisconnected back gone) where
-  below : StandsForChain base blocks gone
-  below = disconnects old back gone hash off disconnected base bytes blocks s
-
-  same_block : s.valid.0.block ≡ block
-  same_block = one_read _ s.valid.0.block block (block_again bytes s.valid.0.block s.valid.0.is_block) (block_again bytes block is)
-
-  on_tip : block.header.fields.previous ≡ gone.tip.hash.0
-  on_tip = sym (ap (λ (b : Block). b.header.fields.previous) same_block) ∙ s.valid.0.on_tip ∙ sym below.hash
-
-  root : block.header.fields.root ≡ block_root block
-  root = sym (ap (λ (b : Block). b.header.fields.root) same_block) ∙ s.valid.0.root ∙ ap block_root same_block
-
-  some_is_not_none : (r : Refused) → Some r ≡ None → ⊥
-  some_is_not_none r e = cc
+module _ (base : Base) (start : Log) (bytes : List ℕ) (blocks : List (List ℕ)) (old back gone : Indexed) (block : Block) (hash : Hash32)
+    (s : StandsForChain base start (bytes ∷ blocks) old) (is : IsBlock bytes block) (off : IsStagedBackOn old hash back) (disconnected : IsDisconnected back gone) where
+  below : StandsForChain base start blocks gone
+  below = disconnects old back gone hash off disconnected base start bytes blocks s
 
   pub never_refused : (refusal : Refusal) → IsRefusal gone block refusal → ⊥
-  never_refused (BadBlock at) h = h
-  never_refused (NotOnTip tip) h = h.0 on_tip
-  never_refused HeightLimit h = omega (arith, h.1, s.valid.0.low, below.height)
-  never_refused (MerkleMismatch computed) h = h.2 (root ∙ sym h.3)
-  never_refused (Rule index refusal) h =
-      some_is_not_none (index, refusal) (sym h.3 ∙ refused_alike base blocks gone below bytes block is ∙ s.valid.0.unrefused)
-  never_refused (NotTip tip) h = h
-  never_refused AtBase h = h
+  never_refused refusal refused =
+      valid_unrefused base start blocks bytes block is s.valid.0 refusal (refuses_by_chain base start blocks gone below bytes block is refusal refused)
 
   pub back_and_forth : (again : Indexed) (staged : StagedIndex) → IsStagedOn gone block staged → IsConnected staged again → SameIndex again old
   back_and_forth again staged on connected =
-      one_index base (bytes ∷ blocks) again old (connects base blocks gone below bytes block is staged on again connected) s
+      one_index base start (bytes ∷ blocks) again old (connects base start blocks gone below bytes block is staged on s.valid.0.short again connected) s

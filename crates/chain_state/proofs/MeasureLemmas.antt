@@ -1,0 +1,305 @@
+-- What a block leaves is measured, its undo record can be written, and undoing it leaves what is measured.
+use Rattle.std.proofs.Common.{◌≡◌, ℕ, zero, suc, ◌+◌, ◌-◌, ◌<◌, ◌≤◌, ◌^◌, Bool, true, false, cond, List, [], ◌∷◌, ◌++◌, length, take, refl, sym, subst, arith}
+use Rattle.std.specs.Prelude.{Option, Some, None}
+use Rattle.std.specs.List.{AllByRecursion}
+use Rattle.std.specs.Str.{bytes_eq}
+use Rattle.std.specs.declared.cmp.Ordering.TheVariants.{Less}
+use Rattle.std.proofs.lemmas.Map.Keys.{sorted_head, sorted_tail}
+use Rattle.sha2.proofs.Facts256.{length-sha256}
+use Rattle.block_grammar.specs.Transaction.{TxOutput, Transaction, txid_of}
+use Rattle.block_grammar.specs.Header.{Header, header_hash}
+use Rattle.name_script.specs.NameScript.{NameOperation}
+use Rattle.name_script.specs.Reading.{name_op}
+use Rattle.nmc_base.specs.Expiry.{is_expired}
+use Rattle.nmc_base.specs.Hash.{outpoint_cmp}
+use Rattle.nmc_base.specs.declared.chain_ends.Profile.{Profile}
+use Rattle.nmc_base.specs.declared.hashes.OutPoint.{OutPoint}
+use Rattle.chain_names.specs.declared.coin.Coin.{Coin}
+use Rattle.chain_names.specs.declared.coin.Coin.TheVariants.{New, Named}
+use Rattle.chain_names.specs.declared.coin.HeldCoin.{HeldCoin}
+use Rattle.chain_names.specs.declared.coin.Item.{Item}
+use Rattle.chain_names.specs.declared.undo.UndoOp.{UndoOp}
+use Rattle.chain_names.specs.declared.undo.UndoOp.TheVariants.{New as undo_new, First as undo_first, Update as undo_update}
+use Rattle.chain_names.specs.Points.{same_point, point_at, changed}
+use Rattle.chain_names.specs.Coins.{Maps, entry_of, unless_expired}
+use Rattle.chain_names.specs.Meaning.{Means}
+use Rattle.chain_names.specs.Verdict.{Verdict, plain, commits, opens, updates, refused, verdict, NameOutput, with_output, name_outputs, made_at}
+use Rattle.chain_names.specs.Changes.{with_spent, without_entry, moved, moved_back, after_verdict, after_transaction, after_all, after_block, undo_of_verdict, undo_ops, back_op, back_ops, restored, undone}
+use Rattle.chain_names.specs.Undo.{UndoRecord}
+use Rattle.chain_names.proofs.Meanings.{verdict_means}
+use Rattle.chain_names.proofs.Points.{same_point-Decides}
+use Rattle.undo_laws.specs.Expired.{points_of, IsSortedByPoint, IsGone, IsDue}
+use Rattle.undo_laws.specs.Limits.{IsWithinLimitsOp, IsShortBefore, HoldsName, IsWithinLimits}
+use Rattle.undo_laws.proofs.Histories.{entry_has}
+use Rattle.undo_laws.proofs.Points.{all-append, all-weaker}
+use Rattle.undo_records.specs.Writable.{FitsPoint, FitsNewCoin, FitsNamedCoin, FitsBefore, FitsOp, FitsHeld, AreAscending, IsWritable}
+use Rattle.chain_state.specs.Block.{HasFewOutputs}
+use Rattle.chain_state.specs.Measure.{IsMeasuredCoin, IsMeasuredItem, AreMeasured}
+
+abbrev AreMeasuredCoins : (OutPoint → Option Coin) → Type 0
+AreMeasuredCoins coins = (point : OutPoint) (coin : Coin) → coins point ≡ Some coin → IsMeasuredCoin point coin
+
+abbrev AreMeasuredItems : (List ℕ → List Item) → Type 0
+AreMeasuredItems names = (name : List ℕ) → AllByRecursion IsMeasuredItem (names name)
+
+-- ---- hashes and outpoints
+
+length-txid : (t : Transaction) → length (txid_of t) ≡ 32
+unfolding txid_of
+length-txid t = length-sha256 _
+
+pub length-header_hash : (h : Header) → length (header_hash h) ≡ 32
+unfolding header_hash
+length-header_hash h = length-sha256 _
+
+abbrev IsPlacedBelow : ℕ → NameOutput → Type 0
+IsPlacedBelow top output = output.place < top
+
+with_output_below : (top place value : ℕ) (operation : Option NameOperation) (outputs : List NameOutput) → place < top → AllByRecursion (IsPlacedBelow top) outputs
+    → AllByRecursion (IsPlacedBelow top) (with_output place value operation outputs)
+with_output_below top place value None outputs low rest = rest
+with_output_below top place value (Some operation) outputs low rest = (low, rest)
+
+outputs_below : (place top : ℕ) (outputs : List TxOutput) → place + length outputs ≤ top → AllByRecursion (IsPlacedBelow top) (name_outputs place outputs)
+outputs_below place top [] low = tt
+outputs_below place top (output ∷ outputs) low =
+    with_output_below top place output.value (name_op output.script) (name_outputs (suc place) outputs) (omega (arith, low))
+    (outputs_below (suc place) top outputs (omega (arith, low)))
+
+made_fits : (t : Transaction) (output : NameOutput) → HasFewOutputs t → name_outputs 0 t.outputs ≡ output ∷ [] → FitsPoint (point_at (txid_of t) output.place)
+made_fits t output few outputs =
+    let low : output.place < length t.outputs =
+    (subst (AllByRecursion (IsPlacedBelow (length t.outputs))) outputs (outputs_below 0 (length t.outputs) t.outputs (omega arith))).0 in
+    record { txid = length-txid t; index = omega (arith, low, few) }
+
+-- ---- maps that change
+
+coin_changed : (coins : OutPoint → Option Coin) (at : OutPoint) (slot : Option Coin) → AreMeasuredCoins coins → ((coin : Coin) → slot ≡ Some coin → IsMeasuredCoin at coin)
+    → AreMeasuredCoins (changed same_point coins at slot)
+coin_changed coins at slot all here point coin = by (same_point at point) refl
+  where
+    by : (b : Bool) → same_point at point ≡ b → cond b slot (coins point) ≡ Some coin → IsMeasuredCoin point coin
+    by true is e = subst (λ p. IsMeasuredCoin p coin) ((same_point-Decides at point).0 is) (here coin e)
+    by false is e = all point coin e
+
+coin_gone : (coins : OutPoint → Option Coin) (at : OutPoint) → AreMeasuredCoins coins → AreMeasuredCoins (changed same_point coins at None)
+coin_gone coins at all = coin_changed coins at None all (λ coin e. absurd (no_coin coin e))
+  where
+    no_coin : (coin : Coin) → None ≡ Some coin → ⊥
+    no_coin coin e = cc
+
+coin_there : (coins : OutPoint → Option Coin) (at : OutPoint) (made : Coin) → AreMeasuredCoins coins → IsMeasuredCoin at made → AreMeasuredCoins (changed same_point coins at (Some made))
+coin_there coins at made all here = coin_changed coins at (Some made) all (λ coin e. let same : made ≡ coin = cc in subst (IsMeasuredCoin at) same here)
+
+items_changed : (names : List ℕ → List Item) (name : List ℕ) (items : List Item) → AreMeasuredItems names → AllByRecursion IsMeasuredItem items
+    → AreMeasuredItems (changed bytes_eq names name items)
+items_changed names name items all here n = by (bytes_eq name n)
+  where
+    by : (b : Bool) → AllByRecursion IsMeasuredItem (cond b items (names n))
+    by true = here
+    by false = all n
+
+moved_measured : (maps : Maps) (height : ℕ) (spent point : OutPoint) (name value : List ℕ) → height < 2 ^ 32 → FitsPoint point → AreMeasured maps
+    → AreMeasured (moved maps height spent point name value)
+moved_measured maps height spent point name value low fits measured = record {
+  coins = coin_there (changed same_point maps.coins spent None) point (Named name height) (coin_gone maps.coins spent measured.coins) (record { at = fits; height = low; hash = tt });
+  items = items_changed maps.names name (maps.names name ++ record { height = height; at = point; value = value } ∷ []) measured.items
+      (all-append IsMeasuredItem (maps.names name) (record { height = height; at = point; value = value } ∷ []) (measured.items name) (record { at = fits; height = low }, tt));
+}
+
+-- ---- what undoes an operation
+
+abbrev IsMeasuredBefore : Option Item → Type 0
+IsMeasuredBefore None = Unit {0}
+IsMeasuredBefore (Some item) = IsMeasuredItem item
+
+abbrev IsMeasuredOp : UndoOp → Type 0
+IsMeasuredOp (undo_new made) = FitsPoint made
+IsMeasuredOp (undo_first made spent coin name before) = FitsPoint made × IsMeasuredCoin spent coin × IsMeasuredBefore before
+IsMeasuredOp (undo_update made spent coin name before) = FitsPoint made × IsMeasuredCoin spent coin × IsMeasuredBefore before
+
+before_fits : (before : Option Item) → IsShortBefore before → IsMeasuredBefore before → FitsBefore before
+before_fits None short measured = tt
+before_fits (Some item) short measured = record { height = measured.height; at = measured.at; value = short }
+
+op_fits : (op : UndoOp) → IsWithinLimitsOp op → IsMeasuredOp op → FitsOp op
+op_fits (undo_new made) limits measured = measured
+op_fits (undo_first made spent (New hash height) name before) limits measured = record {
+  made = measured.0;
+  spent = measured.1.at;
+  coin = (measured.1.height, measured.1.hash);
+  name = limits.1;
+  before = before_fits before limits.2 measured.2;
+}
+op_fits (undo_first made spent (Named other height) name before) limits measured = absurd limits.0
+op_fits (undo_update made spent (New hash height) name before) limits measured = absurd limits.0
+op_fits (undo_update made spent (Named other height) name before) limits measured = record {
+  made = measured.0;
+  spent = measured.1.at;
+  coin = (measured.1.height, limits.0);
+  name = limits.1;
+  before = before_fits before limits.2 measured.2;
+}
+
+ops_fit : (ops : List UndoOp) → AllByRecursion IsWithinLimitsOp ops → AllByRecursion IsMeasuredOp ops → AllByRecursion FitsOp ops
+ops_fit [] limits measured = tt
+ops_fit (op ∷ ops) limits measured = (op_fits op limits.0 measured.0, ops_fit ops limits.1 measured.1)
+
+held_fits : (held : HeldCoin) → HoldsName held → IsMeasuredCoin held.at held.coin → FitsHeld held
+held_fits held limits measured = record { at = measured.at; coin = named held.coin limits measured.height }
+  where
+    named : (coin : Coin) → HoldsName (record { at = held.at; coin = coin }) → made_at coin < 2 ^ 32 → FitsNamedCoin coin
+    named (New hash height) limits low = absurd limits
+    named (Named name height) limits low = (low, limits)
+
+abbrev IsMeasuredHeld : HeldCoin → Type 0
+IsMeasuredHeld held = IsMeasuredCoin held.at held.coin
+
+helds_fit : (helds : List HeldCoin) → AllByRecursion HoldsName helds → AllByRecursion IsMeasuredHeld helds → AllByRecursion FitsHeld helds
+helds_fit [] limits measured = tt
+helds_fit (held ∷ helds) limits measured = (held_fits held limits.0 measured.0, helds_fit helds limits.1 measured.1)
+
+above_ascend : (point : OutPoint) (helds : List HeldCoin) → AllByRecursion (λ q. outpoint_cmp point q ≡ Less) (points_of helds) → IsSortedByPoint helds → AreAscending (Some point) helds
+above_ascend point [] above sorted = tt
+above_ascend point (held ∷ helds) above sorted =
+    (above.0, above_ascend held.at helds (sorted_head outpoint_cmp held.at (points_of helds) sorted) (sorted_tail outpoint_cmp held.at (points_of helds) sorted))
+
+sorted_ascend : (helds : List HeldCoin) → IsSortedByPoint helds → AreAscending None helds
+sorted_ascend [] sorted = tt
+sorted_ascend (held ∷ helds) sorted =
+    (tt, above_ascend held.at helds (sorted_head outpoint_cmp held.at (points_of helds) sorted) (sorted_tail outpoint_cmp held.at (points_of helds) sorted))
+
+record_writable : (u : UndoRecord) → length u.block.0 ≡ 32 → IsWithinLimits u → AllByRecursion IsMeasuredOp u.ops → AllByRecursion IsMeasuredHeld u.expired → IsWritable u
+record_writable u block limits ops expired = record {
+  fits = record {
+    block = block;
+    op_count = limits.few_ops;
+    ops = ops_fit u.ops limits.ops ops;
+    expired_count = limits.few_expired;
+    expired = helds_fit u.expired limits.expired expired;
+  };
+  in_order = sorted_ascend u.expired limits.sorted;
+}
+
+-- ---- one transaction
+
+entry_measured : (items : List Item) (entry : Option Item) → AllByRecursion IsMeasuredItem items → entry_of items ≡ entry → IsMeasuredBefore entry
+entry_measured items None all e = tt
+entry_measured items (Some item) all e = entry_has IsMeasuredItem items item all e
+
+with_spent_measured : (undo : Coin → UndoOp) (spent : Option Coin) (coin : Coin) → spent ≡ Some coin → IsMeasuredOp (undo coin)
+    → AllByRecursion IsMeasuredOp (with_spent undo spent)
+with_spent_measured undo spent coin held measured = subst (λ s. AllByRecursion IsMeasuredOp (with_spent undo s)) (sym held) (measured, tt)
+
+module _ (profile : Profile) (height : ℕ) (low : height < 2 ^ 32) where
+  verdict_measured : (maps : Maps) (t : Transaction) (v : Verdict) → Means profile maps height t v → HasFewOutputs t → AreMeasured maps
+      → AreMeasured (after_verdict maps height (txid_of t) v)
+  verdict_measured maps t plain means few measured = measured
+  verdict_measured maps t (refused refusal) means few measured = measured
+  verdict_measured maps t (commits hash place) means few measured = record {
+    coins = coin_there maps.coins (point_at (txid_of t) place) (New (record { 0 = hash }) height) measured.coins
+        (record { at = made_fits t _ few means.output.outputs; height = low; hash = means.hash_length });
+    items = measured.items;
+  }
+  verdict_measured maps t (opens name value place spent) means few measured =
+      moved_measured maps height spent (point_at (txid_of t) place) name value low (made_fits t _ few means.output.outputs) measured
+  verdict_measured maps t (updates name value place spent) means few measured =
+      moved_measured maps height spent (point_at (txid_of t) place) name value low (made_fits t _ few means.output.outputs) measured
+
+  verdict_ops : (maps : Maps) (t : Transaction) (v : Verdict) → Means profile maps height t v → HasFewOutputs t → AreMeasured maps
+      → AllByRecursion IsMeasuredOp (undo_of_verdict maps (txid_of t) v)
+  verdict_ops maps t plain means few measured = tt
+  verdict_ops maps t (refused refusal) means few measured = tt
+  verdict_ops maps t (commits hash place) means few measured = (made_fits t _ few means.output.outputs, tt)
+  verdict_ops maps t (opens name value place spent) means few measured =
+      with_spent_measured (λ (coin : Coin). undo_first (point_at (txid_of t) place) spent coin name (entry_of (maps.names name))) (maps.coins spent)
+      (New means.hash means.made) means.input.held
+      (made_fits t _ few means.output.outputs, measured.coins spent _ means.input.held, entry_measured (maps.names name) (entry_of (maps.names name)) (measured.items name) refl)
+  verdict_ops maps t (updates name value place spent) means few measured =
+      with_spent_measured (λ (coin : Coin). undo_update (point_at (txid_of t) place) spent coin name (entry_of (maps.names name))) (maps.coins spent)
+      (Named name means.made) means.input.held
+      (made_fits t _ few means.output.outputs, measured.coins spent _ means.input.held, entry_measured (maps.names name) (entry_of (maps.names name)) (measured.items name) refl)
+
+  -- ---- the transactions of a block
+
+  all_measured : (ts : List Transaction) (maps : Maps) → AllByRecursion HasFewOutputs ts → AreMeasured maps → AreMeasured (after_all profile height ts maps)
+  all_measured [] maps few measured = measured
+  all_measured (t ∷ ts) maps few measured =
+      all_measured ts (after_transaction profile height t maps) few.1
+      (verdict_measured maps t (verdict profile maps height t) (verdict_means profile maps height t) few.0 measured)
+
+  all_ops : (ts : List Transaction) (maps : Maps) → AllByRecursion HasFewOutputs ts → AreMeasured maps → AllByRecursion IsMeasuredOp (undo_ops profile height ts maps)
+  all_ops [] maps few measured = tt
+  all_ops (t ∷ ts) maps few measured =
+      let v = verdict profile maps height t in
+      let means = verdict_means profile maps height t in
+      all-append IsMeasuredOp (undo_of_verdict maps (txid_of t) v) (undo_ops profile height ts (after_transaction profile height t maps))
+      (verdict_ops maps t v means few.0 measured)
+      (all_ops ts (after_transaction profile height t maps) few.1 (verdict_measured maps t v means few.0 measured))
+
+-- a coin that isn't expired was there
+pub was_there : (profile : Profile) (height : ℕ) (slot : Option Coin) (coin : Coin) → unless_expired profile height slot ≡ Some coin → slot ≡ Some coin
+was_there profile height None coin e = e
+was_there profile height (Some (New hash made)) coin e = e
+was_there profile height (Some (Named name made)) coin e = by (is_expired profile made height) e
+  where
+    by : (b : Bool) → cond b None (Some (Named name made)) ≡ Some coin → Some (Named name made) ≡ Some coin
+    by true f = absurd cc
+    by false f = f
+
+pub block_measured : (profile : Profile) (height : ℕ) (ts : List Transaction) (maps : Maps) → height < 2 ^ 32 → AllByRecursion HasFewOutputs ts → AreMeasured maps
+    → AreMeasured (after_block profile height ts maps)
+block_measured profile height ts maps low few measured =
+    let after = all_measured profile height low ts maps few measured in
+    record { coins = λ point coin e. after.coins point coin (was_there profile (suc height) _ coin e); items = after.items }
+
+pub block_writable : (profile : Profile) (height : ℕ) (ts : List Transaction) (maps : Maps) (u : UndoRecord) → height < 2 ^ 32 → AllByRecursion HasFewOutputs ts → AreMeasured maps
+    → length u.block.0 ≡ 32 → IsWithinLimits u → u.ops ≡ undo_ops profile height ts maps
+    → IsDue (after_all profile height ts maps).coins (after_block profile height ts maps).coins u.expired → IsWritable u
+block_writable profile height ts maps u low few measured block limits ops due =
+    record_writable u block limits (subst (AllByRecursion IsMeasuredOp) (sym ops) (all_ops profile height low ts maps few measured))
+    (all-weaker (IsGone (after_all profile height ts maps).coins (after_block profile height ts maps).coins) IsMeasuredHeld u.expired
+    (λ held gone. (all_measured profile height low ts maps few measured).coins held.at held.coin gone.now_is) due.each)
+
+-- ---- the way back
+
+new_coin : (point : OutPoint) (coin : Coin) → FitsPoint point → FitsNewCoin coin → IsMeasuredCoin point coin
+new_coin point (New hash height) at fits = record { at = at; height = fits.0; hash = fits.1 }
+new_coin point (Named name height) at fits = absurd fits
+
+named_coin : (point : OutPoint) (coin : Coin) → FitsPoint point → FitsNamedCoin coin → IsMeasuredCoin point coin
+named_coin point (New hash height) at fits = absurd fits
+named_coin point (Named name height) at fits = record { at = at; height = fits.0; hash = tt }
+
+all-take : (P : Item → Type 0) (n : ℕ) (items : List Item) → AllByRecursion P items → AllByRecursion P (take n items)
+all-take P zero items all = tt
+all-take P (suc n) [] all = tt
+all-take P (suc n) (item ∷ items) all = (all.0, all-take P n items all.1)
+
+moved_back_measured : (maps : Maps) (point spent : OutPoint) (coin : Coin) (name : List ℕ) → IsMeasuredCoin spent coin → AreMeasured maps
+    → AreMeasured (moved_back maps point spent coin name)
+moved_back_measured maps point spent coin name fits measured = record {
+  coins = coin_there (changed same_point maps.coins point None) spent coin (coin_gone maps.coins point measured.coins) fits;
+  items = items_changed maps.names name (without_entry (maps.names name)) measured.items (all-take IsMeasuredItem (length (maps.names name) - 1) (maps.names name) (measured.items name));
+}
+
+back_op_measured : (op : UndoOp) (maps : Maps) → FitsOp op → AreMeasured maps → AreMeasured (back_op op maps)
+back_op_measured (undo_new made) maps fits measured = record { coins = coin_gone maps.coins made measured.coins; items = measured.items }
+back_op_measured (undo_first made spent coin name before) maps fits measured =
+    moved_back_measured maps made spent coin name (new_coin spent coin fits.spent fits.coin) measured
+back_op_measured (undo_update made spent coin name before) maps fits measured =
+    moved_back_measured maps made spent coin name (named_coin spent coin fits.spent fits.coin) measured
+
+back_ops_measured : (ops : List UndoOp) (maps : Maps) → AllByRecursion FitsOp ops → AreMeasured maps → AreMeasured (back_ops ops maps)
+back_ops_measured [] maps fits measured = measured
+back_ops_measured (op ∷ ops) maps fits measured = back_op_measured op (back_ops ops maps) fits.0 (back_ops_measured ops maps fits.1 measured)
+
+restored_measured : (helds : List HeldCoin) (coins : OutPoint → Option Coin) → AllByRecursion FitsHeld helds → AreMeasuredCoins coins → AreMeasuredCoins (restored helds coins)
+restored_measured [] coins fits measured = measured
+restored_measured (held ∷ helds) coins fits measured =
+    coin_there (restored helds coins) held.at held.coin (restored_measured helds coins fits.1 measured) (named_coin held.at held.coin fits.0.at fits.0.coin)
+
+pub undone_measured : (u : UndoRecord) (maps : Maps) → IsWritable u → AreMeasured maps → AreMeasured (undone u.ops u.expired maps)
+undone_measured u maps writable measured =
+    back_ops_measured u.ops (record { coins = restored u.expired maps.coins; names = maps.names }) writable.fits.ops
+    (record { coins = restored_measured u.expired maps.coins writable.fits.expired measured.coins; items = measured.items })
