@@ -3,7 +3,7 @@ ghost use Rattle.std.specs.Prelude.{◌≡◌, false};
 use byte_io::{Failed, Source};
 use std::io::Read;
 
-/// A reader as a source: it counts the reads that failed, and tells nothing of its bytes.
+/// A reader as a source: it counts the reads that failed, and tells of its bytes what the reader tells.
 #[derive(Drop)]
 pub(crate) struct ReaderSource<R> {
     reader: R,
@@ -24,14 +24,10 @@ impl<R> ReaderSource<R> {
     }
 }
 
-impl<R: Read + Drop> Source for ReaderSource<R> {
-    ghost use Rattle.std.specs.Prelude.{None, IsTrue, ◌==◌, ◌-◌, ◌^◌};
+impl<R: Read> Source for ReaderSource<R> {
+    ghost use Rattle.fault_counts.specs.Counts.{counted};
 
-    ghost left = { λ _. None };
-
-    ghost faults = { λ s. record { count = s.faults; at_limit = s.faults == 2 ^ 64 - 1 } };
-
-    ghost failed = { λ s. IsTrue s.failed };
+    ghost seen = { λ s. record { left = R.remaining s.reader; faults = counted s.faults; failed = s.failed } };
 
     fn read(&mut self, buf: &mut [u8]) -> Result<usize, Failed> {
         match self.reader.read(buf) {

@@ -1,14 +1,38 @@
-use Rattle.std.specs.Prelude.{ℕ, ◌≡◌, ⊤, List, ◌++◌, take, Option, Some, None, Result, Ok, Err}
+-- What contracts see of a sink, and what a write does.
+use Rattle.std.specs.Prelude.{ℕ, ◌<◌, ◌≤◌, ◌≡◌, ◌↔◌, Bool, true, false, IsTrue, List, length, take, Option, Result, Ok, Err}
+use Rattle.std.specs.Io.KnownBytes.{Appends, Keeps}
+use Rattle.fault_counts.specs.Counts.{raised}
+use Rattle.fault_counts.specs.Faults.{Faults, NeverFell, Rose}
 use Rattle.byte_io.specs.declared.errors.Failed.{Failed}
 
--- the bytes that all writes between two moments took, one after the other.
--- Of a sink that tells nothing this says nothing
-abbrev pub HasTaken : Option (List ℕ) → Option (List ℕ) → List ℕ → Type 0
-HasTaken None after bytes = ⊤
-HasTaken (Some before) after bytes = after ≡ Some (before ++ bytes)
+-- the bytes taken, where it tells them; its faults; whether the last write failed, whether it took nothing of a
+-- piece that isn't empty, and how many writes did so
+pub record SinkSeen : Type 0 where
+  pub taken : Option (List ℕ)
+  pub faults : Faults
+  pub failed : Bool
+  pub stalled : Bool
+  pub stalls : ℕ
 
--- what a write did to the bytes taken: at Ok a front of the piece stands behind them, at Err they are as before
-abbrev pub WriteTakes : Option (List ℕ) → Option (List ℕ) → Result ℕ Failed → List ℕ → Type 0
-WriteTakes None after result piece = ⊤
-WriteTakes (Some before) after (Ok n) piece = after ≡ Some (before ++ take n piece)
-WriteTakes (Some before) after (Err e) piece = after ≡ Some before
+-- the write took so many bytes from the front of the piece
+pub record WritesSome (old new : SinkSeen) (piece : List ℕ) (n : ℕ) : Type 0 where
+  pub bound : n ≤ length piece
+  pub bytes : Appends old.taken new.taken (take n piece)
+  pub stalled : IsTrue new.stalled ↔ ((n ≡ 0) × (0 < length piece))
+  pub moving : 0 < n → new.stalls ≡ old.stalls
+  pub stuck : IsTrue new.stalled → new.stalls ≡ raised old.stalls
+  pub worked : new.failed ≡ false
+  pub later : NeverFell old.faults new.faults
+
+-- the write took nothing, and there was a fault
+pub record WriteFails (old new : SinkSeen) : Type 0 where
+  pub kept : Keeps old.taken new.taken
+  pub stalled : new.stalled ≡ false
+  pub stalls : new.stalls ≡ old.stalls
+  pub failed : new.failed ≡ true
+  pub later : NeverFell old.faults new.faults
+  pub rose : Rose old.faults new.faults
+
+abbrev pub Writes : SinkSeen → SinkSeen → List ℕ → Result ℕ Failed → Type 0
+Writes old new piece (Ok n) = WritesSome old new piece n
+Writes old new piece (Err e) = WriteFails old new

@@ -1,28 +1,31 @@
-use Rattle.std.specs.Prelude.{ℕ, ◌<◌, ◌≤◌, ◌≡◌, ⊤, List, ◌++◌, length, take, drop, Option, Some, None, Result, Ok, Err, IfOk}
+-- What contracts see of a source, and what a read does.
+use Rattle.std.specs.Prelude.{ℕ, ◌<◌, ◌≤◌, ◌≡◌, Bool, true, false, List, length, take, Option, Result, Ok, Err}
+use Rattle.std.specs.Io.KnownBytes.{Consumes, IsAtEnd, Keeps}
+use Rattle.fault_counts.specs.Faults.{Faults, NeverFell, Rose}
 use Rattle.byte_io.specs.declared.errors.Failed.{Failed}
 
--- a read gives at most as many bytes as the buffer has
-abbrev pub ReadsAtMost : Result ℕ Failed → List ℕ → Type 0
-ReadsAtMost result buffer = IfOk result (λ n. n ≤ length buffer)
+-- the bytes left, where it tells them; its faults; whether the last read failed
+pub record SourceSeen : Type 0 where
+  pub left : Option (List ℕ)
+  pub faults : Faults
+  pub failed : Bool
 
--- the front of the bytes left stands in the buffer now, and the rest of them are left; it has no byte
--- only where the buffer or what was left has none
-pub record GivesFront (before : List ℕ) (after : Option (List ℕ)) (n : ℕ) (buffer : List ℕ) : Type 0 where
-  pub within : n ≤ length before
-  pub rest : after ≡ Some (drop n before)
-  pub bytes : take n buffer ≡ take n before
-  pub progress : 0 < length buffer → 0 < length before → 0 < n
+-- the read gave so many bytes: they stand at the front of the buffer now. It gave none only at the end, or where
+-- the buffer has no room
+pub record ReadsSome (old new : SourceSeen) (buffer : List ℕ) (n : ℕ) : Type 0 where
+  pub bound : n ≤ length buffer
+  pub bytes : Consumes old.left new.left (take n buffer)
+  pub ended : n ≡ 0 → 0 < length buffer → IsAtEnd new.left
+  pub worked : new.failed ≡ false
+  pub later : NeverFell old.faults new.faults
 
--- what a read did to the bytes left: at Ok it gave their front, at Err they are as before.
--- Of a source that tells nothing this says nothing
-abbrev pub ReadConsumes : Option (List ℕ) → Option (List ℕ) → Result ℕ Failed → List ℕ → Type 0
-ReadConsumes None after result buffer = ⊤
-ReadConsumes (Some before) after (Ok n) buffer = GivesFront before after n buffer
-ReadConsumes (Some before) after (Err e) buffer = after ≡ Some before
+-- the read gave nothing, and there was a fault
+pub record ReadFails (old new : SourceSeen) : Type 0 where
+  pub kept : Keeps old.left new.left
+  pub failed : new.failed ≡ true
+  pub later : NeverFell old.faults new.faults
+  pub rose : Rose old.faults new.faults
 
--- the bytes that all reads between two moments gave, one after the other: what was left is these bytes
--- and then what is left now. Of a source that tells nothing this says nothing
-abbrev pub HasRead : Option (List ℕ) → Option (List ℕ) → List ℕ → Type 0
-HasRead None after bytes = ⊤
-HasRead (Some before) None bytes = ⊥
-HasRead (Some before) (Some after) bytes = before ≡ bytes ++ after
+abbrev pub Reads : SourceSeen → SourceSeen → List ℕ → Result ℕ Failed → Type 0
+Reads old new buffer (Ok n) = ReadsSome old new buffer n
+Reads old new buffer (Err e) = ReadFails old new

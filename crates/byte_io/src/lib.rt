@@ -10,7 +10,7 @@ mod sink;
 mod source;
 mod steady_source;
 
-pub use errors::{Failed, NoRoom};
+pub use errors::Failed;
 pub use memory_sink::MemorySink;
 pub use memory_source::MemorySource;
 pub use room_sink::RoomSink;

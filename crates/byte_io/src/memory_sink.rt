@@ -1,20 +1,4 @@
-ghost use Rattle.std.specs.Prelude.{
-  ◌≡◌,
-  ◌<◌,
-  ◌≤◌,
-  ◌||◌,
-  if◌then◌else◌,
-  [],
-  length,
-  Some,
-  IfOk,
-  IsErr,
-  IsTrue,
-  OnErr,
-  OnOk,
-  is_ok,
-};
-ghost use Rattle.byte_io.specs.Sink.{WriteTakes};
+ghost use Rattle.std.specs.Prelude.{◌≡◌, ◌||◌, if◌then◌else◌, [], length, IfOk, IsErr, IsTrue, is_ok};
 ghost use Rattle.fault_counts.specs.Counts.{
   after_call,
   after_refusal,
@@ -22,11 +6,14 @@ ghost use Rattle.fault_counts.specs.Counts.{
   fresh_counts,
   is_next_listed,
 };
-ghost use Rattle.fault_counts.specs.Faults.{HasCause, no_faults};
+ghost use Rattle.fault_counts.specs.Faults.{no_faults};
+ghost use Rattle.byte_io.specs.Sink.{Writes};
+ghost use Rattle.byte_io.specs.MemorySink.{memory_seen};
 
-use crate::errors::{Failed, NoRoom};
+use crate::errors::Failed;
 use crate::sink::Sink;
 use fault_counts::FaultCounts;
+use nmc_base::NoMemory;
 use std::alloc::Global;
 use std::marker::Model;
 
@@ -48,7 +35,7 @@ impl Model for MemorySink {
 impl MemorySink {
     /// A sink that took nothing yet, of which the writes whose numbers are in `fail` are to fail, counted
     /// from 1.
-    pub fn new(alloc: Global, fail: &[u64]) -> Result<MemorySink, NoRoom>
+    pub fn new(alloc: Global, fail: &[u64]) -> Result<MemorySink, NoMemory>
         ensures taken { IfOk result (λ sink. sink.taken ≡ []) }
         ensures counts { IfOk result (λ sink. sink.counts ≡ fresh_counts fail.now) }
         ensures faults { IfOk result (λ sink. faults_of sink.counts ≡ no_faults) }
@@ -68,27 +55,12 @@ impl MemorySink {
 }
 
 impl Sink for MemorySink {
-    ghost use Rattle.std.specs.Prelude.{Some, IsTrue};
-    ghost use Rattle.fault_counts.specs.Counts.{faults_of};
-
-    ghost taken = { λ s. Some s.taken };
-
-    ghost faults = { λ s. faults_of s.counts };
-
-    ghost failed = { λ s. IsTrue s.counts.failed };
-
-    ghost stalled = { λ _. ⊥ };
+    ghost seen = { memory_seen };
 
     /// Takes the whole piece. A write whose number is in the list fails; any other fails only for want of
     /// memory.
     fn write(&mut self, piece: &[u8]) -> Result<usize, Failed>
-        ensures bound { IfOk result (λ n. n ≤ length piece.now) }
-        ensures bytes { WriteTakes (Some self.old.taken) (Some self.new.taken) result piece.now }
-        ensures failed { OnErr result (IsTrue self.new.counts.failed) }
-        ensures worked { OnOk result (¬ IsTrue self.new.counts.failed) }
-        ensures stalled { IfOk result (λ n. n ≡ 0 → 0 < length piece.now → ⊥) }
-        ensures cause { HasCause (faults_of self.old.counts) (faults_of self.new.counts) result }
-
+        ensures writes { Writes (memory_seen self.old) (memory_seen self.new) piece.now result }
         ensures whole { IfOk result (λ n. n ≡ length piece.now) }
         ensures listed { IsTrue (is_next_listed self.old.counts) → IsErr result }
         // a write that isn't listed and fails found no memory

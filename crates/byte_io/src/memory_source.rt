@@ -1,25 +1,14 @@
-ghost use Rattle.std.specs.Prelude.{
-  ◌≡◌,
-  ◌++◌,
-  length,
-  min,
-  take,
-  drop,
-  IfOk,
-  IsTrue,
-  MatchResult,
-  OnErr,
-  OnOk,
-  is_err,
-};
-ghost use Rattle.byte_io.specs.Source.{ReadConsumes, ReadsAtMost};
+ghost use Rattle.std.specs.Prelude.{◌≡◌, ◌++◌, length, min, take, drop, IfOk, MatchResult, is_err};
+ghost use Rattle.byte_io.specs.Source.{Reads};
+ghost use Rattle.byte_io.specs.MemorySource.{memory_seen};
 ghost use Rattle.fault_counts.specs.Counts.{after_call, faults_of, fresh_counts, is_next_listed};
-ghost use Rattle.fault_counts.specs.Faults.{HasCause, no_faults};
+ghost use Rattle.fault_counts.specs.Faults.{no_faults};
 
-use crate::errors::{Failed, NoRoom};
+use crate::errors::Failed;
 use crate::front::copy_front;
 use crate::source::Source;
 use fault_counts::FaultCounts;
+use nmc_base::NoMemory;
 use std::alloc::Global;
 use std::marker::Model;
 
@@ -47,7 +36,7 @@ impl Model for MemorySource {
 
 impl MemorySource {
     /// A source of `bytes`, of which the reads whose numbers are in `fail` are to fail, counted from 1.
-    pub fn new(alloc: Global, bytes: &[u8], fail: &[u64]) -> Result<MemorySource, NoRoom>
+    pub fn new(alloc: Global, bytes: &[u8], fail: &[u64]) -> Result<MemorySource, NoMemory>
         ensures left { IfOk result (λ source. source.left ≡ bytes.now) }
         ensures counts { IfOk result (λ source. source.counts ≡ fresh_counts fail.now) }
         ensures faults { IfOk result (λ source. faults_of source.counts ≡ no_faults) }
@@ -61,24 +50,12 @@ impl MemorySource {
 }
 
 impl Source for MemorySource {
-    ghost use Rattle.std.specs.Prelude.{Some, IsTrue};
-    ghost use Rattle.fault_counts.specs.Counts.{faults_of};
-
-    ghost left = { λ s. Some s.left };
-
-    ghost faults = { λ s. faults_of s.counts };
-
-    ghost failed = { λ s. IsTrue s.counts.failed };
+    ghost seen = { memory_seen };
 
     /// Reads as many bytes as there are, up to the length of `buf`. A read fails exactly where its number
     /// is in the list.
     fn read(&mut self, buf: &mut [u8]) -> Result<usize, Failed>
-        ensures bound { ReadsAtMost result buf.new }
-        ensures bytes { ReadConsumes (Some self.old.left) (Some self.new.left) result buf.new }
-        ensures failed { OnErr result (IsTrue self.new.counts.failed) }
-        ensures worked { OnOk result (¬ IsTrue self.new.counts.failed) }
-        ensures cause { HasCause (faults_of self.old.counts) (faults_of self.new.counts) result }
-
+        ensures reads { Reads (memory_seen self.old) (memory_seen self.new) buf.new result }
         ensures listed { is_err result ≡ is_next_listed self.old.counts }
         ensures counted { self.new.counts ≡ after_call self.old.counts }
         ensures amount { IfOk result (λ n. n ≡ min (length self.old.left) (length buf.old)) }

@@ -1,21 +1,10 @@
-ghost use Rattle.std.specs.Prelude.{
-  ◌≡◌,
-  ◌-◌,
-  ◌<◌,
-  ◌≤◌,
-  ◌↔◌,
-  [],
-  length,
-  min,
-  Some,
-  IfOk,
-  IsOk,
-  IsTrue,
-};
-ghost use Rattle.byte_io.specs.Sink.{WriteTakes};
+ghost use Rattle.std.specs.Prelude.{◌≡◌, ◌-◌, ◌≤◌, length, min, IfOk, IsOk};
+ghost use Rattle.byte_io.specs.Sink.{Writes};
+ghost use Rattle.byte_io.specs.RoomSink.{empty_room, room_seen};
 
-use crate::errors::{Failed, NoRoom};
+use crate::errors::Failed;
 use crate::sink::Sink;
+use nmc_base::NoMemory;
 use std::alloc::Global;
 use std::marker::Model;
 
@@ -25,6 +14,7 @@ pub struct RoomSink {
     taken: Vec<u8>,
     room: usize,
     stalled: bool,
+    stalls: u64,
 }
 
 impl Model for RoomSink {
@@ -34,21 +24,21 @@ impl Model for RoomSink {
 
     ghost Value = { RoomView };
 
-    ghost view = { λ s. record { taken = s.taken.items; room = s.room; stalled = s.stalled } };
+    ghost view = { λ s. record { taken = s.taken.items; room = s.room; stalled = s.stalled; stalls = s.stalls } };
 
     ghost invariant = { λ s. (length s.taken.items ≤ s.room) × (s.room ≤ vec_capacity s.taken) };
 }
 
 impl RoomSink {
     /// An empty sink with room for `room` bytes in all.
-    pub fn new(alloc: Global, room: usize) -> Result<RoomSink, NoRoom>
-        ensures taken { IfOk result (λ sink. sink.taken ≡ []) }
-        ensures room { IfOk result (λ sink. sink.room ≡ room) }
+    pub fn new(alloc: Global, room: usize) -> Result<RoomSink, NoMemory>
+        ensures { IfOk result (λ sink. sink ≡ empty_room room) }
     {
         Ok(RoomSink {
             taken: Vec::with_capacity(alloc, room)?,
             room,
             stalled: false,
+            stalls: 0,
         })
     }
 
@@ -62,22 +52,11 @@ impl RoomSink {
 }
 
 impl Sink for RoomSink {
-    ghost use Rattle.std.specs.Prelude.{Some, IsTrue};
-    ghost use Rattle.fault_counts.specs.Faults.{no_faults};
-
-    ghost taken = { λ s. Some s.taken };
-
-    ghost faults = { λ _. no_faults };
-
-    ghost failed = { λ _. ⊥ };
-
-    ghost stalled = { λ s. IsTrue s.stalled };
+    ghost seen = { room_seen };
 
     /// Takes as many bytes as there is room for, and never fails.
     fn write(&mut self, piece: &[u8]) -> Result<usize, Failed>
-        ensures bound { IfOk result (λ n. n ≤ length piece.now) }
-        ensures bytes { WriteTakes (Some self.old.taken) (Some self.new.taken) result piece.now }
-        ensures stalled { IfOk result (λ n. IsTrue self.new.stalled ↔ ((n ≡ 0) × (0 < length piece.now))) }
+        ensures writes { Writes (room_seen self.old) (room_seen self.new) piece.now result }
         ensures ok { IsOk result }
 
         ensures amount { IfOk result (λ n. n ≡ min (self.old.room - length self.old.taken) (length piece.now)) }
@@ -90,6 +69,9 @@ impl Sink for RoomSink {
             Err(_) => unreachable!(),
         }
         self.stalled = count == 0 && !piece.is_empty();
+        if self.stalled {
+            self.stalls = self.stalls.saturating_add(1);
+        }
         Ok(count)
     }
 }

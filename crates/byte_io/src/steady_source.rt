@@ -1,18 +1,6 @@
-ghost use Rattle.std.specs.Prelude.{
-  ◌≡◌,
-  ◌++◌,
-  length,
-  min,
-  take,
-  drop,
-  Some,
-  IfOk,
-  IsOk,
-  OnErr,
-  OnOk,
-};
-ghost use Rattle.byte_io.specs.Source.{ReadConsumes, ReadsAtMost};
-ghost use Rattle.fault_counts.specs.Faults.{HasCause, no_faults};
+ghost use Rattle.std.specs.Prelude.{◌≡◌, ◌++◌, length, min, take, drop, IfOk, IsOk};
+ghost use Rattle.byte_io.specs.Source.{Reads};
+ghost use Rattle.byte_io.specs.MemorySource.{steady_seen};
 
 use crate::errors::Failed;
 use crate::front::copy_front;
@@ -44,23 +32,11 @@ impl<'a> SteadySource<'a> {
 }
 
 impl<'a> Source for SteadySource<'a> {
-    ghost use Rattle.std.specs.Prelude.{Some};
-    ghost use Rattle.fault_counts.specs.Faults.{no_faults};
-
-    ghost left = { λ s. Some s };
-
-    ghost faults = { λ _. no_faults };
-
-    ghost failed = { λ _. ⊥ };
+    ghost seen = { steady_seen };
 
     /// Reads as many bytes as there are, up to the length of `buf`, and never fails.
     fn read(&mut self, buf: &mut [u8]) -> Result<usize, Failed>
-        ensures bound { ReadsAtMost result buf.new }
-        ensures bytes { ReadConsumes (Some self.old) (Some self.new) result buf.new }
-        ensures failed { OnErr result ⊥ }
-        ensures worked { OnOk result (¬ ⊥) }
-        ensures cause { HasCause no_faults no_faults result }
-
+        ensures reads { Reads (steady_seen self.old) (steady_seen self.new) buf.new result }
         ensures ok { IsOk result }
         ensures amount { IfOk result (λ n. n ≡ min (length self.old) (length buf.old)) }
         ensures buffer { IfOk result (λ n. buf.new ≡ take n self.old ++ drop n buf.old) }

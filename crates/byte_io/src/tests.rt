@@ -1,56 +1,57 @@
 use super::*;
 use std::alloc::Global;
+use std::process::Abort;
 use std::test::Fail;
 
-/// What a number of reads of `size` bytes give in all, and how many of them fail.
+const BYTES: &[u8] = &[10, 20, 30, 40, 50];
+
+fn same(rt: &impl Abort, got: &[u8], want: &[u8]) {
+    assert_eq!(rt; got, want);
+}
+
+/// What a number of reads of `size` bytes give in all, and behind it how many of them failed.
 fn read_all<S: Source>(
     alloc: Global,
     source: &mut S,
     size: usize,
     reads: usize,
-) -> Result<(Vec<u8>, u64), Fail> {
+) -> Result<Vec<u8>, Fail> {
     let mut bytes = Vec::new(alloc);
     let mut buffer = vec![in alloc; 0u8; size]?;
-    let mut failed = 0u64;
+    let mut failed = 0u8;
     for _ in 0..reads {
         match source.read(buffer.as_mut_slice()) {
             Ok(count) => bytes.extend_from_slice(&buffer[..count])?,
             Err(Failed) => failed = failed.saturating_add(1),
         }
     }
-    Ok((bytes, failed))
+    bytes.push(failed)?;
+    Ok(bytes)
 }
 
 /// How many bytes a sink takes of each of these pieces, where a failed write counts as none.
-fn write_each<K: Sink>(sink: &mut K, pieces: [&[u8]; 4]) -> [usize; 4] {
-    let [a, b, c, d] = pieces;
-    [
-        sink.write(a).unwrap_or(0),
-        sink.write(b).unwrap_or(0),
-        sink.write(c).unwrap_or(0),
-        sink.write(d).unwrap_or(0),
-    ]
+fn write_each<K: Sink>(sink: &mut K, pieces: &[&[u8]; 4]) -> [u8; 4] {
+    let mut counts = [0; 4];
+    for (count, piece) in counts.iter_mut().zip(pieces.iter()) {
+        *count = sink.write(piece).unwrap_or(0).min(255) as u8;
+    }
+    counts
+}
+
+/// The bytes in pieces of this size, from both sources: so many reads give them all, and none fails.
+fn reads_alike(rt: &impl Abort, alloc: Global, size: usize, reads: usize) -> Result<(), Fail> {
+    let want = [10, 20, 30, 40, 50, 0];
+    let mut memory = MemorySource::new(alloc, BYTES, &[])?;
+    same(rt, &read_all(alloc, &mut memory, size, reads)?, &want);
+    let mut steady = SteadySource::new(BYTES);
+    same(rt, &read_all(alloc, &mut steady, size, reads)?, &want);
+    Ok(())
 }
 
 #[test]
 fn reads_in_pieces_of_any_size(rt: HostRuntime) -> Result<(), Fail> {
-    let table: [(usize, usize, &[u8]); 6] = [
-        (0, 3, &[]),
-        (1, 3, &[10, 20, 30]),
-        (1, 9, &[10, 20, 30, 40, 50]),
-        (2, 2, &[10, 20, 30, 40]),
-        (3, 2, &[10, 20, 30, 40, 50]),
-        (8, 1, &[10, 20, 30, 40, 50]),
-    ];
-    for (size, reads, wanted) in table {
-        let mut memory = MemorySource::new(rt.alloc(), &[10, 20, 30, 40, 50], &[])?;
-        let (bytes, failed) = read_all(rt.alloc(), &mut memory, size, reads)?;
-        assert_eq!(rt; bytes.as_slice(), wanted);
-        assert_eq!(rt; failed, 0);
-        let mut steady = SteadySource::new(&[10, 20, 30, 40, 50]);
-        let (bytes, failed) = read_all(rt.alloc(), &mut steady, size, reads)?;
-        assert_eq!(rt; bytes.as_slice(), wanted);
-        assert_eq!(rt; failed, 0);
+    for (size, reads) in [(1, 5), (1, 9), (2, 3), (3, 2), (8, 1)] {
+        reads_alike(&rt, rt.alloc(), size, reads)?;
     }
     Ok(())
 }
@@ -58,47 +59,64 @@ fn reads_in_pieces_of_any_size(rt: HostRuntime) -> Result<(), Fail> {
 #[test]
 fn each_listed_read_fails_and_loses_nothing(rt: HostRuntime) -> Result<(), Fail> {
     for number in 1..=6u64 {
-        let mut source = MemorySource::new(rt.alloc(), &[10, 20, 30, 40, 50], &[number])?;
-        let (bytes, failed) = read_all(rt.alloc(), &mut source, 1, 6)?;
-        assert_eq!(rt; bytes.as_slice(), [10, 20, 30, 40, 50].as_slice());
-        assert_eq!(rt; failed, 1);
+        let mut source = MemorySource::new(rt.alloc(), BYTES, &[number])?;
+        let read = read_all(rt.alloc(), &mut source, 1, 6)?;
+        same(&rt, &read, &[10, 20, 30, 40, 50, 1]);
     }
+    Ok(())
+}
+
+/// The counts and the bytes of a sink whose listed writes fail.
+fn takes(
+    rt: &impl Abort,
+    alloc: Global,
+    fail: &[u64],
+    counts: &[u8],
+    taken: &[u8],
+) -> Result<(), Fail> {
+    let mut sink = MemorySink::new(alloc, fail)?;
+    same(
+        rt,
+        &write_each(&mut sink, &[&[10, 20], &[], &[30], &[40, 50]]),
+        counts,
+    );
+    same(rt, sink.taken(), taken);
     Ok(())
 }
 
 #[test]
 fn each_listed_write_fails_and_takes_nothing(rt: HostRuntime) -> Result<(), Fail> {
-    let pieces: [&[u8]; 4] = [&[10, 20], &[], &[30], &[40, 50]];
-    let table: [(&[u64], [usize; 4], &[u8]); 6] = [
-        (&[], [2, 0, 1, 2], &[10, 20, 30, 40, 50]),
-        (&[1], [0, 0, 1, 2], &[30, 40, 50]),
-        (&[2], [2, 0, 1, 2], &[10, 20, 30, 40, 50]),
-        (&[3], [2, 0, 0, 2], &[10, 20, 40, 50]),
-        (&[4, 1], [0, 0, 1, 0], &[30]),
-        (&[5, 0], [2, 0, 1, 2], &[10, 20, 30, 40, 50]),
-    ];
-    for (fail, counts, taken) in table {
-        let mut sink = MemorySink::new(rt.alloc(), fail)?;
-        assert_eq!(rt; write_each(&mut sink, pieces), counts);
-        assert_eq!(rt; sink.taken(), taken);
-    }
+    let alloc = rt.alloc();
+    takes(&rt, alloc, &[], &[2, 0, 1, 2], BYTES)?;
+    takes(&rt, alloc, &[1], &[0, 0, 1, 2], &BYTES[2..])?;
+    takes(&rt, alloc, &[2], &[2, 0, 1, 2], BYTES)?;
+    takes(&rt, alloc, &[4, 1], &[0, 0, 1, 0], &BYTES[2..3])?;
+    takes(&rt, alloc, &[5, 0], &[2, 0, 1, 2], BYTES)
+}
+
+/// The counts and the bytes of a sink with this room.
+fn takes_within(
+    rt: &impl Abort,
+    alloc: Global,
+    room: usize,
+    counts: &[u8],
+    taken: &[u8],
+) -> Result<(), Fail> {
+    let mut sink = RoomSink::new(alloc, room)?;
+    same(
+        rt,
+        &write_each(&mut sink, &[&[10, 20], &[], &[30, 40], &[50]]),
+        counts,
+    );
+    same(rt, sink.taken(), taken);
     Ok(())
 }
 
 #[test]
 fn takes_nothing_exactly_where_the_room_is_full(rt: HostRuntime) -> Result<(), Fail> {
-    let pieces: [&[u8]; 4] = [&[10, 20], &[], &[30, 40], &[50]];
-    let table: [(usize, [usize; 4], &[u8]); 5] = [
-        (0, [0, 0, 0, 0], &[]),
-        (1, [1, 0, 0, 0], &[10]),
-        (3, [2, 0, 1, 0], &[10, 20, 30]),
-        (4, [2, 0, 2, 0], &[10, 20, 30, 40]),
-        (9, [2, 0, 2, 1], &[10, 20, 30, 40, 50]),
-    ];
-    for (room, counts, taken) in table {
-        let mut sink = RoomSink::new(rt.alloc(), room)?;
-        assert_eq!(rt; write_each(&mut sink, pieces), counts);
-        assert_eq!(rt; sink.taken(), taken);
-    }
-    Ok(())
+    let alloc = rt.alloc();
+    takes_within(&rt, alloc, 0, &[0, 0, 0, 0], &[])?;
+    takes_within(&rt, alloc, 1, &[1, 0, 0, 0], &BYTES[..1])?;
+    takes_within(&rt, alloc, 4, &[2, 0, 2, 0], &BYTES[..4])?;
+    takes_within(&rt, alloc, 9, &[2, 0, 2, 1], BYTES)
 }

@@ -14,7 +14,7 @@ mod touched;
 pub use choice::Choice;
 pub use disk::{Disk, Failed};
 pub use law::{OfFiles, images_of_a_disk, images_of_moments};
-pub use memory::{MemoryDisk, NoRoom};
+pub use memory::MemoryDisk;
 
 #[cfg(test)]
 mod tests;

@@ -18,18 +18,9 @@ use crate::put::put_copied;
 use crate::replay::crash_image;
 use crate::touched::TouchedFile;
 use fault_counts::FaultCounts;
-use std::alloc::{AllocError, Global};
+use nmc_base::NoMemory;
+use std::alloc::Global;
 use std::marker::Model;
-
-/// Want of memory for a disk.
-#[derive(Clone, Copy, Debug, PartialEq, Eq)]
-pub struct NoRoom;
-
-impl From<AllocError> for NoRoom {
-    fn from(_: AllocError) -> Self {
-        NoRoom
-    }
-}
 
 /// A disk in memory. It keeps every call, so that it can say what a crash after any of them may leave.
 ///
@@ -68,7 +59,7 @@ impl Model for MemoryDisk {
 impl MemoryDisk {
     /// Three empty files, all of them settled, and the numbers of the calls that are to fail, counted
     /// from 1.
-    pub fn new(alloc: Global, fail: &[u64]) -> Result<MemoryDisk, NoRoom>
+    pub fn new(alloc: Global, fail: &[u64]) -> Result<MemoryDisk, NoMemory>
         ensures { IfOk result (λ disk. disk ≡ fresh_log ([] ∷ ([] ∷ ([] ∷ []))) fail.now) }
     {
         let counts = FaultCounts::new(alloc, fail)?;
@@ -91,7 +82,7 @@ impl MemoryDisk {
     /// all of them. `choice` says what stands where nothing is settled. No call of the new disk is to fail.
     ///
     /// The error is want of memory.
-    pub fn image(&self, alloc: Global, calls: usize, choice: Choice) -> Result<MemoryDisk, NoRoom>
+    pub fn image(&self, alloc: Global, calls: usize, choice: Choice) -> Result<MemoryDisk, NoMemory>
         ensures fresh { IfOk result (λ disk. disk ≡ fresh_log disk.first []) }
         ensures chosen { IfOk result (λ disk. (file : ℕ) → file < 3
             → IsChosen choice (files_at self.now calls file) (synced_at self.now calls file) (slice_index_or disk.first file [])) }
@@ -110,7 +101,7 @@ impl MemoryDisk {
         calls: usize,
         file: u8,
         choice: Choice,
-    ) -> Result<Vec<u8>, NoRoom>
+    ) -> Result<Vec<u8>, NoMemory>
         requires { file < 3 }
         ensures { IfOk result (λ image. IsChosen choice (files_at self.now calls file) (synced_at self.now calls file) image.items) }
     {
@@ -134,7 +125,7 @@ impl MemoryDisk {
         zero: Vec<u8>,
         one: Vec<u8>,
         two: Vec<u8>,
-    ) -> Result<MemoryDisk, NoRoom>
+    ) -> Result<MemoryDisk, NoMemory>
         ensures { IfOk result (λ disk. disk ≡ fresh_log (zero.items ∷ (one.items ∷ (two.items ∷ []))) []) }
     {
         let counts = FaultCounts::new(alloc, &[])?;

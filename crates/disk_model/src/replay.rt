@@ -9,9 +9,9 @@ ghost use Rattle.disk_model.specs.Replays.{IsReplayed};
 
 use crate::choice::Choice;
 use crate::kept::{FailedEffect, KeptCall, KeptEffect};
-use crate::memory::NoRoom;
 use crate::put::put;
 use crate::touched::TouchedFile;
+use nmc_base::NoMemory;
 use std::alloc::{AllocError, Global};
 
 /// The file after some calls: its bytes, those of its last sync, which of its positions are settled (none
@@ -26,7 +26,7 @@ pub struct Replay {
 
 impl Replay {
     /// A file of these bytes after a sync.
-    fn synced(alloc: Global, bytes: &[u8]) -> Result<Replay, NoRoom>
+    fn synced(alloc: Global, bytes: &[u8]) -> Result<Replay, NoMemory>
         ensures { IfOk result (λ replay. IsReplayed replay bytes.now (synced_file bytes.now)) }
     {
         Ok(Replay {
@@ -38,7 +38,7 @@ impl Replay {
     }
 
     /// The file after one more call to it.
-    fn apply(&mut self, alloc: Global, effect: &KeptEffect) -> Result<(), NoRoom>
+    fn apply(&mut self, alloc: Global, effect: &KeptEffect) -> Result<(), NoMemory>
         ensures { OnOk result ((last : List ℕ) (file : FileState) → IsReplayed self.old last file
             → IsReplayed self.new (left_by (effect_of effect.now) file last) (effect_on (effect_of effect.now) file)) }
     {
@@ -59,7 +59,7 @@ impl Replay {
     }
 
     /// The file after one more call to it that failed.
-    fn apply_failed(&mut self, failed: FailedEffect) -> Result<(), NoRoom>
+    fn apply_failed(&mut self, failed: FailedEffect) -> Result<(), NoMemory>
         ensures { OnOk result ((last : List ℕ) (file : FileState) → IsReplayed self.old last file
             → IsReplayed self.new last (effect_on (failed_effect failed) file)) }
     {
@@ -81,7 +81,7 @@ impl Replay {
     }
 
     /// A write of so many bytes at a position settles none of them, and may make the file longer.
-    fn touch(&mut self, at: u64, count: u64) -> Result<(), NoRoom>
+    fn touch(&mut self, at: u64, count: u64) -> Result<(), NoMemory>
         ensures { OnOk result ((last : List ℕ) (file : FileState) → IsReplayed self.old last file
             → IsReplayed self.new last (effect_on (write_failed at count) file)) }
     {
@@ -91,7 +91,7 @@ impl Replay {
     }
 
     /// The file after these calls, some of which name it.
-    fn after(alloc: Global, first: &[u8], calls: &[KeptCall], file: u8) -> Result<Replay, NoRoom>
+    fn after(alloc: Global, first: &[u8], calls: &[KeptCall], file: u8) -> Result<Replay, NoMemory>
         ensures { IfOk result (λ replay. IsReplayed replay
             (last_sync file first.now (synced_file first.now) (calls_of calls.now))
             (file_from file (synced_file first.now) (calls_of calls.now))) }
@@ -106,7 +106,7 @@ impl Replay {
     }
 
     /// One of the images that a crash now may leave.
-    fn image(self, alloc: Global, choice: Choice) -> Result<Vec<u8>, NoRoom>
+    fn image(self, alloc: Global, choice: Choice) -> Result<Vec<u8>, NoMemory>
         ensures { IfOk result (λ image. (last : List ℕ) (file : FileState) → IsReplayed self last file → IsChosen choice file last image.items) }
     {
         match choice {
@@ -127,7 +127,7 @@ pub fn crash_image(
     is_beside: bool,
     file: u8,
     choice: Choice,
-) -> Result<Vec<u8>, NoRoom>
+) -> Result<Vec<u8>, NoMemory>
     ensures { IfOk result (λ image. IsChosen choice
         (let listed = file_from file (synced_file first.now.items) (calls_of calls.now) in if is_beside then touch (touched_of beside.now) listed else listed)
         (last_sync file first.now.items (synced_file first.now.items) (calls_of calls.now)) image.items) }
@@ -146,7 +146,7 @@ fn filled(
     settled: &[bool],
     count: usize,
     byte: u8,
-) -> Result<Vec<u8>, NoRoom>
+) -> Result<Vec<u8>, NoMemory>
     ensures length { IfOk result (λ image. length image.items ≡ count) }
     ensures bytes { IfOk result (λ image. (p : ℕ) → p < count
         → slice_index image.items p ≡ (if slice_index_or settled.now p false then slice_index bytes.now p else byte)) }
@@ -187,11 +187,11 @@ pub fn unsettle(settled: &mut [bool], at: u64, count: u64)
 }
 
 /// The greatest length after a write that reached so far. The error is a length that no memory holds.
-fn reached(greatest: usize, at: u64, count: u64) -> Result<usize, NoRoom>
+fn reached(greatest: usize, at: u64, count: u64) -> Result<usize, NoMemory>
     ensures { IfOk result (λ n. n ≡ max greatest (at + count)) }
 {
     match at.checked_add(count) {
         Some(end) => Ok(greatest.max(end as usize)),
-        None => Err(NoRoom),
+        None => Err(NoMemory),
     }
 }

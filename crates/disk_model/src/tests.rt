@@ -1,16 +1,15 @@
-use crate::{Choice, Disk, Failed, MemoryDisk, NoRoom};
+ghost use Rattle.std.specs.Prelude.{◌<◌};
+
+use crate::{Choice, Disk, Failed, MemoryDisk};
+use nmc_base::NoMemory;
 use std::alloc::Global;
 use std::process::Abort;
 use std::test::Fail;
 
 /// `hello` in file 1, synced; then `XY` over its end and past it, and the file cut to 3 bytes.
-fn written(alloc: Global, fail: &[u64]) -> Result<MemoryDisk, NoRoom> {
+fn written(alloc: Global, fail: &[u64]) -> Result<MemoryDisk, NoMemory> {
     let mut disk = MemoryDisk::new(alloc, fail)?;
-    if disk.write_at(1, 0, b"hello").is_ok() && disk.sync(1).is_ok() {
-        if disk.write_at(1, 4, b"XY").is_ok() {
-            let _ = disk.cut(1, 3);
-        }
-    }
+    first_failure(&mut disk);
     Ok(disk)
 }
 
@@ -27,7 +26,8 @@ fn shows(disk: &mut MemoryDisk, file: u8, bytes: &[u8]) -> Result<bool, Failed> 
 
 /// The file's bytes are these.
 fn holds(rt: &impl Abort, disk: &mut MemoryDisk, file: u8, bytes: &[u8]) -> Result<(), Fail> {
-    assert!(rt; shows(disk, file, bytes)?);
+    let is_shown = shows(disk, file, bytes)?;
+    assert!(rt; is_shown);
     Ok(())
 }
 
@@ -45,15 +45,17 @@ fn first_failure(disk: &mut MemoryDisk) -> u64 {
     if disk.cut(1, 3).is_err() { 4 } else { 0 }
 }
 
-/// An image of the disk after all calls has these bytes in file 1.
+/// The image of the disk after so many calls has these bytes in the file.
 fn leaves(
     rt: &impl Abort,
     alloc: Global,
     disk: &MemoryDisk,
+    calls: usize,
     choice: Choice,
+    file: u8,
     bytes: &[u8],
 ) -> Result<(), Fail> {
-    holds(rt, &mut disk.image(alloc, 99, choice)?, 1, bytes)
+    holds(rt, &mut disk.image(alloc, calls, choice)?, file, bytes)
 }
 
 /// Which of the calls of `written` failed, or 0, and whether each byte that they touched is filled then. None
@@ -70,67 +72,118 @@ fn with_any_memory(alloc: Global) -> Option<(u64, bool)> {
     Some((failed, shows(&mut image, 1, filled).ok()?))
 }
 
+/// Reads from 2 on give one byte, and from 9 on none.
+fn reads_two(rt: &impl Abort, disk: &mut MemoryDisk) {
+    let mut buf = [7; 4];
+    let count = disk.read(1, 2, &mut buf).ok();
+    assert!(rt; count == Some(1));
+    assert!(rt; buf == [b'l', 7, 7, 7]);
+    let count = disk.read(1, 9, &mut buf).ok();
+    assert!(rt; count == Some(0));
+}
+
 #[test]
 fn reads_what_was_written(rt: HostRuntime) -> Result<(), Fail> {
     let alloc = rt.alloc();
     let mut disk = written(alloc, &[])?;
     holds(&rt, &mut disk, 0, b"")?;
     holds(&rt, &mut disk, 1, b"hel")?;
-    let mut buf = [7; 4];
-    assert_eq!(rt; disk.read(1, 2, &mut buf)?, 1);
-    assert_eq!(rt; buf, [b'l', 7, 7, 7]);
-    assert_eq!(rt; disk.read(1, 9, &mut buf)?, 0);
+    reads_two(&rt, &mut disk);
     Ok(())
 }
+
+/// What file 1 of the disk shows after so many calls: what the last sync left, what reads give, and the rest filled with `.`.
+/// Nothing is in file 2.
+fn shows_images(
+    rt: &impl Abort,
+    alloc: Global,
+    disk: &MemoryDisk,
+    calls: usize,
+    rows: &[&[u8]; 3],
+) -> Result<(), Fail> {
+    let [old, new, fill] = rows;
+    leaves(rt, alloc, disk, calls, Choice::Old, 1, old)?;
+    leaves(rt, alloc, disk, calls, Choice::New, 1, new)?;
+    leaves(rt, alloc, disk, calls, Choice::Fill(b'.'), 1, fill)?;
+    leaves(rt, alloc, disk, calls, Choice::New, 2, b"")
+}
+
+/// What each call of `written` leaves.
+static IMAGES: [[&[u8]; 3]; 6] = [
+    [b"", b"", b""],
+    [b"", b"hello", b"....."],
+    [b"hello", b"hello", b"hello"],
+    [b"hello", b"hellXY", b"hell.."],
+    [b"hello", b"hel", b"hel..."],
+    [b"hello", b"hel", b"hel..."],
+];
 
 #[test]
 fn images_after_each_call(rt: HostRuntime) -> Result<(), Fail> {
-    let alloc = rt.alloc();
-    let disk = written(alloc, &[])?;
-    // After so many calls: what the last sync left, what reads give, and the rest filled with `.`.
-    let images: [(&[u8], &[u8], &[u8]); 6] = [
-        (b"", b"", b""),
-        (b"", b"hello", b"....."),
-        (b"hello", b"hello", b"hello"),
-        (b"hello", b"hellXY", b"hell.."),
-        (b"hello", b"hel", b"hel..."),
-        (b"hello", b"hel", b"hel..."),
-    ];
-    for (calls, (old, new, fill)) in images.iter().enumerate() {
-        holds(&rt, &mut disk.image(alloc, calls, Choice::Old)?, 1, old)?;
-        holds(&rt, &mut disk.image(alloc, calls, Choice::New)?, 1, new)?;
-        holds(
-            &rt,
-            &mut disk.image(alloc, calls, Choice::Fill(b'.'))?,
-            1,
-            fill,
-        )?;
-        holds(&rt, &mut disk.image(alloc, calls, Choice::New)?, 2, b"")?;
+    let disk = written(rt.alloc(), &[])?;
+    for (calls, rows) in IMAGES.iter().enumerate() {
+        shows_images(&rt, rt.alloc(), &disk, calls, rows)?;
     }
     Ok(())
 }
 
+/// Where this call of `written` fails, reads give `new` then, and the fill is `fill`.
+fn fails_at(
+    rt: &impl Abort,
+    alloc: Global,
+    number: u64,
+    new: &[u8],
+    fill: &[u8],
+) -> Result<(), Fail> {
+    let mut disk = written(alloc, &[number])?;
+    leaves(rt, alloc, &disk, 9, Choice::New, 1, new)?;
+    leaves(rt, alloc, &disk, 9, Choice::Fill(b'.'), 1, fill)?;
+    holds(rt, &mut disk, 1, new)
+}
+
+/// The number of the call that fails, how far the calls come, what reads give then, and the fill.
+static FAILURES: [(u64, &[u8], &[u8]); 4] = [
+    (1, b"", b"....."),
+    (2, b"hello", b"....."),
+    (3, b"hello", b"hell.."),
+    (4, b"hellXY", b"hel..."),
+];
+
 #[test]
 fn listed_calls_fail_and_touch_what_they_name(rt: HostRuntime) -> Result<(), Fail> {
-    let alloc = rt.alloc();
-    // The number of the call that fails, how far the calls come, what reads give then, and the fill.
-    let cases: [(u64, &[u8], &[u8]); 4] = [
-        (1, b"", b"....."),
-        (2, b"hello", b"....."),
-        (3, b"hello", b"hell.."),
-        (4, b"hellXY", b"hel..."),
-    ];
-    for (number, new, fill) in cases {
-        let mut disk = written(alloc, &[number])?;
-        holds(&rt, &mut disk.image(alloc, 9, Choice::New)?, 1, new)?;
-        holds(&rt, &mut disk.image(alloc, 9, Choice::Fill(b'.'))?, 1, fill)?;
-        holds(&rt, &mut disk, 1, new)?;
+    for (number, new, fill) in &FAILURES {
+        fails_at(&rt, rt.alloc(), *number, new, fill)?;
     }
-    let mut disk = MemoryDisk::new(alloc, &[2, 3])?;
-    assert_eq!(rt; disk.len(0), Ok(0));
-    assert_eq!(rt; disk.len(0), Err(Failed));
-    assert_eq!(rt; disk.read(0, 0, &mut [0; 1]), Err(Failed));
-    assert_eq!(rt; disk.sync(0), Ok(()));
+    Ok(())
+}
+
+fn tells_len(rt: &impl Abort, disk: &mut MemoryDisk, file: u8, len: Option<u64>)
+    requires { file < 3 }
+{
+    let told = disk.len(file).ok();
+    assert!(rt; told == len);
+}
+
+fn syncs(rt: &impl Abort, disk: &mut MemoryDisk, file: u8, done: bool)
+    requires { file < 3 }
+{
+    let is_done = disk.sync(file).is_ok();
+    assert!(rt; is_done == done);
+}
+
+fn writes(rt: &impl Abort, disk: &mut MemoryDisk, bytes: &[u8], done: bool) {
+    let is_done = disk.write_at(1, 0, bytes).is_ok();
+    assert!(rt; is_done == done);
+}
+
+#[test]
+fn each_kind_of_call_is_counted(rt: HostRuntime) -> Result<(), Fail> {
+    let mut disk = MemoryDisk::new(rt.alloc(), &[2, 3])?;
+    tells_len(&rt, &mut disk, 0, Some(0));
+    tells_len(&rt, &mut disk, 0, None);
+    let read = disk.read(0, 0, &mut [0; 1]).is_ok();
+    assert!(rt; !read);
+    syncs(&rt, &mut disk, 0, true);
     Ok(())
 }
 
@@ -149,28 +202,36 @@ fn with_memory_no_call_fails(rt: HostRuntime) {
     assert_eq!(rt; with_any_memory(rt.alloc()), Some((0, true)));
 }
 
+fn cut_fails(rt: &impl Abort, disk: &mut MemoryDisk) {
+    let is_done = disk.cut(1, 0).is_ok();
+    assert!(rt; !is_done);
+}
+
+/// Calls on a full list fail, and the image's fill covers what each of them named.
+fn touches_what_fails(rt: &impl Abort, alloc: Global, disk: &mut MemoryDisk) -> Result<(), Fail> {
+    writes(rt, disk, b"XY", false);
+    leaves(rt, alloc, disk, 99, Choice::Fill(b'.'), 1, b"..llo")?;
+    cut_fails(rt, disk);
+    leaves(rt, alloc, disk, 99, Choice::Fill(b'.'), 1, b".....")?;
+    writes(rt, disk, b"seven...", false);
+    syncs(rt, disk, 1, false);
+    tells_len(rt, disk, 1, None);
+    Ok(())
+}
+
+fn keeps_what_was_synced(rt: &impl Abort, alloc: Global, disk: &MemoryDisk) -> Result<(), Fail> {
+    leaves(rt, alloc, disk, 99, Choice::Old, 1, b"hello")?;
+    leaves(rt, alloc, disk, 99, Choice::New, 1, b"hello")?;
+    leaves(rt, alloc, disk, 99, Choice::Fill(b'.'), 1, b"........")?;
+    leaves(rt, alloc, disk, 2, Choice::Fill(b'.'), 1, b"hello")
+}
+
 #[test]
 fn a_full_list_keeps_what_calls_touch(rt: HostRuntime) -> Result<(), Fail> {
-    let alloc = rt.alloc();
-    let mut disk = MemoryDisk::new(alloc, &[5])?;
-    assert_eq!(rt; disk.write_at(1, 0, b"hello"), Ok(()));
-    assert_eq!(rt; disk.sync(1), Ok(()));
+    let mut disk = MemoryDisk::new(rt.alloc(), &[5])?;
+    writes(&rt, &mut disk, b"hello", true);
+    syncs(&rt, &mut disk, 1, true);
     disk.fill_list();
-    assert_eq!(rt; disk.write_at(1, 0, b"XY"), Err(Failed));
-    leaves(&rt, alloc, &disk, Choice::Fill(b'.'), b"..llo")?;
-    assert_eq!(rt; disk.cut(1, 0), Err(Failed));
-    leaves(&rt, alloc, &disk, Choice::Fill(b'.'), b".....")?;
-    assert_eq!(rt; disk.write_at(1, 0, b"seven..."), Err(Failed));
-    assert_eq!(rt; disk.sync(1), Err(Failed));
-    assert_eq!(rt; disk.len(1), Err(Failed));
-    leaves(&rt, alloc, &disk, Choice::Old, b"hello")?;
-    leaves(&rt, alloc, &disk, Choice::New, b"hello")?;
-    leaves(&rt, alloc, &disk, Choice::Fill(b'.'), b"........")?;
-    holds(
-        &rt,
-        &mut disk.image(alloc, 2, Choice::Fill(b'.'))?,
-        1,
-        b"hello",
-    )?;
-    Ok(())
+    touches_what_fails(&rt, rt.alloc(), &mut disk)?;
+    keeps_what_was_synced(&rt, rt.alloc(), &disk)
 }

@@ -1,11 +1,11 @@
-ghost use Rattle.std.specs.Prelude.{◌≡◌, ◌+◌, ◌-◌, ◌^◌, ◌<◌, ◌≤◌, ◌++◌, ℕ, List, true, false, length, take, IsTrue, OnOk, OnErr, IfOk, IsErrOf, IsFalse};
+ghost use Rattle.std.specs.Prelude.{◌≡◌, ◌+◌, ◌-◌, ◌^◌, ◌<◌, ◌≤◌, ◌∷◌, ◌++◌, [], ℕ, List, true, false, length, take, IsTrue, OnOk, OnErr, IfOk, IsErrOf, IsFalse};
 ghost use Rattle.fault_counts.specs.Faults.{HasCause, NeverFell, Rose};
-ghost use Rattle.disk_model.specs.FileState.{IsFileImage, IsSettled};
+ghost use Rattle.disk_model.specs.FileState.{IsFileImage, IsSettled, put};
 ghost use Rattle.disk_model.specs.Moments.{EachMoment};
 ghost use Rattle.disk_model.specs.Changes.{Changes, AfterWrite, Unchanged};
 ghost use Rattle.disk_model.specs.Reads.{seen};
 ghost use Rattle.gate_journal.specs.Gate.{ClosedAfter, record_text};
-ghost use Rattle.gate_journal.specs.Stand.{IsAtGate, IsReadable, text_before};
+ghost use Rattle.gate_journal.specs.Stand.{IsAtGate, IsReadable, text_before, with_record};
 ghost use Rattle.gate_journal.specs.Answers.{OpenAnswer, NextAnswer};
 ghost use Rattle.gate_journal.specs.Writes.{IsBeforeOrAfter};
 
@@ -71,6 +71,7 @@ impl Journal {
         ensures ok { IfOk result (λ journal. journal ≡ record { file = file; length = at + 1; limit = limit; reached = true }) }
         ensures at_gate { IsTrue D.tells → IfOk result (λ journal. IsAtGate journal ((D.moments disk.new).now file)) }
         ensures text { IsTrue D.tells → OnOk result (take at (seen (D.moments disk.new) file) ≡ take at (seen (D.moments disk.old) file)) }
+        ensures whole { IsTrue D.tells → OnOk result (seen (D.moments disk.new) file ≡ put (seen (D.moments disk.old) file) at (0 ∷ [])) }
         ensures any_moment { IsTrue D.tells → EachMoment (Changes file (AfterWrite at 1) (D.moments disk.old).now) (D.moments disk.old) (D.moments disk.new) }
         ensures cause { HasCause (D.faults disk.old) (D.faults disk.new) result }
     {
@@ -96,6 +97,8 @@ impl Journal {
         ensures at_gate { IsTrue D.tells → OnOk result (IsAtGate self.new ((D.moments disk.new).now self.new.file)) }
         ensures text { IsTrue D.tells → OnOk result (text_before self.new (seen (D.moments disk.new) self.new.file)
             ≡ text_before self.old (seen (D.moments disk.old) self.old.file) ++ record_text (head.now ++ body.now)) }
+        // the file is the old one, with the record and a closed gate put behind its gate, and its gate opened
+        ensures whole { IsTrue D.tells → OnOk result (seen (D.moments disk.new) self.old.file ≡ with_record self.old (head.now ++ body.now) (seen (D.moments disk.old) self.old.file)) }
         ensures any_moment { IsTrue D.tells → (let before = text_before self.old (seen (D.moments disk.old) self.old.file) in
             EachMoment (IsBeforeOrAfter self.old.file before (before ++ record_text (head.now ++ body.now)) (D.moments disk.old).now)
             (D.moments disk.old) (D.moments disk.new)) }

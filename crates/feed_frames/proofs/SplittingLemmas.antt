@@ -1,0 +1,171 @@
+-- Bytes are whole frames and a rest, in one way.
+use Rattle.std.proofs.Common.{◌≡◌, ◌⊎◌, ℕ, zero, suc, ◌+◌, ◌<◌, ◌≤◌, ◌^◌, List, [], ◌∷◌, ◌++◌, length, get_or, take, drop, refl, sym, ap, subst, ◌∙◌, append_assoc, length-append, arith, inl, inr}
+use Rattle.std.specs.List.{AllByRecursion}
+use Rattle.std.specs.Int.{w32, to_le_bytes, from_le_bytes}
+use Rattle.std.proofs.lemmas.Nat.{from_le_bytes-to_le_bytes_4}
+use Rattle.std.proofs.lemmas.List.{flat_map_more, append-nil, take_at, drop_at}
+use Rattle.feed_frames.specs.Kinds.{IsKind, IsLength}
+use Rattle.feed_frames.specs.Frames.{Frame, frame_text, frames_text, IsFramed, IsBadFrame, unknown_kind, wrong_length, IsPartialFrame, nothing, header_cut, payload_cut, Splits, IsRest, bad, partial}
+use Rattle.feed_frames.specs.Front.{BeginsWith}
+use Rattle.feed_frames.proofs.KindLemmas.{known, short}
+
+-- ---- two lists that are each a front and a rest
+
+pub record SameParts {A : Type 0} (a x b y : List A) : Type 0 where
+  pub front : a ≡ b
+  pub rest : x ≡ y
+
+pub same_parts : {A : Type 0} (a x b y : List A) → length a ≡ length b → a ++ x ≡ b ++ y → SameParts a x b y
+same_parts a x b y len e = record {
+  front = sym (take_at a x (length b) len) ∙ ap (take (length b)) e ∙ take_at b y (length b) refl;
+  rest = sym (drop_at a x (length b) len) ∙ ap (drop (length b)) e ∙ drop_at b y (length b) refl;
+}
+
+same_number : (m n : ℕ) → m < 2 ^ 32 → n < 2 ^ 32 → to_le_bytes w32 m ≡ to_le_bytes w32 n → m ≡ n
+same_number m n fm fn e = sym (from_le_bytes-to_le_bytes_4 m fm) ∙ ap (from_le_bytes w32) e ∙ from_le_bytes-to_le_bytes_4 n fn
+
+-- ---- a kind and a length, and what is behind them
+
+abbrev pub head_and : ℕ → ℕ → List ℕ → List ℕ
+head_and kind n after = kind ∷ (to_le_bytes w32 n ++ after)
+
+-- an allowed length fits the four bytes
+fits_four : (kind n : ℕ) → IsLength kind n → n < 2 ^ 32
+fits_four kind n h = omega (arith, short kind n h)
+
+-- a kind and a length tell themselves and what is behind them
+record SameHead (kind n : ℕ) (after : List ℕ) (own m : ℕ) (behind : List ℕ) : Type 0 where
+  kind_is : kind ≡ own
+  length_is : n ≡ m
+  after_is : after ≡ behind
+
+same_head : (kind n : ℕ) (after : List ℕ) (own m : ℕ) (behind : List ℕ) → n < 2 ^ 32 → m < 2 ^ 32 → head_and kind n after ≡ head_and own m behind → SameHead kind n after own m behind
+same_head kind n after own m behind fn fm e =
+    let head : kind ≡ own = cc in
+    let tail : to_le_bytes w32 n ++ after ≡ to_le_bytes w32 m ++ behind = cc in
+    let parts = same_parts (to_le_bytes w32 n) after (to_le_bytes w32 m) behind refl tail in
+    record { kind_is = head; length_is = same_number n m fn fm parts.front; after_is = parts.rest }
+
+head_and_more : (kind n : ℕ) (after more : List ℕ) → head_and kind n after ++ more ≡ head_and kind n (after ++ more)
+head_and_more kind n after more = ap (λ (q : List ℕ). kind ∷ q) (append_assoc (to_le_bytes w32 n) after more)
+
+-- a frame and what follows it, as one list
+pub frame_then : (frame : Frame) (more : List ℕ) → frame_text frame ++ more ≡ head_and frame.kind (length frame.payload) (frame.payload ++ more)
+frame_then frame more = head_and_more frame.kind (length frame.payload) frame.payload more
+
+pub length-frame_text : (frame : Frame) → length (frame_text frame) ≡ 5 + length frame.payload
+length-frame_text frame = omega (arith, length-append (to_le_bytes w32 (length frame.payload)) frame.payload)
+
+-- ---- what is bad begins no frame, however it goes on
+
+pub bad_then : (p more : List ℕ) → IsBadFrame p → IsBadFrame (p ++ more)
+bad_then p more (unknown_kind kind rest p-is odd) = unknown_kind kind (rest ++ more) (ap (λ (q : List ℕ). q ++ more) p-is) odd
+bad_then p more (wrong_length kind n rest p-is fits is-kind odd) = wrong_length kind n (rest ++ more) (ap (λ (q : List ℕ). q ++ more) p-is ∙ head_and_more kind n rest more) fits is-kind odd
+
+-- a kind that is read and a length that it allows aren't bad
+not_bad : (p : List ℕ) (own m : ℕ) (behind : List ℕ) → IsBadFrame p → IsLength own m → p ≡ head_and own m behind → ⊥
+not_bad p own m behind (unknown_kind kind rest p-is odd) fits e =
+    let same : kind ∷ rest ≡ head_and own m behind = sym p-is ∙ e in
+    let head : own ≡ kind = cc in
+    odd (subst IsKind head (known own m fits))
+not_bad p own m behind (wrong_length kind n rest p-is small is-kind odd) fits e =
+    let f = same_head kind n rest own m behind small (fits_four own m fits) (sym p-is ∙ e) in
+    odd (subst (λ (k : ℕ). IsLength k n) (sym f.kind_is) (subst (IsLength own) (sym f.length_is) fits))
+
+kind_is_read : (p : List ℕ) (kind : ℕ) (rest : List ℕ) → IsBadFrame p → p ≡ kind ∷ rest → IsKind kind → length rest < 4 → ⊥
+kind_is_read p kind rest (unknown_kind own behind p-is odd) e is-kind cut =
+    let same : own ∷ behind ≡ kind ∷ rest = sym p-is ∙ e in
+    let head : kind ≡ own = cc in
+    odd (subst IsKind head is-kind)
+kind_is_read p kind rest (wrong_length own n behind p-is small own-is odd) e is-kind cut =
+    omega (arith, ap length (sym p-is ∙ e), length-append (to_le_bytes w32 n) behind)
+
+-- what is bad is no part of a frame
+pub bad_or_partial : (p : List ℕ) → IsBadFrame p → IsPartialFrame p → ⊥
+bad_or_partial p (unknown_kind kind rest p-is odd) (nothing e) = omega (arith, ap length (sym p-is ∙ e))
+bad_or_partial p (wrong_length kind n rest p-is small is-kind odd) (nothing e) = omega (arith, ap length (sym p-is ∙ e))
+bad_or_partial p b (header_cut kind rest e is-kind cut) = kind_is_read p kind rest b e is-kind cut
+bad_or_partial p b (payload_cut kind n part e is-kind allowed cut) = not_bad p kind n part b allowed e
+
+bad_begins_none : (p : List ℕ) (frame : Frame) (more : List ℕ) → IsBadFrame p → IsFramed frame → p ≡ frame_text frame ++ more → ⊥
+bad_begins_none p frame more b fits e = not_bad p frame.kind (length frame.payload) (frame.payload ++ more) b fits (e ∙ frame_then frame more)
+
+-- what is partial is shorter than the frame that it begins
+pub partial_is_shorter : (p x : List ℕ) (frame : Frame) (more : List ℕ) → IsPartialFrame p → IsFramed frame → p ++ x ≡ frame_text frame ++ more → length p < length (frame_text frame)
+partial_is_shorter p x frame more (nothing p-is) fits e = omega (arith, ap length p-is, length-frame_text frame)
+partial_is_shorter p x frame more (header_cut kind rest p-is is-kind cut) fits e = omega (arith, ap length p-is, length-frame_text frame)
+partial_is_shorter p x frame more (payload_cut kind n part p-is is-kind allowed cut) fits e =
+    let same : head_and kind n (part ++ x) ≡ head_and frame.kind (length frame.payload) (frame.payload ++ more) =
+    sym (head_and_more kind n part x) ∙ ap (λ (q : List ℕ). q ++ x) (sym p-is) ∙ e ∙ frame_then frame more in
+    let f = same_head kind n (part ++ x) frame.kind (length frame.payload) (frame.payload ++ more) (fits_four kind n allowed) (fits_four frame.kind (length frame.payload) fits) same in
+    omega (arith, ap length p-is, length-frame_text frame, length-append (to_le_bytes w32 n) part, f.length_is)
+
+pub rest_begins_none : (p : List ℕ) (frame : Frame) (more : List ℕ) → IsRest p → IsFramed frame → p ≡ frame_text frame ++ more → ⊥
+rest_begins_none p frame more (bad b) fits e = bad_begins_none p frame more b fits e
+rest_begins_none p frame more (partial h) fits e =
+    let shorter = partial_is_shorter p [] frame more h fits (append-nil p ∙ e) in
+    omega (arith, ap length e, length-append (frame_text frame) more)
+
+-- what begins with a frame is no part of one
+pub whole_or_partial : (p : List ℕ) (frame : Frame) → (b : BeginsWith p frame) → IsPartialFrame p → ⊥
+whole_or_partial p frame b h = rest_begins_none p frame b.rest (partial h) b.framed b.whole
+
+-- ---- one splitting at most
+
+record SameFrames (a : Frame) (x : List ℕ) (b : Frame) (y : List ℕ) : Type 0 where
+  frame : a ≡ b
+  rest : x ≡ y
+
+abbrev with_parts : ℕ → List ℕ → Frame
+with_parts kind payload = record { kind = kind; payload = payload }
+
+same_frame : (a b : Frame) → a.kind ≡ b.kind → a.payload ≡ b.payload → a ≡ b
+same_frame a b kinds payloads = ap (λ (k : ℕ). with_parts k a.payload) kinds ∙ ap (λ (p : List ℕ). with_parts b.kind p) payloads
+
+same_frames : (a : Frame) (x : List ℕ) (b : Frame) (y : List ℕ) → IsFramed a → IsFramed b → frame_text a ++ x ≡ frame_text b ++ y → SameFrames a x b y
+same_frames a x b y fits-a fits-b e =
+    let f = same_head a.kind (length a.payload) (a.payload ++ x) b.kind (length b.payload) (b.payload ++ y) (fits_four a.kind (length a.payload) fits-a) (fits_four b.kind (length b.payload) fits-b) (sym (frame_then a x) ∙ e ∙ frame_then b y) in
+    let parts = same_parts a.payload x b.payload y f.length_is f.after_is in
+    record { frame = same_frame a b f.kind_is parts.front; rest = parts.rest }
+
+pub record SameSplitting (es : List Frame) (r : List ℕ) (fs : List Frame) (s : List ℕ) : Type 0 where
+  pub frames : es ≡ fs
+  pub rest : r ≡ s
+
+pub same_splitting : (es : List Frame) (r : List ℕ) (fs : List Frame) (s : List ℕ) → AllByRecursion IsFramed es → AllByRecursion IsFramed fs → IsRest r → IsRest s
+    → frames_text es ++ r ≡ frames_text fs ++ s → SameSplitting es r fs s
+same_splitting [] r [] s fe ff hr hs e = record { frames = refl; rest = e }
+same_splitting [] r (f ∷ fs) s fe ff hr hs e =
+    absurd (rest_begins_none r f (frames_text fs ++ s) hr ff.0 (e ∙ append_assoc (frame_text f) (frames_text fs) s))
+same_splitting (x ∷ es) r [] s fe ff hr hs e =
+    absurd (rest_begins_none s x (frames_text es ++ r) hs fe.0 (sym e ∙ append_assoc (frame_text x) (frames_text es) r))
+same_splitting (x ∷ es) r (f ∷ fs) s fe ff hr hs e =
+    let one = same_frames x (frames_text es ++ r) f (frames_text fs ++ s) fe.0 ff.0 (sym (append_assoc (frame_text x) (frames_text es) r) ∙ e ∙ append_assoc (frame_text f) (frames_text fs) s) in
+    let others = same_splitting es r fs s fe.1 ff.1 hr hs one.rest in
+    record { frames = cc (one.frame, others.frames); rest = others.rest }
+
+pub one_splitting : (bytes : List ℕ) (frames others : List Frame) (rest left : List ℕ) → Splits bytes frames rest → IsRest rest → Splits bytes others left → IsRest left
+    → SameSplitting frames rest others left
+one_splitting bytes frames others rest left s is-rest t is-left = same_splitting frames rest others left s.framed t.framed is-rest is-left (sym s.whole ∙ t.whole)
+
+-- ---- a stream that grows, and a rest that loses its first frame
+
+pub splits_nothing : Splits [] [] []
+splits_nothing = record { whole = refl; framed = tt }
+
+pub splits_more : (bytes : List ℕ) (frames : List Frame) (rest piece : List ℕ) → Splits bytes frames rest → Splits (bytes ++ piece) frames (rest ++ piece)
+splits_more bytes frames rest piece s = record {
+  whole = ap (λ (q : List ℕ). q ++ piece) s.whole ∙ append_assoc (frames_text frames) rest piece;
+  framed = s.framed;
+}
+
+all_push : {A : Type 0} (P : A → Type 0) (xs : List A) (x : A) → AllByRecursion P xs → P x → AllByRecursion P (xs ++ x ∷ [])
+all_push P [] x all one = (one, tt)
+all_push P (y ∷ xs) x all one = (all.0, all_push P xs x all.1 one)
+
+pub splits_push : (bytes : List ℕ) (frames : List Frame) (frame : Frame) (rest : List ℕ) → IsFramed frame
+    → Splits bytes frames (frame_text frame ++ rest) → Splits bytes (frames ++ frame ∷ []) rest
+splits_push bytes frames frame rest fits s = record {
+  whole = s.whole ∙ sym (append_assoc (frames_text frames) (frame_text frame) rest) ∙ ap (λ (q : List ℕ). q ++ rest) (flat_map_more frame_text [] frames frame);
+  framed = all_push IsFramed frames frame s.framed fits;
+}

@@ -1,0 +1,15 @@
+use Rattle.feed_frames.specs.Law.{joined}
+use Rattle.feed_frames.proofs.SplittingLemmas.{one_splitting}
+use Rattle.feed_frames.proofs.FedLemmas.{split_of, offset_of}
+use Rattle.feed_frames.proofs.law.any_pieces.Goals as goal
+
+pub returns-clause-split : goal.returns-clause-split
+returns-clause-split c = split_of
+
+pub returns-clause-offset : goal.returns-clause-offset
+returns-clause-offset c = offset_of
+
+pub returns-clause-all_frames : goal.returns-clause-all_frames
+returns-clause-all_frames c = λ pieces frames others feed rest came is-rest s is-left.
+    let same = one_splitting (joined pieces) frames others feed.left rest (split_of pieces frames feed came) is-rest s is-left in
+    (same.frames, same.rest)

@@ -1,0 +1,42 @@
+-- Frames: a kind byte, a length of 4 bytes, low byte first, and the payload.
+use Rattle.std.specs.Prelude.{◌≡◌, ℕ, ◌<◌, ◌^◌, List, [], ◌∷◌, ◌++◌, length}
+use Rattle.std.specs.List.{flat_map, AllByRecursion}
+use Rattle.std.specs.Int.{w32, to_le_bytes}
+use Rattle.feed_frames.specs.Kinds.{IsKind, IsLength}
+
+pub record Frame : Type 0 where
+  pub kind : ℕ
+  pub payload : List ℕ
+
+abbrev pub frame_text : Frame → List ℕ
+frame_text frame = frame.kind ∷ (to_le_bytes w32 (length frame.payload) ++ frame.payload)
+
+abbrev pub frames_text : List Frame → List ℕ
+frames_text frames = flat_map frame_text frames
+
+-- the frame is of a kind that is read, and its payload has a length that the kind allows
+abbrev pub IsFramed : Frame → Type 0
+IsFramed frame = IsLength frame.kind (length frame.payload)
+
+-- the first byte is no kind, or a kind and a length that it can't have stand there
+pub data IsBadFrame (bytes : List ℕ) : Type 0 where
+  unknown_kind : (kind : ℕ) (rest : List ℕ) → bytes ≡ kind ∷ rest → ¬ (IsKind kind) → IsBadFrame bytes
+  wrong_length : (kind n : ℕ) (rest : List ℕ) → bytes ≡ kind ∷ (to_le_bytes w32 n ++ rest) → n < 2 ^ 32
+      → IsKind kind → ¬ (IsLength kind n) → IsBadFrame bytes
+
+-- less than a whole frame: nothing, a kind with a part of the length, or a part of the payload
+pub data IsPartialFrame (bytes : List ℕ) : Type 0 where
+  nothing : bytes ≡ [] → IsPartialFrame bytes
+  header_cut : (kind : ℕ) (rest : List ℕ) → bytes ≡ kind ∷ rest → IsKind kind → length rest < 4 → IsPartialFrame bytes
+  payload_cut : (kind n : ℕ) (payload : List ℕ) → bytes ≡ kind ∷ (to_le_bytes w32 n ++ payload)
+      → IsKind kind → IsLength kind n → length payload < n → IsPartialFrame bytes
+
+-- whole frames, one after the other, and what is left
+pub record Splits (bytes : List ℕ) (frames : List Frame) (rest : List ℕ) : Type 0 where
+  pub whole : bytes ≡ frames_text frames ++ rest
+  pub framed : AllByRecursion IsFramed frames
+
+-- what is left is no whole frame
+pub data IsRest (bytes : List ℕ) : Type 0 where
+  bad : IsBadFrame bytes → IsRest bytes
+  partial : IsPartialFrame bytes → IsRest bytes

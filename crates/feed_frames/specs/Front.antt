@@ -1,0 +1,21 @@
+-- What stands at the front of the bytes of a stream.
+use Rattle.std.specs.Prelude.{◌≡◌, ℕ, List, ◌++◌}
+use Rattle.feed_frames.specs.Frames as frames
+use Rattle.feed_frames.specs.Frames.{frame_text, IsFramed, IsBadFrame, IsPartialFrame}
+use Rattle.feed_frames.specs.declared.frame.Frame.{Frame}
+use Rattle.feed_frames.specs.declared.front.Front.{Front}
+use Rattle.feed_frames.specs.declared.front.Front.TheVariants.{Whole, Partial, Bad}
+
+abbrev pub frame_of : Frame → frames.Frame
+frame_of frame = record { kind = frame.kind; payload = frame.payload.now }
+
+-- the bytes begin with the frame
+pub record BeginsWith (bytes : List ℕ) (frame : frames.Frame) : Type 0 where
+  pub rest : List ℕ
+  pub whole : bytes ≡ frame_text frame ++ rest
+  pub framed : IsFramed frame
+
+abbrev pub IsFront : List ℕ → Front → Type 0
+IsFront bytes (Whole frame) = BeginsWith bytes (frame_of frame)
+IsFront bytes Partial = IsPartialFrame bytes
+IsFront bytes Bad = IsBadFrame bytes

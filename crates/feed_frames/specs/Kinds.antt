@@ -1,0 +1,34 @@
+-- The kinds of frames that are read, with the lengths that their payloads may have.
+use Rattle.std.specs.Prelude.{◌≡◌, ◌⊎◌, ℕ, ◌≤◌, Bool, ◌==◌, ◌&&◌, nat_le, List, [], ◌∷◌}
+use Rattle.feed_frames.specs.declared.kinds.Kind.{Kind}
+use Rattle.feed_frames.specs.declared.kinds.TheConstants.{KINDS}
+
+-- one of the rows is so
+abbrev pub HasRow : (Kind → Type 0) → List Kind → Type 0
+HasRow IsSo [] = ⊥
+HasRow IsSo (row ∷ rows) = IsSo row ⊎ HasRow IsSo rows
+
+-- the row is of this kind
+abbrev pub IsOfKind : ℕ → Kind → Type 0
+IsOfKind kind row = kind ≡ row.byte
+
+-- the row is of this kind, and allows a payload of this length
+pub record Allows (kind n : ℕ) (row : Kind) : Type 0 where
+  pub of_kind : kind ≡ row.byte
+  pub no_shorter : row.least ≤ n
+  pub no_longer : n ≤ row.greatest
+
+-- the kinds that are read
+abbrev pub IsKind : ℕ → Type 0
+IsKind kind = HasRow (IsOfKind kind) KINDS
+
+-- the lengths that a kind's payload may have
+abbrev pub IsLength : ℕ → ℕ → Type 0
+IsLength kind n = HasRow (Allows kind n) KINDS
+
+-- the two as tests
+abbrev pub is_of_kind : ℕ → Kind → Bool
+is_of_kind kind row = row.byte == kind
+
+abbrev pub allows : ℕ → ℕ → Kind → Bool
+allows kind n row = (row.byte == kind) && (nat_le row.least n && nat_le n row.greatest)

@@ -1,0 +1,28 @@
+use nmc_base::LONGEST_BLOCK;
+
+/// A kind of frame that is read, and the least and the greatest length of its payload.
+#[derive(Clone, Copy, PartialEq, Eq, Debug)]
+pub struct Kind {
+    pub byte: u8,
+    pub least: usize,
+    pub greatest: usize,
+}
+
+/// No kind of frame has a longer payload.
+pub const LONGEST_PAYLOAD: usize = LONGEST_BLOCK;
+
+/// The kinds of frames that are read. A kind that is to be read too is one row more.
+pub const KINDS: [Kind; 2] = [
+    // a block that is to join the chain
+    Kind {
+        byte: 1,
+        least: 0,
+        greatest: LONGEST_BLOCK,
+    },
+    // the hash of the newest block, which is to leave it
+    Kind {
+        byte: 2,
+        least: 32,
+        greatest: 32,
+    },
+];

@@ -1,0 +1,190 @@
+-- Frames that are answered one after the other.
+use Rattle.std.proofs.Common.{◌≡◌, ℕ, ◌+◌, ◌<◌, List, [], ◌∷◌, ◌++◌, length, refl, sym, ap, subst, ◌∙◌, append_assoc, length-append, arith}
+use Rattle.std.proofs.lemmas.List.{append-nil, flat_map_more}
+use Rattle.fault_counts.proofs.FaultLemmas.{NeverFell_refl, NeverFell_trans}
+use Rattle.byte_io.specs.Sink.{SinkSeen}
+use Rattle.byte_io.proofs.SinkLemmas.{Appends_nothing, Appends_append}
+use Rattle.feed_frames.specs.Frames.{Frame, frame_text, Splits, IsBadFrame, IsPartialFrame, nothing}
+use Rattle.feed_frames.specs.Feed.{Feed, Takes, Waits, Sticks}
+use Rattle.feed_frames.specs.Replies.{Reply, reply_text}
+use Rattle.feed_frames.proofs.SplittingLemmas.{partial_is_shorter, splits_push, length-frame_text}
+use Rattle.frame_loop.specs.Turns.{GoesOn, GoesOut}
+use Rattle.frame_loop.specs.Delivery.{TookAll, TookPart}
+use Rattle.frame_loop.specs.Answering.{SoFar, Interrupted, BrokenOff, Desk, desk, fed_to, IsBehind, Advances, none, some, Leads, Continues, HaltsAtPart, HaltsAtBad, Breaks, EndsThere, AnswersOne, AnswersAll}
+use Rattle.frame_loop.specs.declared.answering.Halted.{Halted}
+use Rattle.frame_loop.specs.declared.answering.Halted.TheVariants.{Partial, Bad, Undelivered, Ended}
+use Rattle.frame_loop.proofs.DeliveryLemmas.{since}
+
+-- no frame was answered
+pub stays : {Start X : Type 0} (Reached : Start → List Frame → List Reply → X → Type 0) (old : Desk X) → Continues Reached old old
+stays Reached old = record {
+  later = NeverFell_refl old.sink.faults;
+  fed = refl;
+  advances = none refl;
+  leads = λ start read written s. record {
+    more = [];
+    took = Appends_nothing old.sink.taken;
+    then = subst (λ (w : List ℕ). SoFar (Reached start) read old.feed.left w old.now) (sym (append-nil written)) s;
+  };
+}
+
+-- ---- the frame at the front
+
+fed_after : (old new : Feed) (frame : Frame) → Takes old frame new → fed_to new ≡ fed_to old
+fed_after old new frame t = omega (arith, t.offset, ap length t.whole, length-append (frame_text frame) new.left)
+
+behind_one : (old new : Feed) (frame : Frame) → Takes old frame new → IsBehind old.left new.left
+behind_one old new frame t = record {
+  shorter = λ partial piece e cut.
+      let short = partial_is_shorter partial piece frame new.left cut t.framed (sym e ∙ t.whole) in
+      omega (arith, short, ap length e, ap length t.whole, length-append partial piece, length-append (frame_text frame) new.left);
+}
+
+less_one : (old new : Feed) (frame : Frame) → Takes old frame new → length new.left < length old.left
+less_one old new frame t = omega (arith, ap length t.whole, length-append (frame_text frame) new.left, length-frame_text frame)
+
+split_one : (read : List ℕ) (frames : List Frame) (old new : Feed) (frame : Frame) → Takes old frame new → Splits read frames old.left → Splits read (frames ++ frame ∷ []) new.left
+split_one read frames old new frame t s = splits_push read frames frame new.left t.framed (subst (λ (q : List ℕ). Splits read frames q) t.whole s)
+
+-- a frame was answered and its reply given to the sink
+pub answered_one : {Start X : Type 0} (Reached : Start → List Frame → List Reply → X → Type 0) (old new : Desk X) (frame : Frame) (reply : Reply)
+    → Takes old.feed frame new.feed → GoesOn Reached old.now frame reply new.now → TookAll old.sink new.sink (reply_text reply) → AnswersOne Reached old new
+answered_one Reached old new frame reply t turn took = record {
+  continues = record {
+    later = took.later;
+    fed = fed_after old.feed new.feed frame t;
+    advances = some (behind_one old.feed new.feed frame t);
+    leads = λ start read written s. record {
+      more = reply_text reply;
+      took = took.took;
+      then = record {
+        frames = s.frames ++ frame ∷ [];
+        replies = s.replies ++ reply ∷ [];
+        split = split_one read s.frames old.feed new.feed frame t s.split;
+        reached = turn.goes_on start s.frames s.replies s.reached;
+        told = ap (λ (w : List ℕ). w ++ reply_text reply) s.told ∙ flat_map_more reply_text [] s.replies reply;
+      };
+    };
+  };
+  behind = behind_one old.feed new.feed frame t;
+  less = less_one old.feed new.feed frame t;
+}
+
+-- a frame was answered, and the sink didn't take its whole reply
+pub broke : {Start X : Type 0} (Reached : Start → List Frame → List Reply → X → Type 0) (old new : Desk X) (frame : Frame) (reply : Reply)
+    → Takes old.feed frame new.feed → GoesOn Reached old.now frame reply new.now → TookPart old.sink new.sink (reply_text reply) → Breaks Reached old new
+broke Reached old new frame reply t turn took = record {
+  leads = record {
+    later = took.later;
+    fed = fed_after old.feed new.feed frame t;
+    advances = some (behind_one old.feed new.feed frame t);
+    leads = λ start read written s. record {
+      more = took.part;
+      took = took.took;
+      then = record {
+        frames = s.frames ++ frame ∷ [];
+        replies = s.replies;
+        last = reply;
+        split = split_one read s.frames old.feed new.feed frame t s.split;
+        reached = turn.goes_on start s.frames s.replies s.reached;
+        part = took.part;
+        missing = took.missing;
+        last_is = took.text_is;
+        some_missing = took.some_missing;
+        told = ap (λ (w : List ℕ). w ++ took.part) s.told;
+      };
+    };
+  };
+  behind = behind_one old.feed new.feed frame t;
+  cause = took.cause;
+}
+
+-- a frame led to the end of the run
+pub ended : {Start X : Type 0} (Reached Broken : Start → List Frame → List Reply → X → Type 0) (old : Desk X) (feed : Feed) (frame : Frame) (now : X)
+    → Takes old.feed frame feed → GoesOut Reached Broken old.now frame now → EndsThere Reached Broken old (desk old.sink feed now)
+ended Reached Broken old feed frame now t turn = record {
+  leads = record {
+    later = NeverFell_refl old.sink.faults;
+    fed = fed_after old.feed feed frame t;
+    advances = some (behind_one old.feed feed frame t);
+    leads = λ start read written s. record {
+      more = [];
+      took = Appends_nothing old.sink.taken;
+      then = record {
+        frames = s.frames ++ frame ∷ [];
+        replies = s.replies;
+        split = split_one read s.frames old.feed feed frame t s.split;
+        broken = turn.goes_out start s.frames s.replies s.reached;
+        told = append-nil written ∙ s.told;
+      };
+    };
+  };
+  behind = behind_one old.feed feed frame t;
+}
+
+-- no whole frame is left
+pub waits : {Start X : Type 0} (Reached : Start → List Frame → List Reply → X → Type 0) (old : Desk X) (feed : Feed) → Waits old.feed feed → HaltsAtPart Reached old (desk old.sink feed old.now)
+waits Reached old feed w = subst (λ (f : Feed). HaltsAtPart Reached old (desk old.sink f old.now)) (sym w.same) (record { continues = stays Reached old; partial = w.partial })
+
+-- what is left begins no frame
+pub sticks : {Start X : Type 0} (Reached : Start → List Frame → List Reply → X → Type 0) (old : Desk X) (feed : Feed) (offset : ℕ) → Sticks old.feed feed offset → HaltsAtBad Reached old (desk old.sink feed old.now) offset
+sticks Reached old feed offset w = subst (λ (f : Feed). HaltsAtBad Reached old (desk old.sink f old.now) offset) (sym w.same) (record { continues = stays Reached old; bad = w.bad; offset_is = w.offset_is })
+
+-- ---- one after the other
+
+behind_then : (a b c : List ℕ) → IsBehind a b → IsBehind b c → IsBehind a c
+behind_then a b c first second = record {
+  shorter = λ partial piece e cut.
+      let mid = first.shorter partial piece e cut in
+      let less = second.shorter [] b refl (nothing refl) in
+      omega arith;
+}
+
+advances_then_behind : (a b c : List ℕ) → Advances a b → IsBehind b c → IsBehind a c
+advances_then_behind a b c (none same) second = subst (λ (q : List ℕ). IsBehind q c) same second
+advances_then_behind a b c (some first) second = behind_then a b c first second
+
+advances_then : (a b c : List ℕ) → Advances a b → Advances b c → Advances a c
+advances_then a b c first (none same) = subst (λ (q : List ℕ). Advances a q) (sym same) first
+advances_then a b c first (some second) = some (advances_then_behind a b c first second)
+
+-- frames were answered, and then it led further
+pub then_leads : {Start X : Type 0} (Reached : Start → List Frame → List Reply → X → Type 0) (After : Start → List ℕ → List ℕ → List ℕ → X → Type 0) (a b c : Desk X)
+    → Continues Reached a b → Leads Reached After b c → Leads Reached After a c
+then_leads Reached After a b c first second = record {
+  later = NeverFell_trans a.sink.faults b.sink.faults c.sink.faults first.later second.later;
+  fed = second.fed ∙ first.fed;
+  advances = advances_then a.feed.left b.feed.left c.feed.left first.advances second.advances;
+  leads = λ start read written s.
+      let g = first.leads start read written s in
+      let h = second.leads start read (written ++ g.more) g.then in
+      record {
+        more = g.more ++ h.more;
+        took = Appends_append a.sink.taken b.sink.taken c.sink.taken g.more h.more g.took h.took;
+        then = subst (λ (w : List ℕ). After start read c.feed.left w c.now) (append_assoc written g.more h.more) h.then;
+      };
+}
+
+pub one_more : {Start X : Type 0} (Reached : Start → List Frame → List Reply → X → Type 0) (a b c : Desk X) → Continues Reached a b → AnswersOne Reached b c → Continues Reached a c
+one_more Reached a b c first second = then_leads Reached (λ start. SoFar (Reached start)) a b c first second.continues
+
+pub finishes : {Start X : Type 0} (Reached Broken : Start → List Frame → List Reply → X → Type 0) (a b : Desk X) (sink : SinkSeen) (feed : Feed) (halted : Halted X)
+    → Continues Reached a b → AnswersAll Reached Broken b sink feed halted → AnswersAll Reached Broken a sink feed halted
+finishes Reached Broken a b sink feed (Partial now) first second = record {
+  continues = then_leads Reached (λ start. SoFar (Reached start)) a b (desk sink feed now) first second.continues;
+  partial = second.partial;
+}
+finishes Reached Broken a b sink feed (Bad now offset) first second = record {
+  continues = then_leads Reached (λ start. SoFar (Reached start)) a b (desk sink feed now) first second.continues;
+  bad = second.bad;
+  offset_is = second.offset_is;
+}
+finishes Reached Broken a b sink feed (Undelivered now) first second = record {
+  leads = then_leads Reached (λ start. Interrupted (Reached start)) a b (desk sink feed now) first second.leads;
+  behind = advances_then_behind a.feed.left b.feed.left feed.left first.advances second.behind;
+  cause = since a.sink b.sink sink first.later second.cause;
+}
+finishes Reached Broken a b sink feed (Ended now) first second = record {
+  leads = then_leads Reached (λ start. BrokenOff (Broken start)) a b (desk sink feed now) first second.leads;
+  behind = advances_then_behind a.feed.left b.feed.left feed.left first.advances second.behind;
+}

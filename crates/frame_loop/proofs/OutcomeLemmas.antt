@@ -1,0 +1,116 @@
+-- Where nothing failed, the bytes and the limit decide how a run ends.
+use Rattle.std.proofs.Common.{◌≡◌, ℕ, ◌+◌, ◌-◌, ◌<◌, ◌≤◌, true, false, List, [], ◌∷◌, ◌++◌, length, take, Option, Some, None, refl, sym, ap, subst, ◌∙◌, length-append, arith}
+use Rattle.std.proofs.Math.Seq.{take-append-add}
+use Rattle.std.proofs.lemmas.List.{append-nil, take_all}
+use Rattle.std.specs.Io.KnownBytes.{Consumes, IsAtEnd}
+use Rattle.feed_frames.specs.Frames.{Frame, frames_text, Splits, IsRest, bad, partial, IsBadFrame, unknown_kind, wrong_length, IsPartialFrame, nothing}
+use Rattle.feed_frames.specs.Replies.{Reply}
+use Rattle.feed_frames.proofs.SplittingLemmas.{SameSplitting, one_splitting, same_splitting, splits_more, bad_then}
+use Rattle.frame_loop.specs.Causes.{SinkCause, failing, stalling}
+use Rattle.frame_loop.specs.Answering.{SoFar}
+use Rattle.frame_loop.specs.Transcript.{Streams, Transcript}
+use Rattle.frame_loop.specs.Outcome.{NothingFailed, IsDetermined, IsComplete, Outcome, EndsWell}
+use Rattle.frame_loop.specs.declared.following.Ending.{Ending}
+use Rattle.frame_loop.specs.declared.following.Ending.TheVariants.{Done, BadFrame, CutFrame, SourceFault, SinkFault, Ended, InputLimit}
+
+-- the bytes read are the first of those that were there
+record ReadFront (limit : ℕ) (bytes read : List ℕ) : Type 0 where
+  left : List ℕ
+  bytes_are : bytes ≡ read ++ left
+  front_is : take limit bytes ≡ read ++ take (limit - length read) left
+
+none_is_not : {A : Type 0} (b : A) → None ≡ Some b → ⊥
+none_is_not b e = cc
+
+read_front : (limit : ℕ) (before after : Option (List ℕ)) (bytes read : List ℕ) → before ≡ Some bytes → Consumes before after read → length read ≤ limit → ReadFront limit bytes read
+read_front limit None after bytes read e given within = absurd (none_is_not bytes e)
+read_front limit (Some before) None bytes read e given within = absurd given
+read_front limit (Some before) (Some left) bytes read e given within =
+    let same : before ≡ bytes = cc in
+    let whole : bytes ≡ read ++ left = sym same ∙ given in
+    let k : limit ≡ length read + (limit - length read) = omega arith in
+    record {
+      left = left;
+      bytes_are = whole;
+      front_is = ap (take limit) whole ∙ ap (λ (n : ℕ). take n (read ++ left)) k ∙ take-append-add read left (limit - length read);
+    }
+
+-- all that there was, was read
+read_all : (before after : Option (List ℕ)) (bytes read : List ℕ) → before ≡ Some bytes → Consumes before after read → IsAtEnd after → bytes ≡ read
+read_all None after bytes read e given end = absurd (none_is_not bytes e)
+read_all (Some before) None bytes read e given end = absurd given
+read_all (Some before) (Some left) bytes read e given end =
+    let same : before ≡ bytes = cc in
+    sym same ∙ given ∙ ap (λ (q : List ℕ). read ++ q) end ∙ append-nil read
+
+-- the splitting of the bytes up to the limit is that of the bytes read, where these are they
+same_as_read : {X : Type 0} (Reached : List Frame → List Reply → X → Type 0) (front read written : List ℕ) (frames : List Frame) (rest left : List ℕ) (now : X) (answered : SoFar Reached read left written now)
+    → front ≡ read → IsRest left → Splits front frames rest → IsRest rest → SameSplitting frames rest answered.frames left
+same_as_read Reached front read written frames rest left now answered same is-left split is-rest =
+    same_splitting frames rest answered.frames left split.framed answered.split.framed is-rest is-left (sym split.whole ∙ same ∙ answered.split.whole)
+
+no_cause : (old new : Streams) → SinkCause old.sink new.sink → NothingFailed old new → ⊥
+no_cause old new (failing f rose) well = well.sink rose
+no_cause old new (stalling s) well = let e : true ≡ false = sym s ∙ well.moving in cc
+
+pub determined : {X : Type 0} (Reached Broken : List Frame → List Reply → X → Type 0) (old new : Streams) (limit : ℕ) (how : Ending) (now : X)
+    → Transcript Reached Broken old new limit how now → IsDetermined old new limit how
+determined Reached Broken old new limit Done now t = λ bytes frames rest told split is-rest well.
+    let e = t.ending in
+    let all = read_all old.source.left new.source.left bytes t.read told t.given e.at_end in
+    let front = take_all limit bytes (omega (arith, ap length all, e.below_limit)) ∙ all in
+    let same = same_as_read Reached (take limit bytes) t.read t.written frames rest [] now e.answered front (partial (nothing refl)) split is-rest in
+    record { no_rest = same.rest; below_limit = omega (arith, ap length all, e.below_limit) }
+determined Reached Broken old new limit (BadFrame offset) now t = λ bytes frames rest told split is-rest well.
+    let e = t.ending in
+    let f = read_front limit old.source.left new.source.left bytes t.read told t.given t.within in
+    let more = take (limit - length t.read) f.left in
+    let longer = splits_more t.read e.answered.frames e.rest more e.answered.split in
+    let same = same_splitting frames rest e.answered.frames (e.rest ++ more) split.framed longer.framed is-rest (bad (bad_then e.rest more e.bad)) (sym split.whole ∙ f.front_is ∙ longer.whole) in
+    record {
+      bad = subst (λ (q : List ℕ). IsBadFrame q) (sym same.rest) (bad_then e.rest more e.bad);
+      offset_is = omega (arith, e.offset_is, ap length e.answered.split.whole, length-append (frames_text e.answered.frames) e.rest, ap (λ (x : List Frame). length (frames_text x)) same.frames);
+    }
+determined Reached Broken old new limit (CutFrame offset) now t = λ bytes frames rest told split is-rest well.
+    let e = t.ending in
+    let all = read_all old.source.left new.source.left bytes t.read told t.given e.at_end in
+    let front = take_all limit bytes (omega (arith, ap length all, e.below_limit)) ∙ all in
+    let same = same_as_read Reached (take limit bytes) t.read t.written frames rest e.rest now e.answered front (partial e.partial) split is-rest in
+    record {
+      partial = subst (λ (q : List ℕ). IsPartialFrame q) (sym same.rest) e.partial;
+      some_left = omega (arith, e.some_left, ap length same.rest);
+      below_limit = omega (arith, ap length all, e.below_limit);
+      offset_is = omega (arith, e.offset_is, ap length e.answered.split.whole, length-append (frames_text e.answered.frames) e.rest, ap (λ (x : List Frame). length (frames_text x)) same.frames);
+    }
+determined Reached Broken old new limit InputLimit now t = λ bytes frames rest told split is-rest well.
+    let e = t.ending in
+    let f = read_front limit old.source.left new.source.left bytes t.read told t.given t.within in
+    let none : limit - length t.read ≡ 0 = omega (arith, e.at_limit) in
+    let front : take limit bytes ≡ t.read = f.front_is ∙ ap (λ (n : ℕ). t.read ++ take n f.left) none ∙ append-nil t.read in
+    let same = same_as_read Reached (take limit bytes) t.read t.written frames rest e.rest now e.answered front (partial e.partial) split is-rest in
+    record {
+      partial = subst (λ (q : List ℕ). IsPartialFrame q) (sym same.rest) e.partial;
+      reached = omega (arith, e.at_limit, ap length f.bytes_are, length-append t.read f.left);
+    }
+determined Reached Broken old new limit Ended now t = λ bytes frames rest told split is-rest well. tt
+determined Reached Broken old new limit SourceFault now t = λ bytes frames rest told split is-rest well. well.source t.ending.cause.rose
+determined Reached Broken old new limit SinkFault now t = λ bytes frames rest told split is-rest well. no_cause old new t.ending.cause well
+
+empty_is_not_bad : IsBadFrame [] → ⊥
+empty_is_not_bad (unknown_kind kind rest e odd) = cc
+empty_is_not_bad (wrong_length kind n rest e fits is-kind odd) = cc
+
+-- an outcome of whole frames below the limit
+ends_well : (limit : ℕ) (bytes : List ℕ) (frames : List Frame) (how : Ending) → length bytes < limit → Outcome limit bytes frames [] how → EndsWell how
+ends_well limit bytes frames Done below o = tt
+ends_well limit bytes frames (BadFrame offset) below o = empty_is_not_bad o.bad
+ends_well limit bytes frames (CutFrame offset) below o = omega (arith, o.some_left)
+ends_well limit bytes frames SourceFault below o = o
+ends_well limit bytes frames SinkFault below o = o
+ends_well limit bytes frames Ended below o = tt
+ends_well limit bytes frames InputLimit below o = omega (arith, o.reached)
+
+pub complete : (old new : Streams) (limit : ℕ) (how : Ending) → IsDetermined old new limit how → IsComplete old new limit how
+complete old new limit how d = λ bytes frames told split below well.
+    let front : take limit bytes ≡ bytes = take_all limit bytes (omega arith) in
+    ends_well limit bytes frames how below (d bytes frames [] told (subst (λ (q : List ℕ). Splits q frames []) (sym front) split) (partial (nothing refl)) well)

@@ -1,0 +1,129 @@
+-- What came of answering the frames that were read.
+use Rattle.std.specs.Prelude.{◌≡◌, ℕ, ◌+◌, ◌<◌, List, [], ◌∷◌, ◌++◌, length, Result, Ok, Err}
+use Rattle.std.specs.Io.KnownBytes.{Appends}
+use Rattle.fault_counts.specs.Faults.{NeverFell}
+use Rattle.byte_io.specs.Sink.{SinkSeen}
+use Rattle.feed_frames.specs.Frames.{Frame, Splits, IsBadFrame, IsPartialFrame}
+use Rattle.feed_frames.specs.Feed.{Feed}
+use Rattle.feed_frames.specs.Replies.{Reply, reply_text, replies_text}
+use Rattle.frame_loop.specs.Causes.{SinkCause}
+use Rattle.frame_loop.specs.declared.answering.Halted.{Halted}
+use Rattle.frame_loop.specs.declared.answering.Halted.TheVariants.{Partial, Bad, Undelivered, Ended}
+
+-- the bytes read so far are whole frames and a rest, what was written is the replies to them, and they lead here
+pub record SoFar {X : Type 0} (Reached : List Frame → List Reply → X → Type 0) (read rest written : List ℕ) (now : X) : Type 0 where
+  pub frames : List Frame
+  pub replies : List Reply
+  pub split : Splits read frames rest
+  pub reached : Reached frames replies now
+  pub told : written ≡ replies_text replies
+
+-- the same up to the last reply, of which the end is missing; no frame behind it was dealt with
+pub record Interrupted {X : Type 0} (Reached : List Frame → List Reply → X → Type 0) (read rest written : List ℕ) (now : X) : Type 0 where
+  pub frames : List Frame
+  pub replies : List Reply
+  pub last : Reply
+  pub split : Splits read frames rest
+  pub reached : Reached frames (replies ++ last ∷ []) now
+  pub part : List ℕ
+  pub missing : List ℕ
+  pub last_is : reply_text last ≡ part ++ missing
+  pub some_missing : 0 < length missing
+  pub told : written ≡ replies_text replies ++ part
+
+-- the last frame led to the end, and has no reply
+pub record BrokenOff {X : Type 0} (Broken : List Frame → List Reply → X → Type 0) (read rest written : List ℕ) (now : X) : Type 0 where
+  pub frames : List Frame
+  pub replies : List Reply
+  pub split : Splits read frames rest
+  pub broken : Broken frames replies now
+  pub told : written ≡ replies_text replies
+
+-- where the answering stands: the sink, the bytes that aren't answered, and what answers, with its world
+pub record Desk (X : Type 0) : Type 0 where
+  pub sink : SinkSeen
+  pub feed : Feed
+  pub now : X
+
+abbrev pub desk : {X : Type 0} → SinkSeen → Feed → X → Desk X
+desk sink feed now = record { sink = sink; feed = feed; now = now }
+
+-- how many bytes were fed
+abbrev pub fed_to : Feed → ℕ
+fed_to feed = feed.offset + length feed.left
+
+-- the bytes after are fewer than a piece behind a part of a frame, before
+pub record IsBehind (before after : List ℕ) : Type 0 where
+  pub shorter : (partial piece : List ℕ) → before ≡ partial ++ piece → IsPartialFrame partial → length after < length piece
+
+-- no frame was answered, or one at least
+pub data Advances (before after : List ℕ) : Type 0 where
+  none : after ≡ before → Advances before after
+  some : IsBehind before after → Advances before after
+
+-- what holds of the bytes written holds of them and those that the sink took since
+pub record Grows (old new : SinkSeen) (P : List ℕ → Type 0) (written : List ℕ) : Type 0 where
+  pub more : List ℕ
+  pub took : Appends old.taken new.taken more
+  pub then : P (written ++ more)
+
+-- from each start that led to the old desk, there is that at the new one
+pub record Leads {Start X : Type 0} (Reached : Start → List Frame → List Reply → X → Type 0) (After : Start → List ℕ → List ℕ → List ℕ → X → Type 0) (old new : Desk X) : Type 0 where
+  pub later : NeverFell old.sink.faults new.sink.faults
+  pub fed : fed_to new.feed ≡ fed_to old.feed
+  pub advances : Advances old.feed.left new.feed.left
+  pub leads : (start : Start) (read written : List ℕ) → SoFar (Reached start) read old.feed.left written old.now
+      → Grows old.sink new.sink (λ (all : List ℕ). After start read new.feed.left all new.now) written
+
+-- frames were answered, one after the other, and their replies given to the sink
+abbrev pub Continues : {Start X : Type 0} (Reached : Start → List Frame → List Reply → X → Type 0) (old new : Desk X) → Type 0
+Continues Reached old new = Leads Reached (λ start. SoFar (Reached start)) old new
+
+-- all whole frames were answered
+pub record HaltsAtPart {Start X : Type 0} (Reached : Start → List Frame → List Reply → X → Type 0) (old new : Desk X) : Type 0 where
+  pub continues : Continues Reached old new
+  pub partial : IsPartialFrame new.feed.left
+
+-- what is left begins no frame
+pub record HaltsAtBad {Start X : Type 0} (Reached : Start → List Frame → List Reply → X → Type 0) (old new : Desk X) (offset : ℕ) : Type 0 where
+  pub continues : Continues Reached old new
+  pub bad : IsBadFrame new.feed.left
+  pub offset_is : offset ≡ new.feed.offset
+
+-- the sink didn't take the last reply whole
+pub record Breaks {Start X : Type 0} (Reached : Start → List Frame → List Reply → X → Type 0) (old new : Desk X) : Type 0 where
+  pub leads : Leads Reached (λ start. Interrupted (Reached start)) old new
+  pub behind : IsBehind old.feed.left new.feed.left
+  pub cause : SinkCause old.sink new.sink
+
+-- what answers has ended the run
+pub record EndsThere {Start X : Type 0} (Reached Broken : Start → List Frame → List Reply → X → Type 0) (old new : Desk X) : Type 0 where
+  pub leads : Leads Reached (λ start. BrokenOff (Broken start)) old new
+  pub behind : IsBehind old.feed.left new.feed.left
+
+abbrev pub AnswersAll : {Start X : Type 0} (Reached Broken : Start → List Frame → List Reply → X → Type 0) (old : Desk X) (sink : SinkSeen) (feed : Feed) → Halted X → Type 0
+AnswersAll Reached Broken old sink feed (Partial now) = HaltsAtPart Reached old (desk sink feed now)
+AnswersAll Reached Broken old sink feed (Bad now offset) = HaltsAtBad Reached old (desk sink feed now) offset
+AnswersAll Reached Broken old sink feed (Undelivered now) = Breaks Reached old (desk sink feed now)
+AnswersAll Reached Broken old sink feed (Ended now) = EndsThere Reached Broken old (desk sink feed now)
+
+-- one frame was answered, and its reply given to the sink
+pub record AnswersOne {Start X : Type 0} (Reached : Start → List Frame → List Reply → X → Type 0) (old new : Desk X) : Type 0 where
+  pub continues : Continues Reached old new
+  pub behind : IsBehind old.feed.left new.feed.left
+  pub less : length new.feed.left < length old.feed.left
+
+abbrev pub Answers : {Start X : Type 0} (Reached Broken : Start → List Frame → List Reply → X → Type 0) (old : Desk X) (sink : SinkSeen) (feed : Feed) → Result X (Halted X) → Type 0
+Answers Reached Broken old sink feed (Ok now) = AnswersOne Reached old (desk sink feed now)
+Answers Reached Broken old sink feed (Err halted) = AnswersAll Reached Broken old sink feed halted
+
+-- what answers, and the world beside it
+abbrev pub halted_beside : {X W : Type 0} → W → Halted X → Halted (X × W)
+halted_beside world (Partial now) = Partial (now, world)
+halted_beside world (Bad now offset) = Bad (now, world) offset
+halted_beside world (Undelivered now) = Undelivered (now, world)
+halted_beside world (Ended now) = Ended (now, world)
+
+abbrev pub next_beside : {X W : Type 0} → W → Result X (Halted X) → Result (X × W) (Halted (X × W))
+next_beside world (Ok now) = Ok (now, world)
+next_beside world (Err halted) = Err (halted_beside world halted)

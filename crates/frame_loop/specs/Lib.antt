@@ -1,0 +1,9 @@
+pub use Rattle.feed_frames.specs.Frames
+pub use Rattle.feed_frames.specs.Replies
+pub mod Turns
+pub mod Causes
+pub mod Delivery
+pub mod Filling
+pub mod Answering
+pub mod Transcript
+pub mod Outcome

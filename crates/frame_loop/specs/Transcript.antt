@@ -1,0 +1,96 @@
+-- What a run over a stream read and wrote, and where its frames and replies led.
+use Rattle.std.specs.Prelude.{◌≡◌, ℕ, ◌+◌, ◌<◌, ◌≤◌, List, [], length}
+use Rattle.std.specs.Io.KnownBytes.{Consumes, Appends, IsAtEnd}
+use Rattle.fault_counts.specs.Faults.{NeverFell}
+use Rattle.byte_io.specs.Source.{SourceSeen}
+use Rattle.byte_io.specs.Sink.{SinkSeen}
+use Rattle.feed_frames.specs.Frames.{Frame, IsBadFrame, IsPartialFrame}
+use Rattle.feed_frames.specs.Replies.{Reply}
+use Rattle.feed_frames.specs.declared.reader.TheConstants.{PIECE}
+use Rattle.frame_loop.specs.Causes.{SourceCause, SinkCause}
+use Rattle.frame_loop.specs.Answering.{SoFar, Interrupted, BrokenOff}
+use Rattle.frame_loop.specs.declared.following.Ending.{Ending}
+use Rattle.frame_loop.specs.declared.following.Ending.TheVariants.{Done, BadFrame, CutFrame, SourceFault, SinkFault, Ended, InputLimit}
+
+-- a source and a sink
+pub record Streams : Type 0 where
+  pub source : SourceSeen
+  pub sink : SinkSeen
+
+abbrev pub streams : SourceSeen → SinkSeen → Streams
+streams source sink = record { source = source; sink = sink }
+
+-- the source was read to its end, and each byte belongs to a whole frame
+pub record IsDone {X : Type 0} (Reached : List Frame → List Reply → X → Type 0) (new : Streams) (limit : ℕ) (read written : List ℕ) (now : X) : Type 0 where
+  pub answered : SoFar Reached read [] written now
+  pub at_end : IsAtEnd new.source.left
+  pub below_limit : length read < limit
+
+-- behind the whole frames stands what begins none
+pub record EndsAtBadFrame {X : Type 0} (Reached : List Frame → List Reply → X → Type 0) (read written : List ℕ) (offset : ℕ) (now : X) : Type 0 where
+  pub rest : List ℕ
+  pub answered : SoFar Reached read rest written now
+  pub bad : IsBadFrame rest
+  pub offset_is : offset + length rest ≡ length read
+
+-- the source was read to its end, which lies inside a frame
+pub record EndsInFrame {X : Type 0} (Reached : List Frame → List Reply → X → Type 0) (new : Streams) (limit : ℕ) (read written : List ℕ) (offset : ℕ) (now : X) : Type 0 where
+  pub rest : List ℕ
+  pub answered : SoFar Reached read rest written now
+  pub partial : IsPartialFrame rest
+  pub some_left : 0 < length rest
+  pub offset_is : offset + length rest ≡ length read
+  pub at_end : IsAtEnd new.source.left
+  pub below_limit : length read < limit
+
+-- as many bytes as the limit were read, and all whole frames among them answered
+pub record EndsAtLimit {X : Type 0} (Reached : List Frame → List Reply → X → Type 0) (limit : ℕ) (read written : List ℕ) (now : X) : Type 0 where
+  pub rest : List ℕ
+  pub answered : SoFar Reached read rest written now
+  pub partial : IsPartialFrame rest
+  pub at_limit : length read ≡ limit
+
+-- the last read failed
+pub record EndsAtSource {X : Type 0} (Reached : List Frame → List Reply → X → Type 0) (old new : Streams) (limit : ℕ) (read written : List ℕ) (now : X) : Type 0 where
+  pub rest : List ℕ
+  pub answered : SoFar Reached read rest written now
+  pub partial : IsPartialFrame rest
+  pub below_limit : length read < limit
+  pub cause : SourceCause old.source new.source
+
+-- the last write failed, or took nothing. Less than one piece wasn't dealt with
+pub record EndsAtSink {X : Type 0} (Reached : List Frame → List Reply → X → Type 0) (old new : Streams) (read written : List ℕ) (now : X) : Type 0 where
+  pub rest : List ℕ
+  pub interrupted : Interrupted Reached read rest written now
+  pub one_piece : length rest < PIECE
+  pub cause : SinkCause old.sink new.sink
+
+-- what answers has ended the run. Less than one piece wasn't dealt with
+pub record EndsWithIt {X : Type 0} (Broken : List Frame → List Reply → X → Type 0) (read written : List ℕ) (now : X) : Type 0 where
+  pub rest : List ℕ
+  pub broken_off : BrokenOff Broken read rest written now
+  pub one_piece : length rest < PIECE
+
+abbrev pub Ends : {X : Type 0} (Reached Broken : List Frame → List Reply → X → Type 0) (old new : Streams) (limit : ℕ) (read written : List ℕ) → Ending → X → Type 0
+Ends Reached Broken old new limit read written Done now = IsDone Reached new limit read written now
+Ends Reached Broken old new limit read written (BadFrame offset) now = EndsAtBadFrame Reached read written offset now
+Ends Reached Broken old new limit read written (CutFrame offset) now = EndsInFrame Reached new limit read written offset now
+Ends Reached Broken old new limit read written SourceFault now = EndsAtSource Reached old new limit read written now
+Ends Reached Broken old new limit read written SinkFault now = EndsAtSink Reached old new read written now
+Ends Reached Broken old new limit read written InputLimit now = EndsAtLimit Reached limit read written now
+Ends Reached Broken old new limit read written Ended now = EndsWithIt Broken read written now
+
+-- what was read from the source, what the sink took, and how it ended
+pub record Transcript {X : Type 0} (Reached Broken : List Frame → List Reply → X → Type 0) (old new : Streams) (limit : ℕ) (how : Ending) (now : X) : Type 0 where
+  pub read : List ℕ
+  pub written : List ℕ
+  pub given : Consumes old.source.left new.source.left read
+  pub took : Appends old.sink.taken new.sink.taken written
+  pub within : length read ≤ limit
+  pub ending : Ends Reached Broken old new limit read written how now
+
+-- from each start that led to the first state
+pub record Follows {Start X : Type 0} (Reached Broken : Start → List Frame → List Reply → X → Type 0) (old new : Streams) (limit : ℕ) (first : X) (how : Ending) (now : X) : Type 0 where
+  pub source_later : NeverFell old.source.faults new.source.faults
+  pub sink_later : NeverFell old.sink.faults new.sink.faults
+  pub transcript : (start : Start) → Reached start [] [] first → Transcript (Reached start) (Broken start) old new limit how now

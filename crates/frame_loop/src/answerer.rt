@@ -1,0 +1,35 @@
+ghost use Rattle.std.specs.Prelude.{List};
+ghost use Rattle.feed_frames.specs.Frames.{Frame as Framed, IsFramed};
+ghost use Rattle.feed_frames.specs.Replies.{Reply};
+ghost use Rattle.feed_frames.specs.Front.{frame_of};
+ghost use Rattle.frame_loop.specs.Turns.{Turns, beside};
+
+use crate::reply::ReplyBuf;
+use feed_frames::Frame;
+use nmc_base::Steps;
+use std::alloc::Global;
+use std::sync::ledger::Ledger;
+
+/// What answers frames, one by one, by means of a world that it is lent: the disk with its files, or nothing.
+pub trait Answerer<W> {
+    // what a run begins at
+    ghost Start: { Type 0 };
+
+    // from the start these frames and these replies lead here
+    ghost reached: { Start → List Framed → List Reply → Self × W → Type 0 };
+
+    // from the start these frames and these replies, of which the last frame has none, led to the end of the run
+    ghost broken: { Start → List Framed → List Reply → Self × W → Type 0 };
+
+    /// Answers one frame. At Err the run has ended, and the frame has no reply.
+    fn turn<L: Ledger>(
+        self,
+        alloc: Global,
+        world: &mut W,
+        frame: Frame<'_>,
+        reply: &mut ReplyBuf,
+        steps: &mut Steps<L>,
+    ) -> Result<Self, Self>
+        requires { IsFramed (frame_of frame) }
+        ensures { Turns reached broken (self, world.old) (frame_of frame.entry) reply.new (beside world.new result) };
+}

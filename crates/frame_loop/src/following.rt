@@ -1,0 +1,84 @@
+ghost use Rattle.std.specs.Prelude.{◌<◌, ◌^◌};
+ghost use Rattle.frame_loop.specs.Transcript.{Follows, streams};
+
+use crate::answerer::Answerer;
+use crate::answering::{Halted, answer_all};
+use crate::filling::{Buffers, fill};
+use byte_io::{Sink, Source};
+use feed_frames::PIECE;
+use nmc_base::Steps;
+use std::alloc::Global;
+use std::sync::ledger::Ledger;
+
+/// How a run over a stream ended.
+#[derive(Clone, Copy, PartialEq, Eq, Debug)]
+pub enum Ending {
+    /// The source was read to its end, and every byte belongs to a whole frame.
+    Done,
+    /// What begins no frame starts at this byte of the source.
+    BadFrame { offset: u64 },
+    /// The source ended inside the frame that starts at this byte.
+    CutFrame { offset: u64 },
+    /// The last read failed.
+    SourceFault,
+    /// The last write failed, or took nothing of a piece that isn't empty.
+    SinkFault,
+    /// What answers has ended the run.
+    Ended,
+    /// As many bytes as the limit were read.
+    InputLimit,
+}
+
+/// Reads frames and answers each, up to the end, a fault or the limit, and gives back what answers.
+///
+/// The source is read in pieces of at most 65,536 bytes, each only where every whole frame before it was answered.
+/// It takes no memory of its own: the buffers have all of it.
+pub fn follow<W, T: Answerer<W>, S: Source, K: Sink, L: Ledger>(
+    alloc: Global,
+    answerer: T,
+    world: &mut W,
+    buffers: &mut Buffers,
+    source: &mut S,
+    sink: &mut K,
+    limit: u64,
+    steps: &mut Steps<L>,
+) -> (Ending, T)
+    requires { limit < 2 ^ 63 }
+    ensures { Follows T.reached T.broken (streams (S.seen source.old) (K.seen sink.old)) (streams (S.seen source.new) (K.seen sink.new)) limit (answerer, world.old) result.0 (result.1, world.new) }
+{
+    let mut answerer = answerer;
+    let mut read: u64 = 0;
+    buffers.frames.reset();
+    'pieces: loop {
+        match answer_all(
+            alloc,
+            answerer,
+            world,
+            &mut buffers.frames,
+            &mut buffers.reply,
+            sink,
+            steps,
+        ) {
+            Halted::Partial(next) => answerer = next,
+            Halted::Bad(next, offset) => return (Ending::BadFrame { offset }, next),
+            Halted::Undelivered(next) => return (Ending::SinkFault, next),
+            Halted::Ended(last) => return (Ending::Ended, last),
+        }
+        if read >= limit {
+            return (Ending::InputLimit, answerer);
+        }
+        let most = (limit - read).min(PIECE as u64) as usize;
+        match fill(&mut buffers.frames, &mut buffers.piece, source, most) {
+            Err(_) => return (Ending::SourceFault, answerer),
+            Ok(count) => {
+                if count == 0 {
+                    return match buffers.frames.cut_at() {
+                        None => (Ending::Done, answerer),
+                        Some(offset) => (Ending::CutFrame { offset }, answerer),
+                    };
+                }
+                read += count as u64;
+            }
+        }
+    }
+}

@@ -1,0 +1,17 @@
+ghost use Rattle.frame_loop.specs.Transcript.{Streams, Transcript};
+ghost use Rattle.frame_loop.specs.Outcome.{IsDetermined, IsComplete};
+ghost use Rattle.frame_loop.specs.declared.following.Ending.{Ending};
+ghost use Rattle.feed_frames.specs.Frames.{Frame};
+ghost use Rattle.feed_frames.specs.Replies.{Reply};
+ghost use Rattle.std.specs.Prelude.{List, ℕ};
+
+use crate::answerer::Answerer;
+
+/// Where nothing failed, the bytes and the limit decide how a run ends, or what answers ended it before; and whole
+/// frames alone, in fewer bytes than the limit, are all answered.
+pub fn one_ending<W, T: Answerer<W>>()
+    ensures determined { (start : T.Start) (old new : Streams) (limit : ℕ) (how : Ending) (now : T × W)
+        → Transcript (T.reached start) (T.broken start) old new limit how now → IsDetermined old new limit how }
+    ensures complete { (start : T.Start) (old new : Streams) (limit : ℕ) (how : Ending) (now : T × W)
+        → Transcript (T.reached start) (T.broken start) old new limit how now → IsComplete old new limit how }
+{}
