@@ -6,8 +6,8 @@ use Rattle.block_grammar.proofs.Readers.{IsBytes}
 use Rattle.block_grammar.specs.declared.kinds.TxKind.{TxKind}
 use Rattle.block_grammar.specs.declared.kinds.BlockKind.{BlockKind}
 use Rattle.block_grammar.specs.Kinds.{is_cut}
-use Rattle.block_grammar.specs.Transaction.{Transaction, body_text, stripped_text, transaction_text, FitsTransaction, IsTransaction}
-use Rattle.block_grammar.specs.Header.{Header, header_text, FitsHeader, IsHeader}
+use Rattle.block_grammar.specs.Transaction.{Transaction, body_text, stripped_text, transaction_text, IsTransaction}
+use Rattle.block_grammar.specs.Header.{Header, IsHeader}
 use Rattle.block_grammar.specs.Block.{Block, IsBlock}
 use Rattle.block_grammar.specs.Fault.{IsFaultPlace, IsFrontPlace}
 use Rattle.block_grammar.specs.Combinators.{Reader}

@@ -1,5 +1,5 @@
 -- The merge-mining part that Namecoin's merged mining ("auxpow") adds to a header.
-use Rattle.std.specs.Prelude.{◌≡◌, ℕ, ◌<◌, ◌^◌, List, ◌++◌, length}
+use Rattle.std.specs.Prelude.{ℕ, ◌<◌, ◌^◌, List, ◌++◌, length}
 use Rattle.std.specs.List.{AllByRecursion}
 use Rattle.std.specs.Int.{w32, to_le_bytes}
 use Rattle.block_grammar.specs.CompactSize.{counted_list}

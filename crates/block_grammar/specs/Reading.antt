@@ -2,7 +2,7 @@
 use Rattle.std.specs.Prelude.{ℕ, zero, suc, ◌-◌, ◌^◌, Bool, true, false, ◌||◌, ◌==◌, nat_lt, if◌then◌else◌, List, [], ◌∷◌, length, take, drop, Option, Some, None, Result, Ok, Err, bit_and}
 use Rattle.std.specs.Int.{Width, w16, w32, w64, byte_len, from_le_bytes}
 use Rattle.block_grammar.specs.Transaction.{TxInput, TxOutput, Transaction}
-use Rattle.block_grammar.specs.PureHeader.{PureHeader, pure_header_text, FitsPureHeader}
+use Rattle.block_grammar.specs.PureHeader.{PureHeader}
 use Rattle.block_grammar.specs.declared.kinds.TxKind.{TxKind}
 use Rattle.block_grammar.specs.declared.kinds.TxKind.TheVariants.{Cut, LongForm, BadFlag, NoInput, NoOutput, EmptyWitness}
 use Rattle.block_grammar.specs.declared.kinds.BlockKind.{BlockKind}

@@ -1,5 +1,7 @@
 -- Rows of a Merkle tree, as loops make them.
-use Rattle.std.proofs.Common.{◌≡◌, ℕ, suc, ◌≤◌, ◌<◌, List, [], ◌∷◌, ◌++◌, length, map, get_or, refl, sym, ap, ◌∙◌, append_assoc, append-nil, arith}
+use Rattle.std.proofs.Common.{◌≡◌, ℕ, suc, ◌+◌, ◌≤◌, ◌<◌, List, [], ◌∷◌, ◌++◌, length, map, take, drop, set, get_or, refl, sym, ap, ◌∙◌, append_assoc, append-nil, arith}
+use Rattle.std.proofs.lemmas.List.{take_more_set, drop-set-lt, drop-drop}
+use Rattle.std.proofs.Math.ListN.{drop_of_length-le}
 use Rattle.nmc_base.specs.declared.hashes.Hash32.{Hash32}
 use Rattle.block_grammar.specs.Transaction.{Transaction, txid_of}
 use Rattle.block_grammar.specs.Merkle.{paired_row, merkle_root_of}
@@ -51,6 +53,26 @@ last_pair above above' last joined total pushed is so_far =
 pub no_pair : (above : List Hash32) (total : List (List ℕ)) → seen_row above ++ paired_row (seen_row []) ≡ total → seen_row above ≡ total
 no_pair above total so_far = sym (append-nil (seen_row above)) ∙ so_far
 
+-- the next pair, put behind those that stand in the row that they are made of
+pub pair_placed : (row : List Hash32) (made next : ℕ) (h : Hash32) (total : List (List ℕ)) → made ≤ next → next < length row
+    → paired_row (seen_row (drop next row)) ≡ h.0 ∷ paired_row (seen_row (drop 2 (drop next row))) → seen_row (take made row) ++ paired_row (seen_row (drop next row)) ≡ total
+    → seen_row (take (made + 1) (set row made h)) ++ paired_row (seen_row (drop (next + 2) (set row made h))) ≡ total
+pair_placed row made next h total behind inside pair so_far =
+    let front : seen_row (take (made + 1) (set row made h)) ≡ seen_row (take made row) ++ h.0 ∷ [] = ap seen_row (take_more_set row made h (omega arith)) ∙ seen_more (take made row) h in
+    let rest : drop (next + 2) (set row made h) ≡ drop 2 (drop next row) = drop-set-lt (next + 2) row made h (omega arith) ∙ sym (drop-drop 2 next row) in
+    let above = paired_row (seen_row (drop 2 (drop next row))) in
+    ap (λ (r : List Hash32). seen_row (take (made + 1) (set row made h)) ++ paired_row (seen_row r)) rest
+    ∙ ap (λ (f : List (List ℕ)). f ++ above) front
+    ∙ append_assoc (seen_row (take made row)) (h.0 ∷ []) above
+    ∙ ap (λ (r : List (List ℕ)). seen_row (take made row) ++ r) (sym pair)
+    ∙ so_far
+
+-- no pair is left
+pub pairs_end : (row : List Hash32) (made next : ℕ) (total : List (List ℕ)) → length row ≤ next → seen_row (take made row) ++ paired_row (seen_row (drop next row)) ≡ total → seen_row (take made row) ≡ total
+pairs_end row made next total le so_far =
+    let none : drop next row ≡ [] = drop_of_length-le row le in
+    sym (ap (λ (r : List Hash32). seen_row (take made row) ++ paired_row (seen_row r)) none ∙ append-nil (seen_row (take made row))) ∙ so_far
+
 -- ---- up to the root
 
 paired_shorter : (hashes : List (List ℕ)) → length (paired_row hashes) ≤ length hashes
@@ -72,6 +94,17 @@ row_above_root (x ∷ y ∷ row) above more e = record {
   some = omega (arith, ap length e, seen_length above);
   root = ap merkle_root_of e ∙ sym (next_root x.0 y.0 (seen_row row));
 }
+
+pub ids_some : (row : List Hash32) (ts : List Transaction) → seen_row row ≡ map txid_of ts → 1 ≤ length ts → 1 ≤ length row
+ids_some [] [] e some = some
+ids_some [] (t ∷ ts) e some = absurd cc
+ids_some (h ∷ row) ts e some = omega arith
+
+-- the root of one hash
+pub one_left : (row : List Hash32) (d : Hash32) → 1 ≤ length row → length row < 2 → (get_or row 0 d).0 ≡ merkle_root_of (seen_row row)
+one_left [] d some few = absurd (omega (arith, some))
+one_left (x ∷ []) d some few = sym (one_root x.0)
+one_left (x ∷ y ∷ row) d some few = absurd (omega (arith, few))
 
 pub root_left : (row : List Hash32) (root : Hash32) (total : List ℕ) → 1 ≤ length row → length row ≤ 1 → root ≡ get_or row 0 root → merkle_root_of (seen_row row) ≡ total → root.0 ≡ total
 root_left [] root total some one e so_far = absurd (omega (arith, some))

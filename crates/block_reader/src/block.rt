@@ -2,6 +2,7 @@ ghost use Rattle.std.specs.Prelude.{◌≡◌, ◌≤◌, ◌<◌, ◌+◌, ◌^
 ghost use Rattle.block_grammar.specs.Block as full;
 ghost use Rattle.block_grammar.specs.Block.{count_outputs};
 ghost use Rattle.block_grammar.specs.Reading.{block_front_from, block_from};
+ghost use Rattle.nmc_base.specs.declared.limits.TheConstants.{LONGEST_BLOCK};
 ghost use Rattle.block_reader.specs.Seen.{stopped};
 ghost use Rattle.block_reader.specs.Whole.{told, IsRead, GivesBlock};
 
@@ -67,7 +68,7 @@ impl<'a> Block<'a> {
 
 #[tactic(auto, unfolding(block_grammar::specs::Reading::block_front_from))]
 fn front_in<'a>(bytes: &'a [u8]) -> Result<(Block<'a>, &'a [u8]), Stop<'a>>
-    requires { length bytes.now ≤ 8388608 }
+    requires { length bytes.now ≤ LONGEST_BLOCK }
     ensures { stopped (λ x. (x.0, x.1.now)) result ≡ block_front_from bytes.now }
 {
     let (header, rest) = header_in(bytes)?;
@@ -81,7 +82,7 @@ fn front_in<'a>(bytes: &'a [u8]) -> Result<(Block<'a>, &'a [u8]), Stop<'a>>
 
 #[tactic(auto, unfolding(block_grammar::specs::Reading::block_from))]
 fn whole_in<'a>(bytes: &'a [u8]) -> Result<Block<'a>, Stop<'a>>
-    requires { length bytes.now ≤ 8388608 }
+    requires { length bytes.now ≤ LONGEST_BLOCK }
     ensures { told result ≡ block_from bytes.now }
 {
     let (block, rest) = front_in(bytes)?;
@@ -95,7 +96,7 @@ fn whole_in<'a>(bytes: &'a [u8]) -> Result<Block<'a>, Stop<'a>>
 }
 
 fn fault_at(kind: BlockKind, bytes: &[u8], rest: &[u8]) -> BlockFault
-    requires small { length bytes.now ≤ 8388608 }
+    requires small { length bytes.now ≤ LONGEST_BLOCK }
     requires shorter { length rest.now ≤ length bytes.now }
     ensures kind { result.kind ≡ kind }
     ensures at { result.at + length rest.now ≡ length bytes.now }
@@ -106,7 +107,7 @@ fn fault_at(kind: BlockKind, bytes: &[u8], rest: &[u8]) -> BlockFault
 
 /// Reads the bytes, all of them, as a block.
 pub fn read_block<'a>(bytes: &'a [u8]) -> Result<Block<'a>, BlockFault>
-    requires { length bytes.now ≤ 8388608 }
+    requires { length bytes.now ≤ LONGEST_BLOCK }
     // What is read is the block, and each fault is the first.
     ensures read { IsRead bytes.now result }
     // Each block is read.

@@ -8,7 +8,7 @@ mod txs;
 
 pub use block::{Block, BlockFault, read_block};
 pub use block_grammar::BlockKind;
-pub use root::merkle_root;
+pub use root::{merkle_root, root_of, txids};
 pub use txs::Txs;
 
 #[cfg(test)]

@@ -1,16 +1,4 @@
-pub mod Standing
-pub mod Judging
-pub mod Turning
-pub mod Parting
-pub mod JudgingBack
-pub mod TurningBack
-pub mod Costing
-pub mod Buffers
-pub mod Delivering
-pub mod Fillings
-pub mod Fronts
-pub mod Progress
-pub mod Following
-pub mod Endings
-pub mod OneWord
-pub mod Outcomes
+mod OutcomeLemmas
+mod ReachedLemmas
+mod TurnLemmas
+mod CostLemmas

@@ -1,28 +1,32 @@
 -- What a bridge stands for, and what its turn does.
-use Rattle.std.specs.Prelude.{◌≡◌, ◌<◌}
-use Rattle.block_grammar.specs.Block.{Block}
+use Rattle.std.specs.Prelude.{◌≡◌, ℕ}
+use Rattle.feed_frames.specs.Replies.{Reply}
 use Rattle.chain_state.specs.Chain.{Indexed}
-use Rattle.chain_laws.specs.Standing.{StandsForChain}
-use Rattle.nmc_base.specs.Heights.{highest}
-use Rattle.machine.specs.Chain.{Chain}
+use Rattle.chain_steps.specs.Standing as chains
+use Rattle.chain_steps.specs.Costs.{IsCheap}
 use Rattle.machine.specs.Event.{Event}
-use Rattle.machine.specs.Reply.{Reply}
+use Rattle.machine.specs.RunState.{RunState, chain_of, area_of}
 use Rattle.machine.specs.Step.{Step}
 
--- the bridge's index stands for the chain
-abbrev pub StandsFor : Indexed → Chain → Type 0
-StandsFor bridge chain = StandsForChain chain.base chain.blocks bridge
+-- the index, and the length of the area that keeps the commands
+pub record Bridged : Type 0 where
+  pub index : Indexed
+  pub area : ℕ
 
--- the block is on the tip, and the chain may grow
-pub record MayJoin (bridge : Indexed) (block : Block) : Type 0 where
-  pub on_tip : block.header.fields.previous ≡ bridge.tip.hash.0
-  pub low : bridge.tip.height < highest
+-- the index is one of the run state's chain, and the area has its length
+pub record StandsFor (bridge : Bridged) (run : RunState) : Type 0 where
+  pub index : chains.StandsFor bridge.index (chain_of run)
+  pub area : bridge.area ≡ area_of run
 
-pub record Moves (old : Chain) (event : Event) (reply : Reply) (bridge : Indexed) : Type 0 where
-  pub new : Chain
+pub record Moves (old : RunState) (event : Event) (reply : Reply) (bridge : Bridged) : Type 0 where
+  pub new : RunState
   pub step : Step old event reply new
   pub stands : StandsFor bridge new
 
--- whatever chain the bridge stood for, it gave the reply by one step of the machine and stands for the new chain
-abbrev pub Turns : Indexed → Event → Reply → Indexed → Type 0
-Turns old event reply new = (chain : Chain) → StandsFor old chain → Moves chain event reply new
+-- whatever run state the bridge stood for, it gave the reply by one step of the machine and stands for the new state
+abbrev pub Turns : Bridged → Event → Reply → Bridged → Type 0
+Turns old event reply new = (run : RunState) → StandsFor old run → Moves run event reply new
+
+-- where the command is accepted
+abbrev pub IsCheapTurn : Bridged → Event → Reply → Bridged → ℕ → ℕ → Type 0
+IsCheapTurn old event reply new before after = reply.code ≡ 0 → IsCheap old.index event new.index before after

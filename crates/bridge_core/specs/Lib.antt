@@ -1,12 +1,6 @@
 pub mod Views
 pub mod Bridge
-pub mod Costs
-pub mod Front
-pub mod Causes
-pub mod Delivery
-pub mod Filling
-pub mod Transcript
-pub mod Answering
-pub mod Words
 pub mod Statuses
 pub mod Outcome
+pub mod Replaying
+pub mod Words

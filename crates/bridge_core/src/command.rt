@@ -1,13 +1,11 @@
-ghost use Rattle.std.specs.Prelude.{◌≡◌, ◌↔◌, ◌^◌};
-ghost use Rattle.byte_io.specs.Faults.{NeverFell, Rose};
-ghost use Rattle.bridge_core.specs.Words.{IsReplay};
-ghost use Rattle.bridge_core.specs.Transcript.{Transcript};
-ghost use Rattle.bridge_core.specs.Causes.{SourceCause, SinkCause};
-ghost use Rattle.bridge_core.specs.Outcome.{IsDetermined, IsComplete};
+ghost use Rattle.std.specs.Prelude.{◌≡◌, ◌↔◌, ◌^◌, Some, None};
+ghost use Rattle.frame_loop.specs.Transcript.{streams};
+ghost use Rattle.bridge_core.specs.Words.{command_of};
+ghost use Rattle.bridge_core.specs.Replaying.{Replays};
 
 use crate::replaying::replay;
 use crate::status::Status;
-use crate::words::is_replay;
+use crate::words::{Command, read_words};
 use byte_io::{Sink, Source};
 use nmc_base::Words;
 use std::alloc::Global;
@@ -19,21 +17,13 @@ const LIMIT: u64 = 1 << 40;
 ///
 /// Other words end with `Status::Words`, and then nothing is read and nothing written.
 pub fn run<S: Source, K: Sink>(alloc: Global, words: &Words, source: &mut S, sink: &mut K) -> Status
-    ensures words { (result ≡ Status.Words) ↔ (¬ IsReplay words.now.items) }
+    ensures words { (result ≡ Status.Words) ↔ (command_of words.now.items ≡ None) }
     ensures untouched { result ≡ Status.Words → (source.new ≡ source.old) × (sink.new ≡ sink.old) }
-    ensures transcript { IsReplay words.now.items →
-        Transcript (S.left source.old) (S.left source.new) (K.taken sink.old) (K.taken sink.new) (2 ^ 40)
-        (SourceCause S.faults S.failed source.old source.new) (SinkCause K.faults K.failed K.stalled sink.old sink.new) result }
-    // Where nothing failed, the bytes and the limit decide the status, or memory ran out.
-    ensures determined { IsReplay words.now.items → IsDetermined (S.left source.old) (2 ^ 40) (Rose (S.faults source.old) (S.faults source.new))
-        (Rose (K.faults sink.old) (K.faults sink.new)) (K.stalled sink.new) result }
-    ensures complete { IsReplay words.now.items → IsComplete (S.left source.old) (2 ^ 40) (Rose (S.faults source.old) (S.faults source.new))
-        (Rose (K.faults sink.old) (K.faults sink.new)) (K.stalled sink.new) result }
-    ensures source_later { NeverFell (S.faults source.old) (S.faults source.new) }
-    ensures sink_later { NeverFell (K.faults sink.old) (K.faults sink.new) }
+    ensures replay { command_of words.now.items ≡ Some Command.Replay →
+        Replays (streams (S.seen source.old) (K.seen sink.old)) (streams (S.seen source.new) (K.seen sink.new)) (2 ^ 40) result }
 {
-    if !is_replay(words) {
-        return Status::Words;
+    match read_words(words) {
+        Some(Command::Replay) => replay(alloc, source, sink, LIMIT),
+        None => Status::Words,
     }
-    replay(alloc, source, sink, LIMIT)
 }

@@ -1,7 +1,10 @@
-ghost use Rattle.std.specs.Prelude.{◌≡◌, length};
-ghost use Rattle.machine.specs.Frames.{frame};
-ghost use Rattle.bridge_core.specs.Views.{event_of, IsWithinLimits};
+ghost use Rattle.std.specs.Prelude.{◌≡◌};
+ghost use Rattle.feed_frames.specs.Frames.{IsFramed};
+ghost use Rattle.feed_frames.specs.Front as feed;
+ghost use Rattle.machine.specs.Event.{frame_of};
+ghost use Rattle.bridge_core.specs.Views.{event_of};
 
+use feed_frames::Frame;
 use nmc_base::Hash32;
 
 /// What a bridge is asked to do: one whole frame.
@@ -13,15 +16,19 @@ pub enum Event<'a> {
     Disconnect(Hash32),
 }
 
-impl Event<'_> {
-    /// The number of bytes of the event's frame.
-    pub(crate) fn frame_length(&self) -> usize
-        requires { IsWithinLimits self.now }
-        ensures { result ≡ length (frame (event_of self.now)) }
-    {
-        match self {
-            Event::Connect(block) => 5 + block.len(),
-            Event::Disconnect(_) => 37,
-        }
+/// The kind of a connect's frame.
+const CONNECT: u8 = 1;
+
+/// The event of a whole frame.
+pub(crate) fn read_event(frame: Frame<'_>) -> Event<'_>
+    requires { IsFramed (feed.frame_of frame) }
+    ensures { frame_of (event_of result) ≡ feed.frame_of frame.entry }
+{
+    if frame.kind == CONNECT {
+        return Event::Connect(frame.payload);
+    }
+    match frame.payload.as_array() {
+        Some(hash) => Event::Disconnect(Hash32(*hash)),
+        None => unreachable!(),
     }
 }

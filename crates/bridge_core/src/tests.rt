@@ -6,6 +6,7 @@ mod faults;
 mod first_block;
 mod made_blocks;
 mod one_byte;
+mod rows;
 
 use crate::{Bridge, Event, ReplyBuf, Status, replay};
 use block_reader::{merkle_root, read_block};
@@ -22,37 +23,20 @@ use std::test::Fail;
 /// The most bytes that a replay may read.
 const MOST: u64 = 1 << 40;
 
-/// The frame of the first block begins so.
-const FIRST_HEAD: [u8; 5] = [1, 0x1d, 1, 0, 0];
-
-/// The reply that accepts it begins so: code 0, a length of 36, and height 1.
-const ACCEPTED_HEAD: [u8; 9] = [0, 36, 0, 0, 0, 1, 0, 0, 0];
-
-/// The reply to a block on the block before the first, where the first is the tip, begins so.
-const NOT_ON_TIP_HEAD: [u8; 5] = [2, 32, 0, 0, 0];
-
-/// The reply to no bytes at all: they are no block, from the place 0 on.
-const NO_BLOCK: [u8; 9] = [1, 4, 0, 0, 0, 0, 0, 0, 0];
-
-/// The replies to other bytes that are no block, with the place of the fault.
-const NO_COUNT: [u8; 9] = [1, 4, 0, 0, 0, 80, 0, 0, 0];
-
-const NO_MERGED: [u8; 9] = [1, 4, 0, 0, 0, 86, 0, 0, 0];
-
-const CUT: [u8; 9] = [1, 4, 0, 0, 0, 0x1c, 1, 0, 0];
-
-const LONGER: [u8; 9] = [1, 4, 0, 0, 0, 0x1d, 1, 0, 0];
-
-/// The reply to the first block with another Merkle root begins so, and its own root follows.
-const OTHER_ROOT_HEAD: [u8; 5] = [3, 32, 0, 0, 0];
-
-/// The pieces, one behind the other.
-fn joined(alloc: Global, pieces: &[&[u8]]) -> Result<Vec<u8>, AllocError> {
-    let mut whole = Vec::new(alloc);
-    for piece in pieces {
-        whole.extend_from_slice(piece)?;
+/// The bytes of a hexadecimal text behind the others.
+fn add_digits(bytes: &mut Vec<u8>, digits: &str) -> Result<(), AllocError> {
+    let mut high: Option<u8> = None;
+    for letter in digits.as_bytes() {
+        let low = digit(*letter);
+        high = match high {
+            None => Some(low),
+            Some(h) => {
+                bytes.push(h.wrapping_mul(16).wrapping_add(low))?;
+                None
+            }
+        };
     }
-    Ok(whole)
+    Ok(())
 }
 
 fn digit(letter: u8) -> u8 {
@@ -63,228 +47,162 @@ fn digit(letter: u8) -> u8 {
     }
 }
 
-/// The bytes that the hexadecimal digits stand for.
-fn decoded(alloc: Global, digits: &str) -> Result<Vec<u8>, AllocError> {
+/// What a word of a row stands for: bytes, and bytes behind them. None where the word is digits.
+fn pieces(word: &str) -> Option<(&'static [u8], &'static [u8])> {
+    match word.as_bytes() {
+        b"block" => Some((&FIRST_BLOCK, &[])),
+        b"hash" => Some((&FIRST_HASH, &[])),
+        b"zeros" => Some((&[0; 32], &[])),
+        // the frame of the first block, and the reply that accepts it: code 0, a length of 36, and height 1
+        b"first" => Some((&[1, 0x1d, 1, 0, 0], &FIRST_BLOCK)),
+        b"accepted" => Some((&[0, 36, 0, 0, 0, 1, 0, 0, 0], &FIRST_HASH)),
+        // the reply to a block on the block before the first, where the first is the tip
+        b"not-on-tip" => Some((&[2, 32, 0, 0, 0], &FIRST_HASH)),
+        // the frames of disconnects, and their replies
+        b"back" => Some((&[2, 32, 0, 0, 0], &FIRST_HASH)),
+        b"back-base" => Some((&[2, 32, 0, 0, 0], &[0; 32])),
+        b"base" => Some((&[0, 36, 0, 0, 0, 0, 0, 0, 0], &[0; 32])),
+        b"not-tip" => Some((&[6, 32, 0, 0, 0], &FIRST_HASH)),
+        _ => None,
+    }
+}
+
+/// A part of the first block or of its hash, as `block:36-68`.
+fn part(word: &str) -> Option<&'static [u8]> {
+    let (whole, places) = word.split_once(':')?;
+    let (from, to) = places.split_once('-')?;
+    let whole: &'static [u8] = if whole == "hash" {
+        &FIRST_HASH
+    } else {
+        &FIRST_BLOCK
+    };
+    whole.get(from.parse::<usize>().ok()?..to.parse::<usize>().ok()?)
+}
+
+fn add_word(bytes: &mut Vec<u8>, word: &str) -> Result<(), AllocError> {
+    if let Some((front, behind)) = pieces(word) {
+        bytes.extend_from_slice(front)?;
+        return bytes.extend_from_slice(behind);
+    }
+    match part(word) {
+        Some(part) => bytes.extend_from_slice(part),
+        None => add_digits(bytes, word),
+    }
+}
+
+/// The bytes that a text of words stands for.
+fn bytes_of(alloc: Global, text: &str) -> Result<Vec<u8>, AllocError> {
     let mut bytes = Vec::new(alloc);
-    let mut high: Option<u8> = None;
-    for letter in digits.as_bytes() {
-        let low = digit(*letter);
-        match high {
-            None => high = Some(low),
-            Some(h) => {
-                bytes.push(h.wrapping_mul(16).wrapping_add(low))?;
-                high = None;
-            }
-        }
+    for word in text.split(' ') {
+        add_word(&mut bytes, word)?;
     }
     Ok(bytes)
 }
 
-/// The frame of the first block.
-fn first_frame(alloc: Global) -> Result<Vec<u8>, AllocError> {
-    joined(alloc, &[&FIRST_HEAD, &FIRST_BLOCK])
+/// Whether the sink took these bytes, the first of them.
+fn took(rt: &impl Abort, taken: &[u8], output: &[u8], written: usize, at: u64) {
+    let is_so = Some(taken) == output.get(..written);
+    assert!(rt; is_so, "at {at}");
 }
 
-/// The reply that accepts it.
-fn accepted(alloc: Global) -> Result<Vec<u8>, AllocError> {
-    joined(alloc, &[&ACCEPTED_HEAD, &FIRST_HASH])
+/// Whether the replay ended so.
+fn ended(rt: &impl Abort, status: Status, wanted: Status, at: u64) {
+    assert!(rt; status == wanted, "at {at}");
 }
 
-/// What a replay is to come to.
-#[derive(Clone, Copy)]
-struct Wanted<'a> {
-    output: &'a [u8],
-    status: Status,
-    line: &'static str,
+fn tells<R: Abort>(rt: &R, alloc: Global, status: Status, line: &str) -> Result<(), AllocError> {
+    let text = status.to_string(alloc)?;
+    assert_eq!(rt; text.as_str(), line);
+    Ok(())
 }
 
-/// Replays the input, at most so many bytes, and compares what it comes to.
+/// Replays the input, at most so many bytes, and compares what it comes to: the output, and the line.
 fn compare_up_to<R: Abort>(
     rt: &R,
     alloc: Global,
     input: &[u8],
     limit: u64,
-    wanted: &Wanted<'_>,
+    output: &[u8],
+    line: &str,
 ) -> Result<(), Fail>
     requires { limit ≤ 2 ^ 40 }
 {
     let mut source = SteadySource::new(input);
     let mut sink = MemorySink::new(alloc, &[])?;
     let status = replay(alloc, &mut source, &mut sink, limit);
-    assert_eq!(rt; sink.taken(), wanted.output);
-    assert_eq!(rt; status, wanted.status);
-    let line = status.to_string(alloc)?;
-    assert_eq!(rt; line.as_str(), wanted.line);
-    Ok(())
+    took(rt, sink.taken(), output, output.len(), limit);
+    Ok(tells(rt, alloc, status, line)?)
 }
 
-/// Replays the input and compares what it comes to.
 fn compare<R: Abort>(
     rt: &R,
     alloc: Global,
-    input: &[u8],
-    output: &[u8],
-    status: Status,
-    line: &'static str,
+    input: &str,
+    limit: u64,
+    output: &str,
+    line: &str,
 ) -> Result<(), Fail> {
-    compare_up_to(
-        rt,
-        alloc,
-        input,
-        MOST,
-        &Wanted {
-            output,
-            status,
-            line,
-        },
-    )
+    let input = bytes_of(alloc, input)?;
+    let output = bytes_of(alloc, output)?;
+    compare_up_to(rt, alloc, &input, limit.min(MOST), &output, line)
 }
 
-#[test]
-fn answers_the_first_block(rt: HostRuntime) -> Result<(), Fail> {
-    let alloc = rt.alloc();
-    let frame = first_frame(alloc)?;
-    let reply = accepted(alloc)?;
-    let twice = joined(alloc, &[&frame, &frame])?;
-    let both = joined(alloc, &[&reply, &NOT_ON_TIP_HEAD, &FIRST_HASH])?;
-    compare(&rt, alloc, &[], &[], Status::Done, "")?;
-    compare(&rt, alloc, &frame, &reply, Status::Done, "")?;
-    compare(&rt, alloc, &twice, &both, Status::Done, "")
+/// A row: the limit where it isn't the greatest, the input, the output, and the line.
+fn row<R: Abort>(rt: &R, alloc: Global, text: &str) -> Result<(), Fail> {
+    let (limit, text) = text.split_once(" @ ").unwrap_or(("1099511627776", text));
+    let (input, rest) = text.split_once(" > ").unwrap_or((text, "no row"));
+    let (output, line) = rest.split_once(" > ").unwrap_or((rest, ""));
+    let limit = limit.parse::<u64>().unwrap_or(0);
+    compare(rt, alloc, input, limit, output, line)
 }
 
-#[test]
-fn answers_what_the_first_block_is_not(rt: HostRuntime) -> Result<(), Fail> {
-    let alloc = rt.alloc();
-    let mut merged = first_frame(alloc)?;
-    let mut other_root = first_frame(alloc)?;
-    assert_eq!(rt; merged.len(), 290);
-    assert_eq!(rt; other_root.len(), 290);
-    merged[6] = 1;
-    other_root[41] = 0x3c;
-    let cut = joined(alloc, &[&[1, 0x1c, 1, 0, 0], &FIRST_BLOCK[..284]])?;
-    let longer = joined(alloc, &[&[1, 0x1e, 1, 0, 0], &FIRST_BLOCK, &[0]])?;
-    let root = joined(alloc, &[&OTHER_ROOT_HEAD, &FIRST_BLOCK[36..68]])?;
-    let rows: [(&[u8], &[u8]); 5] = [
-        (&merged, &NO_MERGED),
-        (&other_root, &root),
-        (&cut, &CUT),
-        (&longer, &LONGER),
-        (&[1, 0, 0, 0, 0], &NO_BLOCK),
-    ];
-    for (input, output) in rows {
-        compare(&rt, alloc, input, output, Status::Done, "")?;
+fn each_row<R: Abort>(rt: &R, alloc: Global, texts: &str) -> Result<(), Fail> {
+    for text in texts.lines() {
+        row(rt, alloc, text)?;
     }
     Ok(())
+}
+
+#[test]
+fn answers_the_first_block_and_what_it_is_not(rt: HostRuntime) -> Result<(), Fail> {
+    each_row(&rt, rt.alloc(), rows::FIRST)
 }
 
 #[test]
 fn tells_where_frames_end(rt: HostRuntime) -> Result<(), Fail> {
-    let alloc = rt.alloc();
-    let accepted = accepted(alloc)?;
-    let bad_behind = joined(alloc, &[&FIRST_HEAD, &FIRST_BLOCK, &[5]])?;
-    let cut_behind = joined(alloc, &[&FIRST_HEAD, &FIRST_BLOCK, &FIRST_HEAD])?;
-    let rows: [(&[u8], &[u8], Status, &'static str); 8] = [
-        (&[7], &[], Status::BadFrame { offset: 0 }, "bad frame at 0"),
-        (
-            &[3, 32, 0, 0, 0],
-            &[],
-            Status::BadFrame { offset: 0 },
-            "bad frame at 0",
-        ),
-        (
-            &[1, 1, 0, 0x80, 0],
-            &[],
-            Status::BadFrame { offset: 0 },
-            "bad frame at 0",
-        ),
-        (
-            &[1, 0xff, 0xff, 0xff],
-            &[],
-            Status::CutFrame { offset: 0 },
-            "cut frame at 0",
-        ),
-        (
-            &[1, 0x1d],
-            &[],
-            Status::CutFrame { offset: 0 },
-            "cut frame at 0",
-        ),
-        (
-            &[1, 0, 0, 0x80, 0],
-            &[],
-            Status::CutFrame { offset: 0 },
-            "cut frame at 0",
-        ),
-        (
-            &bad_behind,
-            &accepted,
-            Status::BadFrame { offset: 290 },
-            "bad frame at 290",
-        ),
-        (
-            &cut_behind,
-            &accepted,
-            Status::CutFrame { offset: 290 },
-            "cut frame at 290",
-        ),
-    ];
-    for (input, output, status, line) in rows {
-        compare(&rt, alloc, input, output, status, line)?;
-    }
-    Ok(())
+    each_row(&rt, rt.alloc(), rows::ENDS)
 }
 
 #[test]
 fn reads_no_further_than_the_limit(rt: HostRuntime) -> Result<(), Fail> {
-    let alloc = rt.alloc();
-    let accepted = accepted(alloc)?;
-    let one = first_frame(alloc)?;
-    let more = joined(alloc, &[&one, &one])?;
-    let rows: [(&[u8], u64, &[u8], Status); 7] = [
-        (&more, 290, &accepted, Status::InputLimit),
-        (&one, 290, &accepted, Status::InputLimit),
-        (&one, 291, &accepted, Status::Done),
-        (&one, 289, &[], Status::InputLimit),
-        (&one, 0, &[], Status::InputLimit),
-        (&[], 0, &[], Status::InputLimit),
-        (&[7], 1, &[], Status::BadFrame { offset: 0 }),
-    ];
-    for (input, limit, output, status) in rows {
-        let line = match status {
-            Status::InputLimit => "input limit",
-            Status::Done => "",
-            _ => "bad frame at 0",
-        };
-        assert!(rt; limit <= MOST);
-        compare_up_to(
-            &rt,
-            alloc,
-            input,
-            limit,
-            &Wanted {
-                output,
-                status,
-                line,
-            },
-        )?;
-    }
-    Ok(())
+    each_row(&rt, rt.alloc(), rows::LIMITS)
+}
+
+#[test]
+fn disconnects_what_it_is_told(rt: HostRuntime) -> Result<(), Fail> {
+    each_row(&rt, rt.alloc(), rows::BACK)
 }
 
 #[test]
 fn answers_as_another_program_did(rt: HostRuntime) -> Result<(), Fail> {
-    let alloc = rt.alloc();
     for made in [
         NONE_THEN_BAD_TRANSACTION,
         RULES_THEN_TWO,
         NAME_THEN_OTHER_ROOT,
         MERGED,
     ] {
-        let input = decoded(alloc, made.frames)?;
-        let output = decoded(alloc, made.replies)?;
-        compare(&rt, alloc, &input, &output, Status::Done, "")?;
+        compare(&rt, rt.alloc(), made.frames, MOST, made.replies, "")?;
     }
     Ok(())
+}
+
+/// The pieces, one behind the other.
+fn joined(alloc: Global, pieces: &[&[u8]]) -> Result<Vec<u8>, AllocError> {
+    let mut whole = Vec::new(alloc);
+    for piece in pieces {
+        whole.extend_from_slice(piece)?;
+    }
+    Ok(whole)
 }
 
 /// The Merkle root of the block that the bytes are.
@@ -310,6 +228,9 @@ fn with_second(rt: &impl Abort, alloc: Global, version: &[u8; 4]) -> Result<Vec<
     Ok(whole)
 }
 
+/// One place drops the bridges of the tests: each such place is dear to prove.
+fn let_go(_bridge: Bridge) {}
+
 /// The code that answers a block on the beginning of the chain.
 fn code_of<L: Ledger>(
     rt: &impl Abort,
@@ -318,9 +239,9 @@ fn code_of<L: Ledger>(
     steps: &mut Steps<L>,
 ) -> Result<u8, Fail> {
     assert!(rt; block.len() <= 1000);
-    let bridge = Bridge::at_base(alloc)?;
     let mut reply = ReplyBuf::new(alloc)?;
-    let _bridge = bridge.turn(alloc, Event::Connect(block), &mut reply, steps);
+    let bridge = Bridge::at_base(alloc)?;
+    let_go(bridge.turn(alloc, Event::Connect(block), &mut reply, steps));
     Ok(reply.code())
 }
 
@@ -340,7 +261,7 @@ fn codes_by_version<L: Ledger>(rt: &impl Abort, alloc: Global, blank: Blank) -> 
     for (version, wanted) in rows {
         let block = with_second(rt, alloc, &version)?;
         let code = code_of(rt, alloc, &block, &mut steps)?;
-        assert_eq!(rt; code, wanted, "version {version:?}");
+        assert!(rt; code == wanted, "version {version:?}");
     }
     Ok(())
 }
@@ -350,23 +271,21 @@ fn tells_a_name_by_its_version_alone(rt: HostRuntime) -> Result<(), Fail> {
     codes_by_version::<Brand>(&rt, rt.alloc(), Blank::new(1))
 }
 
+/// The first block, two frames of 8,388,608 zeros, and the first block again.
+fn long_input(alloc: Global) -> Result<Vec<u8>, AllocError> {
+    let zeros = vec![in alloc; 0u8; 8_388_608]?;
+    let mut input = bytes_of(alloc, "first 0100008000")?;
+    input.extend_from_slice(&zeros)?;
+    add_digits(&mut input, "0100008000")?;
+    input.extend_from_slice(&zeros)?;
+    add_word(&mut input, "first")?;
+    Ok(input)
+}
+
 #[test]
 fn answers_frames_of_the_greatest_length(rt: HostRuntime) -> Result<(), Fail> {
-    let alloc = rt.alloc();
-    let zeros = vec![in alloc; 0u8; 8_388_608]?;
-    let head: [u8; 5] = [1, 0, 0, 0x80, 0];
-    let first = first_frame(alloc)?;
-    let input = joined(alloc, &[&first, &head, &zeros, &head, &zeros, &first])?;
-    let accepted = accepted(alloc)?;
-    let output = joined(
-        alloc,
-        &[
-            &accepted,
-            &NO_COUNT,
-            &NO_COUNT,
-            &NOT_ON_TIP_HEAD,
-            &FIRST_HASH,
-        ],
-    )?;
-    compare(&rt, alloc, &input, &output, Status::Done, "")
+    let input = long_input(rt.alloc())?;
+    let replies = "accepted 010400000050000000 010400000050000000 not-on-tip";
+    let output = bytes_of(rt.alloc(), replies)?;
+    compare_up_to(&rt, rt.alloc(), &input, MOST, &output, "")
 }

@@ -1,7 +1,14 @@
 ghost use Rattle.std.specs.Prelude.{◌≡◌, ◌↔◌, IsTrue, codes};
-ghost use Rattle.bridge_core.specs.Words.{IsReplay};
+ghost use Rattle.bridge_core.specs.Words.{command_of};
 
 use nmc_base::Words;
+
+/// What a command line asks for.
+#[derive(Clone, Copy, PartialEq, Eq, Debug)]
+pub enum Command {
+    /// The word `replay` alone.
+    Replay,
+}
 
 /// The word of a replay.
 const REPLAY: &[u8; 6] = b"replay";
@@ -12,12 +19,12 @@ fn is_replay_word(word: &[u8]) -> bool
     word == REPLAY.as_slice()
 }
 
-/// Whether the words are those of a replay: the word `replay` alone.
-pub(crate) fn is_replay(words: &Words) -> bool
-    ensures { IsTrue result ↔ IsReplay words.now.items }
+/// The command that the words ask for, or none.
+pub(crate) fn read_words(words: &Words) -> Option<Command>
+    ensures { result ≡ command_of words.now.items }
 {
     match (words.item(0), words.item(1)) {
-        (Some(word), None) => is_replay_word(word.as_slice()),
-        _ => false,
+        (Some(word), None) if is_replay_word(word.as_slice()) => Some(Command::Replay),
+        _ => None,
     }
 }

@@ -7,8 +7,8 @@ use Rattle.chain_names.specs.Log.{Log}
 use Rattle.chain_names.specs.Undo.{UndoRecord}
 use Rattle.undo_laws.specs.Sound.{IsSound, AreAccepted}
 use Rattle.undo_laws.specs.UndoOf.{AreUndos}
-use Rattle.undo_laws.proofs.Beginning.{index_sound}
-use Rattle.undo_laws.proofs.Finding.{HasUndos, chain_has_undos}
+use Rattle.undo_laws.proofs.IndexLemmas.{index_sound}
+use Rattle.undo_laws.proofs.RecordLemmas.{HasUndos, chain_has_undos}
 use Rattle.chain_state.specs.Chain.{Indexed}
 use Rattle.chain_state.specs.Tables.{maps_by}
 use Rattle.chain_laws.specs.Standing.{AreValid, chain_maps, StandsForChain}

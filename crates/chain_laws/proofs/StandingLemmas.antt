@@ -12,12 +12,12 @@ use Rattle.chain_names.specs.Log.{Log, behind_coinbase, transactions_read, trans
 use Rattle.chain_names.specs.Index.{next_height, refused_in}
 use Rattle.chain_names.specs.Changes.{first_refused, after_all, after_block, undo_ops, undone}
 use Rattle.chain_names.specs.Undo.{UndoRecord}
-use Rattle.chain_names.proofs.Blocks.{refused_in-maps, index_maps-next}
+use Rattle.chain_names.proofs.BlockLemmas.{refused_in-maps, index_maps-next}
 use Rattle.chain_names.specs.Tables.{coins_in, queued_in, queue_of}
 use Rattle.nmc_base.specs.declared.limits.TheConstants.{LONGEST_BLOCK}
 use Rattle.undo_laws.specs.Expired.{IsDue}
 use Rattle.undo_laws.specs.UndoOf.{hash_read, IsUndoOf, AreUndos}
-use Rattle.undo_laws.proofs.Beginning.{undo_by_maps, index_undone}
+use Rattle.undo_laws.proofs.IndexLemmas.{undo_by_maps, index_undone}
 use Rattle.chain_state.specs.Tables.{maps_by}
 use Rattle.chain_state.specs.Chain.{Indexed, IsAtBase, SameIndex, StagedIndex, rule_refused, IsStagedOn, IsConnected, IsAbandoned, staged_undo, newest_hash}
 use Rattle.chain_state.specs.StageBack.{IsStagedBackOn, IsDisconnected}

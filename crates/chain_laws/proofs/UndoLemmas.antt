@@ -6,13 +6,13 @@ use Rattle.nmc_base.specs.declared.chain_ends.Tip.{Tip}
 use Rattle.nmc_base.specs.declared.hashes.Hash32.{Hash32}
 use Rattle.chain_names.specs.Changes.{undone}
 use Rattle.chain_names.specs.Undo.{UndoRecord}
-use Rattle.undo_laws.proofs.One.{one_undo-chain}
+use Rattle.undo_laws.proofs.OneRecordLemmas.{one_undo-chain}
 use Rattle.chain_state.specs.Tables.{maps_by}
 use Rattle.chain_state.specs.Chain.{Indexed, IsIndexed, SameIndex, StagedIndex, IsStagedOn, IsConnected, staged_undo, newest_hash}
 use Rattle.chain_state.specs.Stage.{IsRefusal}
 use Rattle.chain_state.specs.StageBack.{IsStagedBackOn, IsDisconnected}
 use Rattle.chain_state.specs.declared.stage.Refusal.{Refusal}
-use Rattle.chain_state.proofs.Disconnecting.{first_same, rest_same}
+use Rattle.chain_state.proofs.DisconnectLemmas.{first_same, rest_same}
 use Rattle.chain_laws.specs.Standing.{StandsForChain}
 use Rattle.chain_names.specs.Coins.{Maps}
 use Rattle.chain_names.specs.Log.{Log}

@@ -1,10 +1,10 @@
 pub mod Changed
 pub mod Points
 pub mod Shown
-pub mod Undoing
-pub mod Following
-pub mod Blocks
-pub mod Queue
+pub mod UndoLemmas
+pub mod LogLemmas
+pub mod BlockLemmas
+pub mod QueueLemmas
 pub mod Filled
-pub mod Due
+pub mod DueLemmas
 pub mod Meanings

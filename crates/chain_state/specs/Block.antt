@@ -2,6 +2,7 @@
 use Rattle.std.specs.Prelude.{◌≡◌, ◌≢◌, ℕ, suc, ◌≤◌, ◌^◌, List, [], ◌++◌, length, Option, Some, None, Result, Ok, Err}
 use Rattle.block_grammar.specs.Transaction.{Transaction, txid_of}
 use Rattle.nmc_base.specs.declared.chain_ends.Profile.{Profile}
+use Rattle.nmc_base.specs.Heights.{highest}
 use Rattle.nmc_base.specs.declared.no_memory.NoMemory.{NoMemory}
 use Rattle.chain_names.specs.declared.refusal.RuleRefusal.{RuleRefusal}
 use Rattle.chain_names.specs.Verdict.{refused, verdict}
@@ -14,7 +15,7 @@ use Rattle.chain_state.specs.declared.work.Work.{Work}
 pub record IsReady (profile : Profile) (w : Work) : Type 0 where
   pub work : IsWork w
   pub none_empty : w.empty.items ≡ []
-  pub low : w.height ≤ 2000000000
+  pub low : w.height ≤ highest
   pub standing : IsStanding profile w.height (suc w.height) (maps_by w.tables)
 
 abbrev pub HasFewOutputs : Transaction → Type 0

@@ -4,6 +4,7 @@ pub mod Cost
 pub mod Block
 pub mod Expiring
 pub mod Whole
+pub mod Worked
 pub mod Clearing
 pub mod Measure
 pub mod Chain

@@ -1,8 +1,11 @@
 -- What staging a block answers.
-use Rattle.std.specs.Prelude.{◌≡◌, ◌≢◌, ℕ, ◌+◌, ◌*◌, ◌<◌, ◌≤◌, [], length, Some}
+use Rattle.std.specs.Prelude.{◌≡◌, ◌≢◌, ℕ, ◌+◌, ◌*◌, ◌<◌, ◌≤◌, List, [], length, map, Some}
 use Rattle.block_grammar.specs.Block.{Block}
 use Rattle.block_grammar.specs.Merkle.{block_root}
+use Rattle.block_grammar.specs.Transaction.{txid_of}
+use Rattle.block_reader.specs.Rows.{seen_row}
 use Rattle.nmc_base.specs.Heights.{highest}
+use Rattle.nmc_base.specs.declared.hashes.Hash32.{Hash32}
 use Rattle.chain_state.specs.Chain.{Indexed, SameIndex, StagedIndex, rule_refused, IsStagedOn}
 use Rattle.chain_state.specs.Cost.{touched_by}
 use Rattle.chain_state.specs.declared.tables.Tables.{Tables}
@@ -19,6 +22,11 @@ pub record Begins (tables : Tables) (height : ℕ) (w : Work) : Type 0 where
   pub ops : w.ops.items ≡ []
   pub empty : w.empty.items ≡ []
   pub room : 1 ≤ w.empty.spare
+
+-- the ids of the block's transactions, and their Merkle root
+pub record HasIdsAndRoot (block : Block) (ids : List Hash32) (root : Hash32) : Type 0 where
+  pub ids_are : seen_row ids ≡ map txid_of block.transactions
+  pub root_is : root.0 ≡ block_root block
 
 -- the block's transactions were accepted and the block is staged, or the first that breaks a rule is named
 pub record StagesWell (old : Indexed) (block : Block) (s : StagedIndex) : Type 0 where

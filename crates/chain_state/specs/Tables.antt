@@ -1,5 +1,5 @@
 -- The tables of a chain, read as maps.
-use Rattle.std.specs.Prelude.{◌≡◌, ℕ, ◌<◌, ◌≤◌, Bool, true, List, Option, Some, None, nat_eq}
+use Rattle.std.specs.Prelude.{◌≡◌, ℕ, ◌<◌, ◌≤◌, Bool, true, List, [], Option, Some, None, nat_eq}
 use Rattle.std.specs.List.{AllByRecursion}
 use Rattle.std.specs.Str.{bytes_eq}
 use Rattle.nmc_base.specs.declared.chain_ends.Profile.{Profile}
@@ -14,6 +14,7 @@ use Rattle.chain_names.specs.Verdict.{made_at}
 use Rattle.chain_names.specs.Tables.{coins_in, coin_places, names_in, room_in, name_places, queued_in, queue_places, queue_of, AreCoinsFilled, AreNamesFilled, IsQueueFilled}
 use Rattle.chain_state.specs.declared.tables.Tables.{Tables}
 use Rattle.chain_state.specs.declared.tables.Shift.{Shift}
+use Rattle.chain_state.specs.declared.tables.Copies.{Copies}
 
 -- what the tables say of coins and names
 abbrev pub maps_by : Tables → Maps
@@ -33,6 +34,12 @@ pub record IsStanding (profile : Profile) (at next : ℕ) (maps : Maps) : Type 0
   pub low_coins : (point : OutPoint) (coin : Coin) → maps.coins point ≡ Some coin → made_at coin < next
   pub low_names : (name : List ℕ) → AllByRecursion (IsBelow next) (maps.names name)
   pub live : (λ point. unless_expired profile at (maps.coins point)) ≡ maps.coins
+
+-- no place is there
+pub record AreEmpty (t : Tables) : Type 0 where
+  pub coins : t.coins ≡ []
+  pub names : t.names ≡ []
+  pub queue : t.queue ≡ []
 
 -- each place holds something
 pub record AreFilled (t : Tables) : Type 0 where
@@ -83,6 +90,25 @@ pub record PutsCoin (old new : Tables) (at : OutPoint) (coin : Coin) : Type 0 wh
   pub rows : queue_places new.queue ≡ queue_places old.queue
 
 -- ---- names that move
+
+-- what a name's move needs of its own
+pub record IsCopied (t : Tables) (name value : List ℕ) (copies : Copies) : Type 0 where
+  pub own : copies.own ≡ name
+  pub kept : copies.kept ≡ name
+  pub value_is : copies.value ≡ value
+  pub before : copies.before ≡ entry_of (names_in t.names name)
+
+-- a name moved, in places that were there
+pub record MovesName (old new : Tables) (spent made : OutPoint) (name : List ℕ) (copies : Copies) (height : ℕ) (left : Shift) : Type 0 where
+  pub held : coins_in old.coins spent ≡ Some left.coin
+  pub name_is : left.name ≡ copies.kept
+  pub before_is : left.before ≡ copies.before
+  pub coins : coins_in new.coins ≡ changed same_point (changed same_point (coins_in old.coins) spent None) made (Some (Named copies.own height))
+  pub places : coin_places new.coins ≡ coin_places old.coins
+  pub names : names_in new.names ≡ with_value (names_in old.names) name height made copies.value
+  pub name_places : name_places new.names ≡ name_places old.names
+  pub queue : queued_in new.queue ≡ queue_of (coins_in new.coins)
+  pub rows : queue_places new.queue ≡ queue_places old.queue
 
 -- a name moved, and what it left
 pub record Shifts (old new : Tables) (spent made : OutPoint) (name value : List ℕ) (height : ℕ) (left : Shift) : Type 0 where

@@ -10,8 +10,9 @@ use Rattle.chain_names.specs.Points.{same_point}
 use Rattle.chain_names.specs.Coins.{Maps}
 use Rattle.chain_names.specs.Changes.{restored, back_ops, without_expired}
 use Rattle.chain_names.specs.Tables.{coins_in, coin_places, names_in, queued_in, queue_places, queue_of, is_named_at, FilledBut, AreNamesFilled}
+use Rattle.undo_laws.specs.Fits.{AreUndoable}
 use Rattle.chain_state.specs.Tables.{maps_by, AreFilled}
-use Rattle.chain_state.specs.Work.{FitsOps, HasSpentPlace, HasSpentRow, may_be_empty, may_be_empty_at}
+use Rattle.chain_state.specs.Work.{HasSpentPlace, HasSpentRow, may_be_empty, may_be_empty_at}
 use Rattle.chain_state.specs.Expiring.{CanReturn}
 use Rattle.undo_laws.specs.Expired.{is_held_at, IsDue, IsSortedByPoint}
 use Rattle.chain_state.specs.declared.tables.Tables.{Tables}
@@ -29,7 +30,7 @@ maps_returned t expired = record { coins = restored expired (coins_in t.coins); 
 
 pub record IsWhole (w : Whole) : Type 0 where
   pub queue : queued_in w.work.tables.queue ≡ queue_of (coins_in w.work.tables.coins)
-  pub fits : FitsOps w.work.height w.work.ops.items (maps_returned w.work.tables w.expired.items)
+  pub fits : AreUndoable w.work.height w.work.ops.items (maps_returned w.work.tables w.expired.items)
   pub spent_placed : AllByRecursion (HasSpentPlace w.work.tables) w.work.ops.items
   pub spent_rows : AllByRecursion (HasSpentRow w.work.tables) w.work.ops.items
   pub coins_filled : FilledBut (λ point. may_be_empty w.work.ops.items w.work.empty.items point || list_any (is_held_at point) w.expired.items) (coin_places w.work.tables.coins) (λ point. is_some (coins_in w.work.tables.coins point))

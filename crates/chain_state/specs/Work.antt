@@ -1,17 +1,18 @@
 -- Work on the tables for one block: what was done so far, and what undoes it.
-use Rattle.std.specs.Prelude.{◌≡◌, ℕ, ◌+◌, ◌≤◌, Bool, true, false, ◌||◌, ◌&&◌, ◌==◌, List, [], ◌∷◌, ◌++◌, length, Some, None}
+use Rattle.std.specs.Prelude.{◌≡◌, ℕ, ◌+◌, ◌≤◌, Bool, true, false, ◌||◌, ◌&&◌, ◌==◌, List, [], ◌∷◌, ◌++◌, length, Some}
 use Rattle.std.specs.Option.{is_some}
 use Rattle.std.specs.List.{list_any, AllByRecursion}
 use Rattle.nmc_base.specs.declared.hashes.OutPoint.{OutPoint}
 use Rattle.nmc_base.specs.declared.hashes.Hash20.{Hash20}
 use Rattle.chain_names.specs.declared.coin.Coin.{Coin}
-use Rattle.chain_names.specs.declared.coin.Coin.TheVariants.{New, Named}
+use Rattle.chain_names.specs.declared.coin.Coin.TheVariants.{New}
 use Rattle.chain_names.specs.declared.undo.UndoOp.{UndoOp}
 use Rattle.chain_names.specs.declared.undo.UndoOp.TheVariants.{New as undo_new, First as undo_first, Update as undo_update}
 use Rattle.chain_names.specs.Points.{same_point, changed}
 use Rattle.chain_names.specs.Coins.{Maps, entry_of}
 use Rattle.chain_names.specs.Changes.{back_op, back_ops, with_spent, moved_back}
 use Rattle.chain_names.specs.Tables.{coins_in, coin_places, queued_in, queue_places, queue_of, is_named_at, FilledBut, AreNamesFilled}
+use Rattle.undo_laws.specs.Fits.{IsMadeNamed, IsUndoable, AreUndoable}
 use Rattle.chain_state.specs.declared.tables.Tables.{Tables}
 use Rattle.chain_state.specs.declared.tables.Shift.{Shift}
 use Rattle.chain_state.specs.declared.work.Work.{Work}
@@ -28,29 +29,6 @@ abbrev pub spends_at : ℕ → OutPoint → UndoOp → Bool
 spends_at height point (undo_new made) = false
 spends_at height point (undo_first made spent coin name before) = is_named_at height (Some coin) && same_point spent point
 spends_at height point (undo_update made spent coin name before) = is_named_at height (Some coin) && same_point spent point
-
--- ---- an operation that can be undone at a height
-
--- the coin made is of the operation's kind, and the outpoint that was spent has none
-pub record IsMadeNew (height : ℕ) (point : OutPoint) (maps : Maps) : Type 0 where
-  pub coin : Coin
-  pub held : maps.coins point ≡ Some coin
-  pub unnamed : (u : ℕ) → is_named_at u (Some coin) ≡ false
-
-pub record IsMadeNamed (height : ℕ) (made spent : OutPoint) (maps : Maps) : Type 0 where
-  pub name : List ℕ
-  pub held : maps.coins made ≡ Some (Named name height)
-  pub free : maps.coins spent ≡ None
-
-abbrev pub FitsOp : ℕ → UndoOp → Maps → Type 0
-FitsOp height (undo_new made) maps = IsMadeNew height made maps
-FitsOp height (undo_first made spent coin name before) maps = IsMadeNamed height made spent maps
-FitsOp height (undo_update made spent coin name before) maps = IsMadeNamed height made spent maps
-
--- from the last to the first
-abbrev pub FitsOps : ℕ → List UndoOp → Maps → Type 0
-FitsOps height [] maps = Unit {0}
-FitsOps height (op ∷ ops) maps = FitsOps height ops maps × FitsOp height op (back_ops ops maps)
 
 -- ---- places
 
@@ -72,7 +50,7 @@ may_be_empty_at made ops empty height = λ point. list_any (spends_at height poi
 
 pub record IsWork (w : Work) : Type 0 where
   pub queue : queued_in w.tables.queue ≡ queue_of (coins_in w.tables.coins)
-  pub fits : FitsOps w.height w.ops.items (maps_by w.tables)
+  pub fits : AreUndoable w.height w.ops.items (maps_by w.tables)
   pub spent_placed : AllByRecursion (HasSpentPlace w.tables) w.ops.items
   pub spent_rows : AllByRecursion (HasSpentRow w.tables) w.ops.items
   pub coins_filled : FilledBut (may_be_empty w.ops.items w.empty.items) (coin_places w.tables.coins) (λ point. is_some (coins_in w.tables.coins point))
@@ -136,7 +114,7 @@ pub record GoesBack (old new : Work) (maps : Maps) (ops : List UndoOp) : Type 0 
 -- the operation moved a name, and its coin was spent
 pub record IsNameUndo (height : ℕ) (op : UndoOp) (made spent : OutPoint) (coin : Coin) (name : List ℕ) : Type 0 where
   pub back : (maps : Maps) → back_op op maps ≡ moved_back maps made spent coin name
-  pub fits : (maps : Maps) → FitsOp height op maps → IsMadeNamed height made spent maps
+  pub fits : (maps : Maps) → IsUndoable height op maps → IsMadeNamed height made spent maps
   pub spends : (point : OutPoint) → spends point op ≡ same_point spent point
   pub spends_at : (row : ℕ) (point : OutPoint) → spends_at row point op ≡ (is_named_at row (Some coin) && same_point spent point)
 

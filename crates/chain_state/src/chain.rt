@@ -6,9 +6,6 @@ ghost use Rattle.chain_state.specs.Stage.{commit_steps};
 
 use crate::tables::Tables;
 use crate::whole::Whole;
-use expiry_queue::Queue;
-use name_coins::Coins;
-use name_table::Table;
 use nmc_base::{Base, Hash32, NoMemory, RoomyList, Steps, Tip};
 use std::alloc::Global;
 use std::marker::Model;
@@ -61,11 +58,7 @@ impl Chain {
         requires { base.height ≤ HIGHEST_HEIGHT }
         ensures { IfOk result (λ chain. IsAtBase base chain) }
     {
-        let tables = Tables {
-            coins: Coins::new(alloc)?,
-            names: Table::new(alloc)?,
-            queue: Queue::new(alloc)?,
-        };
+        let tables = Tables::new(alloc)?;
         let tip = Tip {
             height: base.height,
             hash: base.hash,

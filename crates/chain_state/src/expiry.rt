@@ -6,6 +6,7 @@ ghost use Rattle.std.specs.List.Sorted.{IsStrictlySortedBy};
 ghost use Rattle.nmc_base.specs.Hash.{outpoint_cmp};
 ghost use Rattle.chain_names.specs.Points.{same_point};
 ghost use Rattle.chain_names.specs.Tables.{coins_in, queued_in, queue_places, queue_of, row_points};
+ghost use Rattle.nmc_base.specs.Heights.{highest};
 ghost use Rattle.chain_state.specs.Expiring.{TakesDue, Expires, CanReturn, Restores};
 
 use crate::tables::Tables;
@@ -17,7 +18,7 @@ use std::sync::ledger::Ledger;
 /// The height at which the names were given their values whose coins are due after a block at this height, or None where
 /// there is no such height.
 pub(crate) fn due_row(profile: Profile, height: u32) -> Option<u32>
-    requires { height ≤ 2000000000 }
+    requires { height ≤ highest }
     ensures some { IfSome result (λ row. row + expiry_depth profile (suc height) ≡ suc height) }
     ensures none { IfNone result (suc height < expiry_depth profile (suc height)) }
 {

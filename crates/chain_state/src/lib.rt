@@ -13,6 +13,7 @@ mod tables;
 mod view;
 mod whole;
 mod work;
+mod worked;
 
 pub use back::{BackOutcome, BackRefusal, StagedBack};
 pub use chain::{Chain, StagedChain};

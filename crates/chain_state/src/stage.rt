@@ -1,17 +1,18 @@
-ghost use Rattle.std.specs.Prelude.{◌≡◌, ◌<◌, ◌^◌, length, IfOk, IfErr, IsOk};
+ghost use Rattle.std.specs.Prelude.{◌≡◌, ◌<◌, map, IfOk, IfErr, IsOk};
 ghost use Rattle.nmc_base.specs.declared.limits.TheConstants.{HIGHEST_HEIGHT};
-ghost use Rattle.chain_names.specs.Log.{behind_coinbase};
-ghost use Rattle.undo_laws.specs.Sound.{count_outputs};
+ghost use Rattle.block_grammar.specs.Transaction.{txid_of};
+ghost use Rattle.block_reader.specs.Rows.{seen_row};
 ghost use Rattle.chain_state.specs.Chain.{tables_of};
-ghost use Rattle.chain_state.specs.Stage.{Begins, StagesNames, Stages, IsCheap};
+ghost use Rattle.chain_state.specs.Stage.{Begins, HasIdsAndRoot, StagesNames, Stages, IsCheap};
 
-use crate::block::behind_coinbase;
+use crate::block::{behind_coinbase, ids_behind};
 use crate::chain::{Chain, StagedChain};
 use crate::tables::Tables;
 use crate::work::Work;
-use block_reader::{Block, merkle_root};
+use crate::worked::Worked;
+use block_reader::{Block, root_of, txids};
 use name_rules::RuleRefusal;
-use nmc_base::{HIGHEST_HEIGHT, Hash32, RoomyList, Steps};
+use nmc_base::{HIGHEST_HEIGHT, Hash32, NoMemory, RoomyList, Steps};
 use std::alloc::Global;
 use std::sync::ledger::Ledger;
 use undo_records::{Parts, Undo};
@@ -91,40 +92,41 @@ impl Work {
     }
 }
 
+/// The ids of the block's transactions, and their Merkle root.
+fn ids_and_root(alloc: Global, block: &Block<'_>) -> Result<(Vec<Hash32>, Hash32), NoMemory>
+    ensures { IfOk result (λ x. HasIdsAndRoot block.now x.0.items x.1) }
+{
+    let ids = txids(alloc, block)?;
+    let root = root_of(alloc, &ids)?;
+    Ok((ids, root))
+}
+
 impl Chain {
-    /// Stages a block whose header was looked at: does what its transactions do to names.
+    /// Stages a block whose header was looked at, and whose transactions have these ids: does what they do to names.
     fn stage_names<L: Ledger>(
         self,
         alloc: Global,
         block: &Block<'_>,
+        ids: &[Hash32],
         steps: &mut Steps<L>,
     ) -> StageOutcome
         requires low { self.tip.height < HIGHEST_HEIGHT }
-        requires outputs { count_outputs (behind_coinbase block.now.transactions) < 2 ^ 32 }
-        requires count { length block.now.transactions < 4294967296 }
+        requires ids { seen_row ids.now ≡ map txid_of block.now.transactions }
         ensures names { StagesNames self block.now result }
         ensures cost { IsCheap block.now result steps.old steps.new }
     {
+        // The count says that an index of a transaction fits its number.
+        let _count = block.count();
         let Chain { base, tip, parts } = self;
         let (tables, undos) = split(parts);
         let mut undos = undos;
-        let mut work = match Work::begin(alloc, tables, tip.height + 1, &mut undos) {
+        let work = match Work::begin(alloc, tables, tip.height + 1, &mut undos) {
             Ok(work) => work,
             Err(tables) => return StageOutcome::NoMemory(Chain::joined(base, tip, tables, undos)),
         };
-        match work.apply_all(alloc, behind_coinbase(block.txs()), base.profile, steps) {
-            Ok(None) => {}
-            Ok(Some((tx, refusal))) => {
-                let chain = Chain::joined(base, tip, work.abandon(steps), undos);
-                return StageOutcome::Refused(chain, Refusal::Rule { tx, refusal });
-            }
-            Err(_) => {
-                let tables = work.abandon(steps);
-                return StageOutcome::NoMemory(Chain::joined(base, tip, tables, undos));
-            }
-        }
-        match work.finish(alloc, base.profile, steps) {
-            Ok(whole) => {
+        let txs = behind_coinbase(block.txs());
+        match work.do_all(alloc, txs, ids_behind(ids), base.profile, steps) {
+            Worked::Whole(whole) => {
                 let hash = block.header().hash();
                 StageOutcome::Staged(StagedChain {
                     base,
@@ -134,14 +136,17 @@ impl Chain {
                     undos,
                 })
             }
-            Err(work) => {
-                let tables = work.abandon(steps);
+            Worked::Refused(tables, tx, refusal) => {
+                let chain = Chain::joined(base, tip, tables, undos);
+                StageOutcome::Refused(chain, Refusal::Rule { tx, refusal })
+            }
+            Worked::NoMemory(tables) => {
                 StageOutcome::NoMemory(Chain::joined(base, tip, tables, undos))
             }
         }
     }
 
-    /// Stages a block: does on the tables what it does to names, and keeps what undoes it.
+    /// Stages a block: does on the tables what it does to names, and keeps what undoes it. Each transaction is hashed once.
     ///
     /// A block that isn't on the tip is refused first, then one on the greatest height, then one with another Merkle root,
     /// and then the first transaction that breaks a rule on names. Memory is taken behind the first two refusals.
@@ -151,13 +156,10 @@ impl Chain {
         block: &Block<'_>,
         steps: &mut Steps<L>,
     ) -> StageOutcome
-        requires { count_outputs (behind_coinbase block.now.transactions) < 2 ^ 32 }
         ensures stages { Stages self block.now result }
         // With the steps of its commit.
         ensures cost { IsCheap block.now result steps.old steps.new }
     {
-        // The count says that an index of a transaction fits its number.
-        let _count = block.count();
         let header = block.header();
         if header.previous() != self.tip.hash {
             let tip = self.tip.hash;
@@ -166,13 +168,13 @@ impl Chain {
         if self.tip.height >= HIGHEST_HEIGHT {
             return StageOutcome::Refused(self, Refusal::HeightLimit);
         }
-        let computed = match merkle_root(alloc, block) {
-            Ok(root) => root,
+        let (ids, computed) = match ids_and_root(alloc, block) {
+            Ok(found) => found,
             Err(_) => return StageOutcome::NoMemory(self),
         };
         if header.root() != computed {
             return StageOutcome::Refused(self, Refusal::MerkleMismatch { computed });
         }
-        self.stage_names(alloc, block, steps)
+        self.stage_names(alloc, block, &ids, steps)
     }
 }

@@ -4,9 +4,9 @@ ghost use Rattle.nmc_base.specs.declared.hashes.OutPoint.{OutPoint};
 ghost use Rattle.chain_names.specs.declared.coin.Coin.{Coin};
 ghost use Rattle.chain_names.specs.Points.{same_point, changed};
 ghost use Rattle.chain_names.specs.Coins.{entry_of};
-ghost use Rattle.chain_names.specs.Tables.{coins_in, coin_places, names_in, queued_in, queue_places, queue_of, is_named_at, AreNamesFilled};
+ghost use Rattle.chain_names.specs.Tables.{coins_in, coin_places, names_in, name_places, room_in, queued_in, queue_places, queue_of, is_named_at, AreNamesFilled};
 ghost use Rattle.chain_names.specs.Changes.{with_value};
-ghost use Rattle.chain_state.specs.Tables.{HoldSame, HasPlaces, MayHavePlaces, IsTaken, TakesCoin, PutsCoin, Shifts, ShiftsBack};
+ghost use Rattle.chain_state.specs.Tables.{AreEmpty, IsCopied, MovesName, HoldSame, HasPlaces, MayHavePlaces, IsTaken, TakesCoin, PutsCoin, Shifts, ShiftsBack};
 
 use chain_names::{Coin, Item};
 use expiry_queue::Queue;
@@ -24,6 +24,15 @@ pub struct Tables {
     pub queue: Queue,
 }
 
+/// What a name's move needs of its own: the name for the new coin and for what is left, the value, and the value before.
+#[derive(Drop)]
+pub(crate) struct Copies {
+    own: Bytes,
+    kept: Bytes,
+    value: Bytes,
+    before: Option<Item>,
+}
+
 /// What a name's move leaves: the coin that was spent, a copy of the name, and the value that it had before.
 #[derive(Drop)]
 pub(crate) struct Shift {
@@ -33,6 +42,17 @@ pub(crate) struct Shift {
 }
 
 impl Tables {
+    /// Tables without a place.
+    pub(crate) fn new(alloc: Global) -> Result<Tables, NoMemory>
+        ensures { IfOk result (λ tables. AreEmpty tables) }
+    {
+        Ok(Tables {
+            coins: Coins::new(alloc)?,
+            names: Table::new(alloc)?,
+            queue: Queue::new(alloc)?,
+        })
+    }
+
     /// A copy of a name's entry.
     fn entry_copy<L: Ledger>(
         &self,
@@ -54,6 +74,29 @@ impl Tables {
                 }))
             }
         }
+    }
+
+    /// The copies that a name's move needs.
+    fn copies<L: Ledger>(
+        &self,
+        alloc: Global,
+        name: &[u8],
+        value: &[u8],
+        steps: &mut Steps<L>,
+    ) -> Result<Copies, NoMemory>
+        ensures copied { IfOk result (λ copies. IsCopied self.now name.now value.now copies) }
+        ensures cost { OnOk result (steps.new ≤ steps.old + 1) }
+    {
+        let own = Bytes::copy_of(alloc, name)?;
+        let kept = Bytes::copy_of(alloc, name)?;
+        let value = Bytes::copy_of(alloc, value)?;
+        let before = self.entry_copy(alloc, name, steps)?;
+        Ok(Copies {
+            own,
+            kept,
+            value,
+            before,
+        })
     }
 
     /// Makes the places that a name's next output needs. Where memory runs out, those of the outpoint may stay; the
@@ -143,6 +186,48 @@ impl Tables {
         self.coins.put(at, coin, steps);
     }
 
+    /// Moves a name from an outpoint to another one, whose places are there.
+    fn move_name<L: Ledger>(
+        &mut self,
+        spent: &OutPoint,
+        made: &OutPoint,
+        name: &[u8],
+        copies: Copies,
+        height: u32,
+        steps: &mut Steps<L>,
+    ) -> Shift
+        requires queue { queued_in self.old.queue ≡ queue_of (coins_in self.old.coins) }
+        requires held { (coin : Coin) × (coins_in self.old.coins spent.now ≡ Some coin) }
+        requires fresh { coins_in self.old.coins made.now ≡ None }
+        requires place { coin_places self.old.coins made.now ≡ true }
+        requires row { queue_places self.old.queue height made.now ≡ true }
+        requires named { name_places self.old.names name.now ≡ true }
+        requires room { 1 ≤ room_in self.old.names name.now }
+        ensures moves { MovesName self.old self.new spent.now made.now name.now copies height result }
+        ensures cost { steps.new ≤ steps.old + 5 }
+    {
+        let coin = match self.take_coin(spent, steps) {
+            Some(coin) => coin,
+            None => unreachable!(),
+        };
+        let name_coin = Coin::Named {
+            name: copies.own,
+            height,
+        };
+        self.put_coin(made, name_coin, steps);
+        let item = Item {
+            height,
+            at: *made,
+            value: copies.value,
+        };
+        self.names.push(name, item, steps);
+        Shift {
+            coin,
+            name: copies.kept,
+            before: copies.before,
+        }
+    }
+
     /// Moves a name from an outpoint to another one, in a block of this height, and gives it a value. All memory is taken
     /// first: where it runs out, nothing is done but that places for the new outpoint may stay.
     pub(crate) fn shift<L: Ledger>(
@@ -163,23 +248,9 @@ impl Tables {
         ensures err { OnErr result (MayHavePlaces self.old self.new made.now height) }
         ensures cost { OnOk result (steps.new ≤ steps.old + 9) }
     {
-        let own = Bytes::copy_of(alloc, name)?;
-        let kept = Bytes::copy_of(alloc, name)?;
-        let value = Bytes::copy_of(alloc, value)?;
-        let before = self.entry_copy(alloc, name, steps)?;
+        let copies = self.copies(alloc, name, value, steps)?;
         self.make_places(made, name, height, steps)?;
-        let coin = match self.take_coin(spent, steps) {
-            Some(coin) => coin,
-            None => unreachable!(),
-        };
-        self.put_coin(made, Coin::Named { name: own, height }, steps);
-        let at = *made;
-        self.names.push(name, Item { height, at, value }, steps);
-        Ok(Shift {
-            coin,
-            name: kept,
-            before,
-        })
+        Ok(self.move_name(spent, made, name, copies, height, steps))
     }
 
     /// Moves a name back to the outpoint that was spent, and takes its last value away.

@@ -2,6 +2,7 @@ ghost use Rattle.std.specs.Prelude.{◌≡◌, ◌≤◌, List, ℕ, Some};
 ghost use Rattle.chain_names.specs.declared.coin.Item.{Item};
 ghost use Rattle.chain_names.specs.Coins.{entry_of};
 ghost use Rattle.chain_names.specs.Tables.{names_in};
+ghost use Rattle.nmc_base.specs.Heights.{highest};
 ghost use Rattle.chain_state.specs.Tables.{maps_by};
 
 use crate::tables::Tables;
@@ -14,7 +15,7 @@ use std::sync::ledger::Ledger;
 #[derive(Drop)]
 pub(crate) struct View<'a> {
     pub(crate) tables: &'a Tables,
-    ghost low_names: { (name : List ℕ) (item : Item) → entry_of (names_in tables.now.names name) ≡ Some item → item.height ≤ 2000000000 },
+    ghost low_names: { (name : List ℕ) (item : Item) → entry_of (names_in tables.now.names name) ≡ Some item → item.height ≤ highest },
 }
 
 impl<'a> NameView for View<'a> {

@@ -11,3 +11,6 @@ pub use frame::Frame;
 pub use kinds::{KINDS, Kind, LONGEST_PAYLOAD};
 pub use law::{any_pieces, one_splitting};
 pub use reader::{BadFrame, Frames, PIECE};
+
+#[cfg(test)]
+mod tests;

@@ -14,3 +14,6 @@ pub use filling::Buffers;
 pub use following::{Ending, follow};
 pub use law::one_ending;
 pub use reply::{LONGEST_REPLY, ReplyBuf};
+
+#[cfg(test)]
+mod tests;

@@ -2,9 +2,10 @@ ghost use Rattle.std.specs.Prelude.{◌≡◌, ◌<◌, true, length, IsTrue, If
 ghost use Rattle.gate_journal.specs.Stand.{IsAtGate};
 
 use crate::{AppendFault, Journal, JournalFault};
-use disk_model::{Choice, Disk, Failed, MemoryDisk};
+use disk_model::{Choice, Disk, MemoryDisk};
 use nmc_base::Bytes;
 use std::alloc::Global;
+use std::process::Abort;
 use std::test::Fail;
 
 /// A file of eight bytes, a journal behind them, and two records.
@@ -85,7 +86,7 @@ fn records<D: Disk>(alloc: Global, disk: &mut D, limit: u64) -> Result<Bytes, Jo
 
 /// The same of a file 1 of these bytes.
 fn records_of(alloc: Global, bytes: &[u8], limit: u64) -> Result<Bytes, JournalFault> {
-    let mut disk = MemoryDisk::new(alloc, &[]).map_err(|_| JournalFault::NoMemory)?;
+    let mut disk = MemoryDisk::new(alloc, &[])?;
     disk.write_at(1, 0, bytes)?;
     records(alloc, &mut disk, limit)
 }
@@ -134,159 +135,239 @@ fn is_not_begun(
     }
 }
 
-#[test]
-fn full_and_read_again(rt: HostRuntime) -> Result<(), Fail> {
-    let alloc = rt.alloc();
-    let mut disk = MemoryDisk::new(alloc, &[])?;
-    assert_eq!(rt; filled(&mut disk), Some((9, 32, Err(AppendFault::Full))));
-    assert_eq!(rt; records(alloc, &mut disk, 32)?.as_slice(), ONE);
-    assert_eq!(rt; Journal::at_gate(1, 32, 32).length(), 32);
+/// So many records are acknowledged; None where the disk failed before.
+fn acknowledges(rt: &impl Abort, disk: &mut MemoryDisk, count: Option<u8>) {
+    let made = made(disk);
+    assert!(rt; made == count);
+}
+
+/// After so many calls each choice leaves the records `before`, or `after`.
+fn leaves_either(
+    rt: &impl Abort,
+    alloc: Global,
+    disk: &MemoryDisk,
+    calls: usize,
+    step: (&[u8], &[u8]),
+) -> Result<(), Fail> {
+    let is_right = each_is_either(alloc, disk, calls, step.0, step.1)?;
+    assert!(rt; is_right);
+    Ok(())
+}
+
+/// After so many calls this choice leaves no journal.
+fn leaves_none(
+    rt: &impl Abort,
+    alloc: Global,
+    disk: &MemoryDisk,
+    calls: usize,
+    choice: Choice,
+) -> Result<(), Fail> {
+    let is_right = is_not_begun(alloc, disk, calls, choice)?;
+    assert!(rt; is_right);
+    Ok(())
+}
+
+fn reads(
+    rt: &impl Abort,
+    alloc: Global,
+    disk: &mut MemoryDisk,
+    limit: u64,
+    want: &[u8],
+) -> Result<(), Fail> {
+    let found = records(alloc, disk, limit)?;
+    assert_eq!(rt; found.as_slice(), want);
     Ok(())
 }
 
 #[test]
+fn full_and_read_again(rt: HostRuntime) -> Result<(), Fail> {
+    let mut disk = MemoryDisk::new(rt.alloc(), &[])?;
+    let lengths = filled(&mut disk);
+    assert!(rt; lengths == Some((9, 32, Err(AppendFault::Full))));
+    reads(&rt, rt.alloc(), &mut disk, 32, ONE)
+}
+
+/// After each call from the third on: the records that may be there.
+static ALLOWED: [(&[u8], &[u8]); 9] = [
+    (NONE, NONE),
+    (NONE, ONE),
+    (NONE, ONE),
+    (NONE, ONE),
+    (ONE, ONE),
+    (ONE, TWO),
+    (ONE, TWO),
+    (ONE, TWO),
+    (TWO, TWO),
+];
+
+#[test]
 fn each_stop_leaves_the_records_before_or_after(rt: HostRuntime) -> Result<(), Fail> {
-    let alloc = rt.alloc();
-    let mut disk = MemoryDisk::new(alloc, &[])?;
-    assert_eq!(rt; made(&mut disk), Some(2));
-    // After each call from the third on: the records that may be there.
-    let allowed = [
-        (NONE, NONE),
-        (NONE, ONE),
-        (NONE, ONE),
-        (NONE, ONE),
-        (ONE, ONE),
-        (ONE, TWO),
-        (ONE, TWO),
-        (ONE, TWO),
-        (TWO, TWO),
-    ];
-    for (more, (before, after)) in allowed.iter().enumerate() {
-        assert!(rt;
-            each_is_either(alloc, &disk, 3 + more, before, after)?,
-            "after {more} more calls"
-        );
+    let mut disk = MemoryDisk::new(rt.alloc(), &[])?;
+    acknowledges(&rt, &mut disk, Some(2));
+    for (more, step) in ALLOWED.iter().enumerate() {
+        leaves_either(&rt, rt.alloc(), &disk, 3 + more, *step)?;
     }
     for calls in 0..3 {
         for choice in [Choice::Old, Choice::New, Choice::Fill(0), Choice::Fill(1)] {
-            assert!(rt;
-                is_not_begun(alloc, &disk, calls, choice)?,
-                "after {calls} calls"
-            );
+            leaves_none(&rt, rt.alloc(), &disk, calls, choice)?;
         }
     }
     Ok(())
 }
 
+/// This call fails: how many records were acknowledged then, and what may be there.
+fn fails_at(
+    rt: &impl Abort,
+    alloc: Global,
+    call: u64,
+    acknowledged: u8,
+    step: (&[u8], &[u8]),
+) -> Result<(), Fail> {
+    let mut disk = MemoryDisk::new(alloc, &[call])?;
+    acknowledges(rt, &mut disk, Some(acknowledged));
+    leaves_either(rt, alloc, &disk, 99, step)
+}
+
 #[test]
 fn each_failing_call_leaves_the_records_before_or_after(rt: HostRuntime) -> Result<(), Fail> {
-    let alloc = rt.alloc();
-    // The calls from the fourth on: how many records were acknowledged, and what may be there.
-    let steps = [
-        (0, NONE, ONE),
-        (0, NONE, ONE),
-        (0, NONE, ONE),
-        (0, NONE, ONE),
-        (1, ONE, TWO),
-        (1, ONE, TWO),
-        (1, ONE, TWO),
-        (1, ONE, TWO),
-    ];
-    for (more, (acknowledged, before, after)) in steps.iter().enumerate() {
-        let mut disk = MemoryDisk::new(alloc, &[4 + more as u64])?;
-        assert_eq!(rt; made(&mut disk), Some(*acknowledged));
-        assert!(rt;
-            each_is_either(alloc, &disk, 99, before, after)?,
-            "at call {more}"
-        );
+    for call in 4..8u64 {
+        fails_at(&rt, rt.alloc(), call, 0, (NONE, ONE))?;
     }
+    for call in 8..12u64 {
+        fails_at(&rt, rt.alloc(), call, 1, (ONE, TWO))?;
+    }
+    Ok(())
+}
+
+/// The first calls make no journal, where one of them fails.
+fn begins_none(rt: &impl Abort, alloc: Global, call: u64) -> Result<(), Fail> {
+    let mut disk = MemoryDisk::new(alloc, &[call])?;
+    acknowledges(rt, &mut disk, None);
+    Ok(())
+}
+
+/// The records were written, and one of the calls that read them fails.
+fn fails_to_read(rt: &impl Abort, alloc: Global, call: u64) -> Result<(), Fail> {
+    let mut disk = MemoryDisk::new(alloc, &[call])?;
+    acknowledges(rt, &mut disk, Some(2));
+    let is_fault = matches!(records(alloc, &mut disk, 64), Err(JournalFault::DiskFault));
+    assert!(rt; is_fault);
     Ok(())
 }
 
 #[test]
 fn a_failing_call_is_a_fault_of_the_disk(rt: HostRuntime) -> Result<(), Fail> {
-    let alloc = rt.alloc();
-    for call in [1, 2, 3] {
-        assert_eq!(rt; made(&mut MemoryDisk::new(alloc, &[call])?), None);
+    for call in 1..4u64 {
+        begins_none(&rt, rt.alloc(), call)?;
     }
     // Those of an opening: its sync, its length, and three for each record but one for the gate.
-    for call in [12, 13, 14, 15, 16, 17, 18, 19, 20] {
-        let mut disk = MemoryDisk::new(alloc, &[call])?;
-        assert_eq!(rt; made(&mut disk), Some(2));
-        assert!(rt; matches!(records(alloc, &mut disk, 64), Err(JournalFault::DiskFault)));
+    for call in 12..21u64 {
+        fails_to_read(&rt, rt.alloc(), call)?;
     }
     // There are no more.
-    let mut disk = MemoryDisk::new(alloc, &[21])?;
-    assert_eq!(rt; made(&mut disk), Some(2));
-    assert_eq!(rt; records(alloc, &mut disk, 64)?.as_slice(), TWO);
+    let mut disk = MemoryDisk::new(rt.alloc(), &[21])?;
+    acknowledges(&rt, &mut disk, Some(2));
+    reads(&rt, rt.alloc(), &mut disk, 64, TWO)
+}
+
+/// That file with one byte changed.
+fn changed(at: usize, value: u8) -> [u8; 42] {
+    let mut bytes = FILE;
+    bytes[at % 42] = value;
+    bytes
+}
+
+/// The place of the damage of a file 1 of these bytes, or 0 where its records are read.
+fn damage(alloc: Global, bytes: &[u8], limit: u64) -> Result<u64, JournalFault> {
+    match records_of(alloc, bytes, limit) {
+        Ok(_) => Ok(0),
+        Err(JournalFault::Damaged { at }) => Ok(at),
+        Err(fault) => Err(fault),
+    }
+}
+
+/// Each value of this byte is read, or is damage at one of the gates.
+fn is_read_or_damage(rt: &impl Abort, alloc: Global, at: usize) -> Result<(), Fail> {
+    for value in 0..=255u8 {
+        let place = damage(alloc, &changed(at, value), 64)?;
+        assert!(rt; matches!(place, 0 | 8 | 31 | 41));
+    }
     Ok(())
 }
 
 #[test]
 fn each_changed_byte_is_read_or_damage(rt: HostRuntime) -> Result<(), Fail> {
-    let alloc = rt.alloc();
     for at in 0..42 {
-        for value in 0..=255 {
-            let mut bytes = FILE;
-            bytes[at] = value;
-            match records_of(alloc, &bytes, 64) {
-                Ok(_) => {}
-                Err(fault) => assert!(rt;
-                    matches!(fault, JournalFault::Damaged { at: 8 | 31 | 41 })
-                ),
-            }
-        }
+        is_read_or_damage(&rt, rt.alloc(), at)?;
     }
+    Ok(())
+}
+
+fn reads_file(
+    rt: &impl Abort,
+    alloc: Global,
+    bytes: &[u8],
+    limit: u64,
+    want: &[u8],
+) -> Result<(), Fail> {
+    let found = records_of(alloc, bytes, limit)?;
+    assert_eq!(rt; found.as_slice(), want);
+    Ok(())
+}
+
+fn damaged_at(
+    rt: &impl Abort,
+    alloc: Global,
+    bytes: &[u8],
+    limit: u64,
+    at: u64,
+) -> Result<(), Fail> {
+    let place = damage(alloc, bytes, limit)?;
+    assert!(rt; place == at);
     Ok(())
 }
 
 #[test]
 fn gates_lengths_and_limits(rt: HostRuntime) -> Result<(), Fail> {
     let alloc = rt.alloc();
-    // A byte changed, and the records then, or the place of the damage.
-    let read: [(usize, u8, &[u8]); 4] = [(8, 0, NONE), (8, 2, NONE), (31, 0, ONE), (41, 7, TWO)];
-    for (at, value, expected) in read {
-        let mut bytes = FILE;
-        bytes[at % 42] = value;
-        assert_eq!(rt; records_of(alloc, &bytes, 64)?.as_slice(), expected);
-    }
-    let damaged = [(12, 255, 8), (9, 29, 8), (32, 6, 31)];
-    for (place, value, gate) in damaged {
-        let mut bytes = FILE;
-        bytes[place % 42] = value;
-        assert!(rt;
-            matches!(records_of(alloc, &bytes, 64), Err(JournalFault::Damaged { at }) if at == gate)
-        );
-    }
-    assert_eq!(rt; records_of(alloc, &FILE, 42)?.as_slice(), TWO);
-    assert!(rt;
-        matches!(
-            records_of(alloc, &FILE, 41),
-            Err(JournalFault::Damaged { at: 31 })
-        )
-    );
-    assert!(rt;
-        matches!(
-            records_of(alloc, &[0; 8], 64),
-            Err(JournalFault::Damaged { at: 8 })
-        )
-    );
+    reads_file(&rt, alloc, &changed(8, 0), 64, NONE)?;
+    reads_file(&rt, alloc, &changed(8, 2), 64, NONE)?;
+    reads_file(&rt, alloc, &changed(31, 0), 64, ONE)?;
+    reads_file(&rt, alloc, &changed(41, 7), 64, TWO)?;
+    reads_file(&rt, alloc, &FILE, 42, TWO)
+}
+
+#[test]
+fn what_does_not_fit_is_damage(rt: HostRuntime) -> Result<(), Fail> {
+    let alloc = rt.alloc();
+    damaged_at(&rt, alloc, &changed(12, 255), 64, 8)?;
+    damaged_at(&rt, alloc, &changed(9, 29), 64, 8)?;
+    damaged_at(&rt, alloc, &changed(32, 6), 64, 31)?;
+    damaged_at(&rt, alloc, &FILE, 41, 31)?;
+    damaged_at(&rt, alloc, &[0; 8], 64, 8)
+}
+
+/// A body of this size takes so many calls to append, and is read again.
+fn appends_body(rt: &impl Abort, alloc: Global, size: usize, calls: u64) -> Result<(), Fail>
+    requires { calls < 10 }
+{
+    let body = [7; 300];
+    let mut disk = MemoryDisk::new(alloc, &[4 + calls])?;
+    let is_appended = has_appended(&mut disk, &body[..size % 301]);
+    let is_next = disk.len(1).is_err();
+    assert!(rt; is_appended && is_next);
+    let found = records(alloc, &mut disk, 2000)?;
+    let record = found.as_slice();
+    let is_whole = record.starts_with(b"12345678") && record.ends_with(b"\x07\x07|");
+    assert!(rt; is_whole && record.len() == 9 + size % 301);
     Ok(())
 }
 
 #[test]
 fn a_large_body_is_read_again(rt: HostRuntime) -> Result<(), Fail> {
-    let alloc = rt.alloc();
     // The size of a body, and the calls of its append: its writes, a sync, the gate and a sync.
     for (size, calls) in [(114, 4), (115, 4), (116, 6), (300, 6)] {
-        let body = [7; 300];
-        let mut disk = MemoryDisk::new(alloc, &[4 + calls])?;
-        assert!(rt; has_appended(&mut disk, &body[..size % 301]));
-        assert_eq!(rt; disk.len(1), Err(Failed));
-        let found = records(alloc, &mut disk, 2000)?;
-        assert!(rt; found.as_slice().starts_with(b"12345678"));
-        assert!(rt; found.as_slice().len() == 9 + size);
-        assert!(rt; found.as_slice().ends_with(b"\x07\x07|"));
+        appends_body(&rt, rt.alloc(), size, calls)?;
     }
     Ok(())
 }

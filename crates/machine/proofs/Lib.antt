@@ -1,4 +1,3 @@
-pub mod Lists
-pub mod Splitting
-pub mod Runs
-pub mod Refusals
+pub mod RefusalLemmas
+pub mod CommandLemmas
+pub mod RunLemmas

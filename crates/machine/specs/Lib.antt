@@ -1,6 +1,9 @@
 pub mod Chain
 pub mod Event
-pub mod Refusal
+pub mod RunState
 pub mod Reply
+pub mod Refusals
+pub mod Connecting
+pub mod Disconnecting
 pub mod Step
-pub mod Frames
+pub mod Surviving

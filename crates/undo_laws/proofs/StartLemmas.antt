@@ -23,12 +23,12 @@ use Rattle.chain_names.proofs.Points.{same_point-Decides}
 use Rattle.chain_names.proofs.Shown.{true_is_not_false}
 use Rattle.undo_laws.specs.State.{IsUpTo, FitsItem, IsRising, IsStandingCoin, HasFewNames, IsState}
 use Rattle.undo_laws.specs.Sound.{IsSound}
-use Rattle.undo_laws.proofs.Points.{all-append, same_point-comm, apart, or_first, or_second}
-use Rattle.undo_laws.proofs.Histories.{entry_of-more}
-use Rattle.undo_laws.proofs.Standing.{Stands, standing_state}
-use Rattle.undo_laws.proofs.Moving.{commitment_stands}
-use Rattle.undo_laws.proofs.Keeping.{live_left}
-use Rattle.undo_laws.proofs.Counting.{named_left}
+use Rattle.undo_laws.proofs.PointLemmas.{all-append, same_point-comm, apart, or_first, or_second}
+use Rattle.undo_laws.proofs.HistoryLemmas.{entry_of-more}
+use Rattle.undo_laws.proofs.StandLemmas.{Stands, standing_state}
+use Rattle.undo_laws.proofs.MoveLemmas.{commitment_stands}
+use Rattle.undo_laws.proofs.BlockLemmas.{live_left}
+use Rattle.undo_laws.proofs.CountLemmas.{named_left}
 
 -- ---- a name's first value
 

@@ -1,7 +1,6 @@
 -- Sound states, and the chains that are accepted on a base.
-use Rattle.std.specs.Prelude.{◌≡◌, ℕ, suc, ◌+◌, ◌≤◌, List, [], ◌∷◌, length, None}
+use Rattle.std.specs.Prelude.{◌≡◌, ℕ, suc, ◌≤◌, List, [], ◌∷◌, length, None}
 use Rattle.block_grammar.specs.Block.{Block, IsBlock}
-use Rattle.block_grammar.specs.Transaction.{Transaction}
 use Rattle.nmc_base.specs.declared.chain_ends.Profile.{Profile}
 use Rattle.chain_names.specs.Coins.{Maps}
 use Rattle.chain_names.specs.Changes.{undone}
@@ -34,11 +33,6 @@ IsSound profile base tip maps [] = IsBaseState profile base tip maps
 IsSound profile base tip maps (u ∷ us) = (below : ℕ) × IsTipState profile tip below u maps × IsSound profile base below (undone u.ops u.expired maps) us
 
 -- ---- accepted chains
-
--- how many outputs the transactions have in all
-abbrev pub count_outputs : List Transaction → ℕ
-count_outputs [] = 0
-count_outputs (t ∷ ts) = length t.outputs + count_outputs ts
 
 -- the bytes on these blocks: they are a block of at most 8,388,608 bytes, which is no higher than any chain may be, and none
 -- of its transactions is refused

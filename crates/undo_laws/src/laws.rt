@@ -1,6 +1,6 @@
 //! Laws of the definitions. Each is the contract of a function that does nothing.
 
-ghost use Rattle.std.specs.Prelude.{◌≡◌, ℕ, suc, ◌+◌, ◌<◌, ◌≤◌, ◌^◌, true, List, [], ◌∷◌, length, slice_index, Option, Some, None};
+ghost use Rattle.std.specs.Prelude.{◌≡◌, ℕ, suc, ◌+◌, ◌<◌, ◌≤◌, ◌^◌, true, List, [], ◌∷◌, length, Option, Some, None};
 ghost use Rattle.std.specs.List.{AllByRecursion};
 ghost use Rattle.block_grammar.specs.Transaction.{Transaction};
 ghost use Rattle.nmc_base.specs.declared.chain_ends.Profile.{Profile};
@@ -17,7 +17,8 @@ ghost use Rattle.chain_names.specs.Tables.{is_named_at};
 ghost use Rattle.chain_names.specs.Undo.{UndoRecord};
 ghost use Rattle.undo_laws.specs.Expired.{IsSortedByPoint, IsGone, IsDue};
 ghost use Rattle.undo_laws.specs.Fits.{AreUndoable, FitsState, IsJustExpired, with_restored};
-ghost use Rattle.undo_laws.specs.Sound.{count_outputs, AreAccepted, IsSound};
+ghost use Rattle.block_grammar.specs.Block.{count_outputs};
+ghost use Rattle.undo_laws.specs.Sound.{AreAccepted, IsSound};
 ghost use Rattle.nmc_base.specs.Heights.{highest};
 ghost use Rattle.undo_laws.specs.State.{IsState};
 ghost use Rattle.undo_laws.specs.UndoOf.{AreUndos, IsUndoOf, hash_in, undo_ops_in};
@@ -126,10 +127,4 @@ pub fn fit_allows_undoing()
         → IsJustExpired profile tip maps held → is_named_at row (Some held.coin) ≡ true }
     ensures none { (profile : Profile) (tip : ℕ) (maps : Maps) (helds : List HeldCoin) → suc tip < expiry_depth profile (suc tip)
         → AllByRecursion (IsJustExpired profile tip maps) helds → helds ≡ [] }
-{}
-
-/// A block's transactions behind the coinbase have no more outputs than the block has bytes.
-pub fn few_outputs()
-    ensures { (bytes : List ℕ) → ((i : ℕ) → slice_index bytes i < 256)
-        → count_outputs (behind_coinbase (transactions_in bytes)) ≤ length bytes }
 {}

@@ -88,10 +88,31 @@ fn tells_longer_forms(rt: HostRuntime) {
     gives(&rt, &mut cursor, Call::Size, 0x1_0000_0000, 9);
 }
 
-/// Whether this was read, with so many bytes left.
+/// Whether this number was read, with so many bytes left.
 fn reads(read: Result<(u64, &[u8]), Fault<'_>>, number: u64, left: usize) -> bool {
     match read {
         Ok((got, rest)) => got == number && rest.len() == left,
+        Err(_) => false,
+    }
+}
+
+fn reads_u32(bytes: &[u8], number: u32, left: usize) -> bool {
+    match u32_at(bytes) {
+        Ok((got, rest)) => got == number && rest.len() == left,
+        Err(_) => false,
+    }
+}
+
+fn reads_hash(bytes: &[u8], hash: &[u8], left: usize) -> bool {
+    match hash_at(bytes) {
+        Ok(read) => read.0.as_slice() == hash && read.1.len() == left,
+        Err(_) => false,
+    }
+}
+
+fn reads_piece(bytes: &[u8], piece: &[u8], left: usize) -> bool {
+    match counted_at(bytes) {
+        Ok((got, rest)) => got == piece && rest.len() == left,
         Err(_) => false,
     }
 }
@@ -106,15 +127,15 @@ fn stops<T: Drop>(read: Result<(T, &[u8]), Fault<'_>>, kind: TxKind, left: usize
 
 #[test]
 fn reads_at_the_front(rt: HostRuntime) {
-    let number = u32_at(&[1, 2, 3, 0x84, 9]).map(|x| (u64::from(x.0), x.1));
-    assert!(rt; reads(number, 0x8403_0201, 1));
+    assert!(rt; reads_u32(&[1, 2, 3, 0x84, 9], 0x8403_0201, 1));
     let number = u64_at(&[1, 0, 0, 0, 0, 0, 0, 0x80]);
     assert!(rt; reads(number, 0x8000_0000_0000_0001, 0));
     assert!(rt; reads(size_at(&[0xfd, 0xfd, 0, 5]), 0xfd, 1));
     assert!(rt; reads(some_size_at(TxKind::NoInput, &[1, 5]), 1, 1));
-    assert!(rt; matches!(hash_at(&[7; 33]), Ok(([7, ..], [7]))));
-    assert!(rt; matches!(counted_at(&[2, 8, 9, 5]), Ok(([8, 9], [5]))));
-    assert!(rt; before(&[1, 2, 3], &[3]) == [1, 2].as_slice());
+    assert!(rt; reads_hash(&[7; 33], &[7; 32], 1));
+    assert!(rt; reads_piece(&[2, 8, 9, 5], &[8, 9], 1));
+    let front = before(&[1, 2, 3], &[3]);
+    assert!(rt; front == [1, 2].as_slice());
 }
 
 #[test]

@@ -1,161 +1,212 @@
 //! Sources and sinks that fail, stand still, or deal with one byte at a time.
 
-use super::first_block::FIRST_HASH;
 use super::one_byte::{OneByteSink, OneByteSource};
-use super::{MOST, NO_BLOCK, NOT_ON_TIP_HEAD, accepted, first_frame, joined};
+use super::{MOST, bytes_of, ended, took};
 use crate::delivery::deliver;
 use crate::{Status, replay};
 use byte_io::{MemorySink, MemorySource, RoomSink, SteadySource};
 use std::alloc::{AllocError, Global};
+use std::process::Abort;
 use std::test::Fail;
 
-/// The frame of the first block twice, and the two replies.
-fn two_frames(alloc: Global) -> Result<(Vec<u8>, Vec<u8>), AllocError> {
-    let frame = first_frame(alloc)?;
-    let accepted = accepted(alloc)?;
-    let input = joined(alloc, &[&frame, &frame])?;
-    let output = joined(alloc, &[&accepted, &NOT_ON_TIP_HEAD, &FIRST_HASH])?;
-    Ok((input, output))
+/// An input, and the replies to it.
+#[derive(Drop)]
+struct Frames {
+    input: Vec<u8>,
+    output: Vec<u8>,
 }
 
-#[test]
-fn reads_and_writes_one_byte_at_a_time(rt: HostRuntime) -> Result<(), Fail> {
-    let alloc = rt.alloc();
-    let (input, output) = two_frames(alloc)?;
+/// The frame of the first block twice, and the two replies.
+fn two_frames(alloc: Global) -> Result<Frames, AllocError> {
+    let input = bytes_of(alloc, "first first")?;
+    let output = bytes_of(alloc, "accepted not-on-tip")?;
+    Ok(Frames { input, output })
+}
+
+/// With one byte at a read, of which this one fails, and one at a write.
+fn reads_bytes<R: Abort>(
+    rt: &R,
+    alloc: Global,
+    frames: &Frames,
+    number: u64,
+    status: Status,
+    written: usize,
+) -> Result<(), Fail> {
     let mut source = OneByteSource {
-        whole: MemorySource::new(alloc, &input, &[])?,
+        whole: MemorySource::new(alloc, &frames.input, &[number])?,
     };
     let mut sink = OneByteSink {
         whole: MemorySink::new(alloc, &[])?,
     };
-    let status = replay(alloc, &mut source, &mut sink, MOST);
-    assert_eq!(rt; status, Status::Done);
-    assert_eq!(rt; sink.whole.taken(), output.as_slice());
+    let end = replay(alloc, &mut source, &mut sink, MOST);
+    ended(rt, end, status, number);
+    took(rt, sink.whole.taken(), &frames.output, written, number);
+    Ok(())
+}
+
+#[test]
+fn reads_and_writes_one_byte_at_a_time(rt: HostRuntime) -> Result<(), Fail> {
+    let frames = two_frames(rt.alloc())?;
+    reads_bytes(&rt, rt.alloc(), &frames, 1000, Status::Done, 78)
+}
+
+/// Where this read fails, it ends so.
+fn reads_up_to<R: Abort>(
+    rt: &R,
+    alloc: Global,
+    frames: &Frames,
+    number: u64,
+    status: Status,
+    written: usize,
+) -> Result<(), Fail> {
+    let mut source = MemorySource::new(alloc, &frames.input, &[number])?;
+    let mut sink = MemorySink::new(alloc, &[])?;
+    let end = replay(alloc, &mut source, &mut sink, MOST);
+    ended(rt, end, status, number);
+    took(rt, sink.taken(), &frames.output, written, number);
     Ok(())
 }
 
 #[test]
 fn ends_at_the_read_that_fails(rt: HostRuntime) -> Result<(), Fail> {
-    let alloc = rt.alloc();
-    let (input, output) = two_frames(alloc)?;
-    let rows: [(u64, Status, usize); 3] = [
-        (1, Status::SourceFault, 0),
-        (2, Status::SourceFault, 78),
-        (3, Status::Done, 78),
-    ];
-    for (number, status, written) in rows {
-        let mut source = MemorySource::new(alloc, &input, &[number])?;
-        let mut sink = MemorySink::new(alloc, &[])?;
-        let ended = replay(alloc, &mut source, &mut sink, MOST);
-        assert_eq!(rt; ended, status, "read {number}");
-        assert_eq!(rt; Some(sink.taken()), output.get(..written), "read {number}");
-    }
-    Ok(())
+    let frames = two_frames(rt.alloc())?;
+    reads_up_to(&rt, rt.alloc(), &frames, 1, Status::SourceFault, 0)?;
+    reads_up_to(&rt, rt.alloc(), &frames, 2, Status::SourceFault, 78)?;
+    reads_up_to(&rt, rt.alloc(), &frames, 3, Status::Done, 78)
 }
 
 #[test]
 fn answers_whole_frames_before_the_read_that_fails(rt: HostRuntime) -> Result<(), Fail> {
-    let alloc = rt.alloc();
-    let output = joined(alloc, &[&NO_BLOCK, &NO_BLOCK])?;
+    let frames = Frames {
+        input: bytes_of(rt.alloc(), "0100000000 0100000000")?,
+        output: bytes_of(rt.alloc(), "010400000000000000 010400000000000000")?,
+    };
     for number in 1..=12u64 {
-        let bytes = MemorySource::new(alloc, &[1, 0, 0, 0, 0, 1, 0, 0, 0, 0], &[number])?;
-        let mut source = OneByteSource { whole: bytes };
-        let mut sink = MemorySink::new(alloc, &[])?;
-        let ended = replay(alloc, &mut source, &mut sink, MOST);
         let (status, written) = match number {
             1..=5 => (Status::SourceFault, 0usize),
             6..=10 => (Status::SourceFault, 9),
             11 => (Status::SourceFault, 18),
             _ => (Status::Done, 18),
         };
-        assert_eq!(rt; ended, status, "read {number}");
-        assert_eq!(rt; Some(sink.taken()), output.get(..written), "read {number}");
+        reads_bytes(&rt, rt.alloc(), &frames, number, status, written)?;
     }
+    Ok(())
+}
+
+/// Where this write fails, it ends so.
+fn writes_up_to<R: Abort>(
+    rt: &R,
+    alloc: Global,
+    frames: &Frames,
+    number: u64,
+    status: Status,
+    written: usize,
+) -> Result<(), Fail> {
+    let mut source = SteadySource::new(&frames.input);
+    let mut sink = MemorySink::new(alloc, &[number])?;
+    let end = replay(alloc, &mut source, &mut sink, MOST);
+    ended(rt, end, status, number);
+    took(rt, sink.taken(), &frames.output, written, number);
     Ok(())
 }
 
 #[test]
 fn ends_at_the_write_that_fails(rt: HostRuntime) -> Result<(), Fail> {
-    let alloc = rt.alloc();
-    let (input, output) = two_frames(alloc)?;
-    let rows: [(u64, Status, usize); 3] = [
-        (1, Status::SinkFault, 0),
-        (2, Status::SinkFault, 41),
-        (3, Status::Done, 78),
-    ];
-    for (number, status, written) in rows {
-        let mut source = SteadySource::new(&input);
-        let mut sink = MemorySink::new(alloc, &[number])?;
-        let ended = replay(alloc, &mut source, &mut sink, MOST);
-        assert_eq!(rt; ended, status, "write {number}");
-        assert_eq!(rt; Some(sink.taken()), output.get(..written), "write {number}");
-    }
+    let frames = two_frames(rt.alloc())?;
+    writes_up_to(&rt, rt.alloc(), &frames, 1, Status::SinkFault, 0)?;
+    writes_up_to(&rt, rt.alloc(), &frames, 2, Status::SinkFault, 41)?;
+    writes_up_to(&rt, rt.alloc(), &frames, 3, Status::Done, 78)
+}
+
+/// Delivers to a sink that takes one byte at a write, and fails behind so many.
+fn delivers_up_to<R: Abort>(
+    rt: &R,
+    alloc: Global,
+    output: &[u8],
+    written: usize,
+    number: u64,
+) -> Result<(), Fail> {
+    let mut sink = OneByteSink {
+        whole: MemorySink::new(alloc, &[number])?,
+    };
+    let is_done = deliver(&mut sink, output).is_ok();
+    assert!(rt; is_done == (written == 41), "write {number}");
+    took(rt, sink.whole.taken(), output, written, number);
     Ok(())
 }
 
 #[test]
 fn delivers_no_byte_behind_the_write_that_fails(rt: HostRuntime) -> Result<(), Fail> {
-    let alloc = rt.alloc();
-    let output = accepted(alloc)?;
+    let output = bytes_of(rt.alloc(), "accepted")?;
     for written in 0..=41usize {
-        let number = written as u64 + 1;
-        let mut sink = OneByteSink {
-            whole: MemorySink::new(alloc, &[number])?,
-        };
-        let ended = deliver(&mut sink, &output);
-        assert_eq!(rt; ended.is_ok(), written == 41, "write {number}");
-        assert_eq!(rt;
-            Some(sink.whole.taken()),
-            output.get(..written),
-            "write {number}"
-        );
+        delivers_up_to(&rt, rt.alloc(), &output, written, written as u64 + 1)?;
     }
+    Ok(())
+}
+
+fn delivers_into<R: Abort>(rt: &R, alloc: Global, output: &[u8], room: usize) -> Result<(), Fail> {
+    let mut sink = RoomSink::new(alloc, room)?;
+    let is_done = deliver(&mut sink, output).is_ok();
+    assert!(rt; is_done == (41 <= room), "room {room}");
+    took(rt, sink.taken(), output, room.min(41), room as u64);
     Ok(())
 }
 
 #[test]
 fn delivers_what_the_sink_has_room_for(rt: HostRuntime) -> Result<(), Fail> {
-    let alloc = rt.alloc();
-    let output = accepted(alloc)?;
+    let output = bytes_of(rt.alloc(), "accepted")?;
     for room in 0..=42usize {
-        let mut sink = RoomSink::new(alloc, room)?;
-        let ended = deliver(&mut sink, &output);
-        assert_eq!(rt; ended.is_ok(), 41 <= room, "room {room}");
-        assert_eq!(rt;
-            Some(sink.taken()),
-            output.get(..room.min(41)),
-            "room {room}"
-        );
+        delivers_into(&rt, rt.alloc(), &output, room)?;
     }
+    Ok(())
+}
+
+/// Replays into a sink with so much room.
+fn replays_into<R: Abort>(
+    rt: &R,
+    alloc: Global,
+    frames: &Frames,
+    room: usize,
+    status: Status,
+) -> Result<(), Fail> {
+    let mut source = SteadySource::new(&frames.input);
+    let mut sink = RoomSink::new(alloc, room)?;
+    let end = replay(alloc, &mut source, &mut sink, MOST);
+    ended(rt, end, status, room as u64);
+    took(rt, sink.taken(), &frames.output, room, room as u64);
+    Ok(())
+}
+
+/// Replays into a sink that takes one byte at a write, and fails behind so many.
+fn replays_bytes<R: Abort>(
+    rt: &R,
+    alloc: Global,
+    frames: &Frames,
+    room: usize,
+    status: Status,
+) -> Result<(), Fail> {
+    let mut source = SteadySource::new(&frames.input);
+    let number = (room as u64).saturating_add(1);
+    let mut sink = OneByteSink {
+        whole: MemorySink::new(alloc, &[number])?,
+    };
+    let end = replay(alloc, &mut source, &mut sink, MOST);
+    ended(rt, end, status, number);
+    took(rt, sink.whole.taken(), &frames.output, room, number);
     Ok(())
 }
 
 #[test]
 fn ends_inside_a_reply(rt: HostRuntime) -> Result<(), Fail> {
-    let alloc = rt.alloc();
-    let (input, output) = two_frames(alloc)?;
+    let frames = two_frames(rt.alloc())?;
     for room in [0usize, 1, 40, 41, 77, 78] {
-        let mut source = SteadySource::new(&input);
-        let mut sink = RoomSink::new(alloc, room)?;
-        let ended = replay(alloc, &mut source, &mut sink, MOST);
         let status = if room < 78 {
             Status::SinkFault
         } else {
             Status::Done
         };
-        assert_eq!(rt; ended, status, "room {room}");
-        assert_eq!(rt; Some(sink.taken()), output.get(..room), "room {room}");
-        let mut source = SteadySource::new(&input);
-        let mut sink = OneByteSink {
-            whole: MemorySink::new(alloc, &[room as u64 + 1])?,
-        };
-        let ended = replay(alloc, &mut source, &mut sink, MOST);
-        assert_eq!(rt; ended, status, "write {room}");
-        assert_eq!(rt;
-            Some(sink.whole.taken()),
-            output.get(..room),
-            "write {room}"
-        );
+        replays_into(&rt, rt.alloc(), &frames, room, status)?;
+        replays_bytes(&rt, rt.alloc(), &frames, room, status)?;
     }
     Ok(())
 }

@@ -9,10 +9,7 @@ pub fn is_served(rt: &impl Abort, chain: &Chain, text: &str) {
         Some((name, value)) => (name, Some(value.as_bytes())),
         None => (text, None),
     };
+    let is_so = chain.live(name.as_bytes()) == value;
     let height = chain.tip().height;
-    assert_eq!(rt;
-        chain.live(name.as_bytes()),
-        value,
-        "{text} at the height {height}"
-    );
+    assert!(rt; is_so, "{text} at the height {height}");
 }

@@ -1,5 +1,8 @@
-use Rattle.machine.proofs.Runs.{run_survives}
+use Rattle.machine.proofs.RunLemmas.{run_state, run_survives}
 use Rattle.machine.proofs.surviving_chain.Goals as goal
 
-pub returns : goal.returns
-returns c = λ old new events replies run. run_survives old events replies new run
+pub returns-clause-state : goal.returns-clause-state
+returns-clause-state c = run_state
+
+pub returns-clause-chain : goal.returns-clause-chain
+returns-clause-chain c = run_survives

@@ -1,6 +1,8 @@
 /// A script in hex on each line, and what it does: "none"; or New and the hash; First and name, rand, value; Update and
 /// name, value. "-" is an empty value.
 pub(super) const ROWS: &str = "\
+51140102030405060708090a0b0c0d0e0f10111213146d51 New 0102030405060708090a0b0c0d0e0f1011121314
+51140102030405060708090a0b0c0d0e0f1011121314 none
 51 none
 51146d51 none
 530161006d Update 61 -

@@ -1,4 +1,4 @@
-use Rattle.chain_names.proofs.Due.{unless_expired-row, unless_expired-none, cleared-row}
+use Rattle.chain_names.proofs.DueLemmas.{unless_expired-row, unless_expired-none, cleared-row}
 use Rattle.chain_names.proofs.laws.due_coins.Goals as goal
 
 pub returns-clause-row : goal.returns-clause-row

@@ -1,4 +1,4 @@
-use Rattle.chain_names.proofs.Following.{some_depth, no_lower, no_steeper, stays_expired}
+use Rattle.chain_names.proofs.LogLemmas.{some_depth, no_lower, no_steeper, stays_expired}
 use Rattle.chain_names.proofs.laws.expiry_laws.Goals as goal
 
 pub returns-clause-positive : goal.returns-clause-positive

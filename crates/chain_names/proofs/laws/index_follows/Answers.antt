@@ -1,4 +1,4 @@
-use Rattle.chain_names.proofs.Blocks.{index_maps-next}
+use Rattle.chain_names.proofs.BlockLemmas.{index_maps-next}
 use Rattle.chain_names.proofs.laws.index_follows.Goals as goal
 
 pub returns : goal.returns

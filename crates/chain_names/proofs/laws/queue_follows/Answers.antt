@@ -1,4 +1,4 @@
-use Rattle.chain_names.proofs.Queue.{queue_of-more, queue_of-less, queue_of-still}
+use Rattle.chain_names.proofs.QueueLemmas.{queue_of-more, queue_of-less, queue_of-still}
 use Rattle.chain_names.proofs.laws.queue_follows.Goals as goal
 
 pub returns-clause-more : goal.returns-clause-more

@@ -1,4 +1,4 @@
-use Rattle.chain_names.proofs.Blocks.{all_back}
+use Rattle.chain_names.proofs.BlockLemmas.{all_back}
 use Rattle.chain_names.proofs.laws.undoing_restores.Goals as goal
 
 pub returns : goal.returns

@@ -1,4 +1,4 @@
-use Rattle.undo_laws.proofs.BlockState.{block_state}
+use Rattle.undo_laws.proofs.StateLemmas.{block_state}
 use Rattle.undo_laws.proofs.laws.block_keeps_state.Goals as goal
 
 pub returns : goal.returns

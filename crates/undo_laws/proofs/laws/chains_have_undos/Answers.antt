@@ -1,4 +1,4 @@
-use Rattle.undo_laws.proofs.Finding.{chain_has_undos}
+use Rattle.undo_laws.proofs.RecordLemmas.{chain_has_undos}
 use Rattle.undo_laws.proofs.laws.chains_have_undos.Goals as goal
 
 pub returns : goal.returns

@@ -1,4 +1,4 @@
-use Rattle.undo_laws.proofs.Allowing.{fit_allows, expired-row, expired-none}
+use Rattle.undo_laws.proofs.UndoableLemmas.{fit_allows, expired-row, expired-none}
 use Rattle.undo_laws.proofs.laws.fit_allows_undoing.Goals as goal
 
 pub returns-clause-operations : goal.returns-clause-operations

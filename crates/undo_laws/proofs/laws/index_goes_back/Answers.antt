@@ -1,4 +1,4 @@
-use Rattle.undo_laws.proofs.Beginning.{index_undone}
+use Rattle.undo_laws.proofs.IndexLemmas.{index_undone}
 use Rattle.undo_laws.proofs.laws.index_goes_back.Goals as goal
 
 pub returns : goal.returns

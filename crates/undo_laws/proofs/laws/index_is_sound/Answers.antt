@@ -1,4 +1,4 @@
-use Rattle.undo_laws.proofs.Beginning.{index_sound}
+use Rattle.undo_laws.proofs.IndexLemmas.{index_sound}
 use Rattle.undo_laws.proofs.laws.index_is_sound.Goals as goal
 
 pub returns : goal.returns

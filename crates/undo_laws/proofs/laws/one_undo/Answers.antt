@@ -1,4 +1,4 @@
-use Rattle.undo_laws.proofs.One.{one_undo-block, one_undo-chain}
+use Rattle.undo_laws.proofs.OneRecordLemmas.{one_undo-block, one_undo-chain}
 use Rattle.undo_laws.proofs.laws.one_undo.Goals as goal
 
 pub returns-clause-block : goal.returns-clause-block

@@ -1,4 +1,4 @@
-use Rattle.undo_laws.proofs.Agreeing.{undo_ops_in-maps}
+use Rattle.undo_laws.proofs.OperationLemmas.{undo_ops_in-maps}
 use Rattle.undo_laws.proofs.laws.undo_agrees.Goals as goal
 
 pub returns : goal.returns

@@ -1,4 +1,4 @@
-use Rattle.undo_laws.proofs.Beginning.{undo_by_maps}
+use Rattle.undo_laws.proofs.IndexLemmas.{undo_by_maps}
 use Rattle.undo_laws.proofs.laws.undo_of_index.Goals as goal
 
 pub returns : goal.returns

@@ -1,4 +1,4 @@
-use Rattle.undo_laws.proofs.Soundness.{sound_below, sound_height}
+use Rattle.undo_laws.proofs.SoundLemmas.{sound_below, sound_height}
 use Rattle.undo_laws.proofs.laws.undoing_keeps_soundness.Goals as goal
 
 pub returns-clause-below : goal.returns-clause-below

@@ -1,4 +1,4 @@
-use Rattle.undo_laws.proofs.Restoring.{block_undone}
+use Rattle.undo_laws.proofs.RestoreLemmas.{block_undone}
 use Rattle.undo_laws.proofs.laws.undone_restores.Goals as goal
 
 pub returns : goal.returns

@@ -8,8 +8,8 @@ use Rattle.chain_state.specs.Chain.{Indexed, SameIndex, index_of}
 use Rattle.chain_state.specs.Clearing.{IsClearing}
 use Rattle.chain_state.specs.Whole.{IsWhole}
 use Rattle.chain_state.specs.declared.whole.Whole.{Whole}
-use Rattle.chain_state.proofs.Clear.{whole_clearing, committed}
-use Rattle.chain_state.proofs.Disconnecting.{EndsIn, ends_in, none_last, never_none, whole_back, abandoned_back}
+use Rattle.chain_state.proofs.ClearLemmas.{whole_clearing, committed}
+use Rattle.chain_state.proofs.DisconnectLemmas.{EndsIn, ends_in, none_last, never_none, whole_back, abandoned_back}
 use Rattle.chain_state.proofs.back.StagedBack.abandon.Goals as goal
 
 pub unreachable-requires : goal.unreachable-requires

@@ -2,7 +2,7 @@ use Rattle.std.proofs.Common.{length, refl, sym, ap, subst, ◌∙◌, arith}
 use Rattle.chain_state.specs.Chain as index
 use Rattle.chain_state.specs.Chain.{Indexed}
 use Rattle.chain_state.specs.StageBack.{IsDisconnected, back_commit_steps}
-use Rattle.chain_state.proofs.Disconnecting.{whole_back, disconnected_index, disconnected, steps_are}
+use Rattle.chain_state.proofs.DisconnectLemmas.{whole_back, disconnected_index, disconnected, steps_are}
 use Rattle.chain_state.proofs.back.StagedBack.commit.Goals as goal
 
 pub abandon-tables-requires : goal.abandon-tables-requires

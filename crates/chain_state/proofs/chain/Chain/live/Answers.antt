@@ -1,8 +1,8 @@
 use Rattle.std.proofs.Common.{sym, ap, ◌∙◌, arith}
 use Rattle.std.specs.Option.{option_copied}
 use Rattle.chain_names.specs.Tables.{names_in}
-use Rattle.chain_state.proofs.Chains.{indexed_state, state_standing}
-use Rattle.chain_state.proofs.Standing.{entry_below}
+use Rattle.chain_state.proofs.ChainLemmas.{indexed_state, state_standing}
+use Rattle.chain_state.proofs.StandLemmas.{entry_below}
 use Rattle.chain_state.proofs.chain.Chain.live.Goals as goal
 
 pub expired-requires-clause-made : goal.expired-requires-clause-made

@@ -5,8 +5,8 @@ use Rattle.block_grammar.specs.Header.{Header}
 use Rattle.nmc_base.specs.declared.hashes.Hash32.{Hash32}
 use Rattle.nmc_base.specs.Heights.{highest}
 use Rattle.chain_state.specs.Chain.{Indexed}
-use Rattle.chain_state.proofs.Chains.{stages}
-use Rattle.chain_state.proofs.Disconnecting.{is_the_tip}
+use Rattle.chain_state.proofs.ChainLemmas.{stages}
+use Rattle.chain_state.proofs.DisconnectLemmas.{is_the_tip}
 use Rattle.chain_state.proofs.chain.Chain.stage.Goals as goal
 
 pub returns-clause-stages : goal.returns-clause-stages
@@ -21,6 +21,6 @@ returns-clause-stages g c =
     subst (λ (x : Indexed). x.tip.height < highest) c.self.view_is (omega (arith, c.if-self-ge-HIGHEST_HEIGHT.false)) in
     let root : block.header.fields.root ≡ block_root block =
     sym (c.root.ensures ∙ ap (λ (h : Header). h.fields.root) c.header-header.ensures)
-    ∙ ap (λ (h : Hash32). h.0) (is_the_tip c.root.result c.in-Ok.root (sym c.if-ne-2.false ∙ c.ne-2.ensures))
-    ∙ c.in-Ok.ensures in
+    ∙ ap (λ (h : Hash32). h.0) (is_the_tip c.root.result c.in-Ok.found.1 (sym c.if-ne-2.false ∙ c.ne-2.ensures))
+    ∙ c.in-Ok.ensures.root_is in
     stages c.args.self block c.stage_names.result on low root c.stage_names.ensures.names

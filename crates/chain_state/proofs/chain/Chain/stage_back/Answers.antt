@@ -8,7 +8,7 @@ use Rattle.chain_state.specs.Clearing.{IsClearing}
 use Rattle.chain_state.specs.StageBack.{IsBackRefusal, IsStagedBackOn}
 use Rattle.chain_state.specs.declared.tables.Tables.{Tables}
 use Rattle.chain_state.specs.declared.back.BackRefusal.TheVariants.{NotTip}
-use Rattle.chain_state.proofs.Disconnecting.{EndsIn, ends_in, newest_is, not_the_tip, staged_back, stage_again, same_again, newest_none, is_the_tip}
+use Rattle.chain_state.proofs.DisconnectLemmas.{EndsIn, ends_in, newest_is, not_the_tip, staged_back, stage_again, same_again, newest_none, is_the_tip}
 use Rattle.chain_state.proofs.chain.Chain.stage_back.Goals as goal
 
 pub returns-then-ne-clause-stages : goal.returns-then-ne-clause-stages

@@ -1,4 +1,4 @@
-use Rattle.chain_state.proofs.Chains.{connected_index}
+use Rattle.chain_state.proofs.ChainLemmas.{connected_index}
 use Rattle.chain_state.proofs.chain.StagedChain.commit.Goals as goal
 
 pub joined-requires : goal.joined-requires

@@ -1,6 +1,6 @@
 use Rattle.std.proofs.Common.{[], subst, arith}
 use Rattle.chain_state.specs.Clearing.{IsClearing}
-use Rattle.chain_state.proofs.Clear.{held_cleared, front_item, shorter_of, nothing_of}
+use Rattle.chain_state.proofs.ClearLemmas.{held_cleared, front_item, shorter_of, nothing_of}
 use Rattle.chain_state.proofs.tables.Tables.clear_expired.Goals as goal
 
 pub loop-rest-init : goal.loop-rest-init

@@ -1,7 +1,7 @@
 use Rattle.std.proofs.Common.{subst}
 use Rattle.chain_names.specs.Tables.{coins_in, queued_in}
 use Rattle.chain_state.specs.Tables.{IsTaken}
-use Rattle.chain_state.proofs.Coming.{taken_new, taken_named}
+use Rattle.chain_state.proofs.TableLemmas.{taken_new, taken_named}
 use Rattle.chain_state.proofs.tables.Tables.dequeue.Goals as goal
 
 pub returns-in-New-clause-queue : goal.returns-in-New-clause-queue

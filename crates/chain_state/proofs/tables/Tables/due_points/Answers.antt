@@ -3,8 +3,8 @@ use Rattle.std.specs.List.{list_any, IsDistinct}
 use Rattle.std.proofs.lemmas.List.Sorted.{list_any-IsPermutation, length_permutation}
 use Rattle.std.proofs.lemmas.Map.Keys.{IsDistinct-IsPermutation}
 use Rattle.chain_names.specs.Points.{same_point}
-use Rattle.chain_state.proofs.Due.{queued_listed}
-use Rattle.chain_state.proofs.Rising.{rising, same_point-flips}
+use Rattle.chain_state.proofs.ExpiryLemmas.{queued_listed}
+use Rattle.chain_state.proofs.OrderLemmas.{rising, same_point-flips}
 use Rattle.chain_state.proofs.tables.Tables.due_points.Goals as goal
 
 pub returns-clause-all : goal.returns-clause-all

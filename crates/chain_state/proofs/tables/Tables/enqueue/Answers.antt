@@ -2,7 +2,7 @@ use Rattle.std.proofs.Common.{ap, sym, ◌∙◌}
 use Rattle.std.specs.Prelude.{Some}
 use Rattle.chain_names.specs.Points.{same_point, changed}
 use Rattle.chain_names.specs.Tables.{coins_in, queue_of, is_named_at}
-use Rattle.chain_state.proofs.Coming.{put_new, put_named}
+use Rattle.chain_state.proofs.TableLemmas.{put_new, put_named}
 use Rattle.chain_state.proofs.tables.Tables.enqueue.Goals as goal
 
 pub returns-in-New-clause-queue : goal.returns-in-New-clause-queue

@@ -1,6 +1,6 @@
 use Rattle.std.proofs.Common.{subst}
 use Rattle.chain_state.specs.Expiring.{TakesDue}
-use Rattle.chain_state.proofs.Due.{row_expired}
+use Rattle.chain_state.proofs.ExpiryLemmas.{row_expired}
 use Rattle.chain_state.proofs.tables.Tables.expire.Goals as goal
 
 pub returns-clause-ok : goal.returns-clause-ok

@@ -1,4 +1,4 @@
-use Rattle.chain_state.proofs.Clear.{up_named}
+use Rattle.chain_state.proofs.ClearLemmas.{up_named}
 use Rattle.chain_state.proofs.tables.Tables.give_up.Goals as goal
 
 pub returns-in-Named-clause-up : goal.returns-in-Named-clause-up

@@ -1,6 +1,6 @@
 use Rattle.std.proofs.Common.{refl, ap}
 use Rattle.chain_names.specs.Tables.{name_places, queue_places}
-use Rattle.chain_state.proofs.Coming.{coin_place_only, both_places, on_err, on_err_then}
+use Rattle.chain_state.proofs.TableLemmas.{coin_place_only, both_places, on_err, on_err_then}
 use Rattle.chain_state.proofs.tables.Tables.make_places.Goals as goal
 
 pub returns-in_err-place-2-clause-err : goal.returns-in_err-place-2-clause-err

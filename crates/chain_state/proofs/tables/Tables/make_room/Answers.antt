@@ -1,6 +1,6 @@
 use Rattle.std.proofs.Common.{[], subst, sym}
 use Rattle.chain_state.specs.Clearing.{IsClearing}
-use Rattle.chain_state.proofs.Clear.{cleared_filled}
+use Rattle.chain_state.proofs.ClearLemmas.{cleared_filled}
 use Rattle.chain_state.proofs.tables.Tables.make_room.Goals as goal
 
 pub returns-in-Err-clause-err : goal.returns-in-Err-clause-err

@@ -1,8 +1,8 @@
 use Rattle.std.proofs.Common.{arith}
 use Rattle.undo_laws.specs.Expired.{is_held_at}
 use Rattle.chain_state.specs.Whole.{is_queued_at}
-use Rattle.chain_state.proofs.Clear.{front_item, shorter_of, nothing_of}
-use Rattle.chain_state.proofs.Places.{begins_placing, went_placing, stopped_placing, ended_placing, all_placed}
+use Rattle.chain_state.proofs.ClearLemmas.{front_item, shorter_of, nothing_of}
+use Rattle.chain_state.proofs.RoomLemmas.{begins_placing, went_placing, stopped_placing, ended_placing, all_placed}
 use Rattle.chain_state.proofs.tables.Tables.place_all_expired.Goals as goal
 
 pub loop-rest-init : goal.loop-rest-init

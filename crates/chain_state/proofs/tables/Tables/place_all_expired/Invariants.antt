@@ -1,7 +1,7 @@
 use Rattle.std.proofs.Common.{◌+◌, ◌*◌, ◌≤◌, length}
 use Rattle.undo_laws.specs.Expired.{is_held_at}
 use Rattle.chain_state.specs.Whole.{is_queued_at}
-use Rattle.chain_state.proofs.Places.{IsPlacing}
+use Rattle.chain_state.proofs.RoomLemmas.{IsPlacing}
 use Rattle.chain_state.proofs.tables.Tables.place_all_expired.Given as goal
 
 abbrev pub invariant-loop-rest : goal.invariant-loop-rest

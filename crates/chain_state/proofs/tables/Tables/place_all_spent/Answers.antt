@@ -1,7 +1,7 @@
 use Rattle.std.proofs.Common.{arith}
 use Rattle.chain_state.specs.Work.{spends, spends_at}
-use Rattle.chain_state.proofs.Clear.{front_item, shorter_of, nothing_of}
-use Rattle.chain_state.proofs.Places.{begins_placing, went_placing, stopped_placing, ended_placing, all_placed}
+use Rattle.chain_state.proofs.ClearLemmas.{front_item, shorter_of, nothing_of}
+use Rattle.chain_state.proofs.RoomLemmas.{begins_placing, went_placing, stopped_placing, ended_placing, all_placed}
 use Rattle.chain_state.proofs.tables.Tables.place_all_spent.Goals as goal
 
 pub loop-rest-init : goal.loop-rest-init

@@ -1,6 +1,6 @@
 use Rattle.std.proofs.Common.{◌+◌, ◌*◌, ◌≤◌, length}
 use Rattle.chain_state.specs.Work.{spends, spends_at}
-use Rattle.chain_state.proofs.Places.{IsPlacing}
+use Rattle.chain_state.proofs.RoomLemmas.{IsPlacing}
 use Rattle.chain_state.proofs.tables.Tables.place_all_spent.Given as goal
 
 abbrev pub invariant-loop-rest : goal.invariant-loop-rest

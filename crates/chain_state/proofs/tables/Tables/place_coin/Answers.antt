@@ -4,7 +4,7 @@ use Rattle.chain_names.specs.Tables.{QueueSlots}
 use Rattle.undo_laws.specs.Expired.{is_held_at}
 use Rattle.chain_state.specs.Placing.{PlacesOnly}
 use Rattle.chain_state.specs.Whole.{is_queued_at}
-use Rattle.chain_state.proofs.Places.{coin_placed, commitment_placed, name_placed, name_row_placed, unnamed_coin}
+use Rattle.chain_state.proofs.RoomLemmas.{coin_placed, commitment_placed, name_placed, name_row_placed, unnamed_coin}
 use Rattle.chain_state.proofs.tables.Tables.place_coin.Goals as goal
 
 pub returns-in-New-clause-only : goal.returns-in-New-clause-only

@@ -1,6 +1,6 @@
 use Rattle.std.proofs.Common.{◌∷◌, []}
 use Rattle.chain_state.specs.Work.{spends, spends_at}
-use Rattle.chain_state.proofs.Places.{places-none, made_spends_none, spent_only, spent_placed, opened_spends, opened_spends_at, updated_spends, updated_spends_at}
+use Rattle.chain_state.proofs.RoomLemmas.{places-none, made_spends_none, spent_only, spent_placed, opened_spends, opened_spends_at, updated_spends, updated_spends_at}
 use Rattle.chain_state.proofs.tables.Tables.place_spent.Goals as goal
 
 pub returns-in-New-clause-ok : goal.returns-in-New-clause-ok

@@ -4,7 +4,7 @@ use Rattle.undo_laws.specs.Expired.{is_held_at}
 use Rattle.chain_state.specs.Placing.{IsPlaced, PlacesOnly}
 use Rattle.chain_state.specs.Whole.{is_queued_at}
 use Rattle.chain_state.specs.Work.{spends, spends_at}
-use Rattle.chain_state.proofs.Places.{places-none, undo_placing, spent_stay}
+use Rattle.chain_state.proofs.RoomLemmas.{places-none, undo_placing, spent_stay}
 use Rattle.chain_state.proofs.tables.Tables.place_undo.Goals as goal
 
 pub returns-in_err-place_all_spent-clause-clearing : goal.returns-in_err-place_all_spent-clause-clearing

@@ -1,7 +1,7 @@
 use Rattle.std.proofs.Common.{◌∷◌, [], length, ap, arith, length-append}
 use Rattle.std.proofs.lemmas.Grind.{common_steps}
-use Rattle.chain_state.proofs.Due.{one_more}
-use Rattle.chain_state.proofs.Restoring.{begins_returning, can_here, free_of, row_of, returned, all_returned}
+use Rattle.chain_state.proofs.ExpiryLemmas.{one_more}
+use Rattle.chain_state.proofs.RestoreLemmas.{begins_returning, can_here, free_of, row_of, returned, all_returned}
 use Rattle.chain_state.proofs.tables.Tables.restore.Goals as goal
 
 pub loop-at-init : goal.loop-at-init

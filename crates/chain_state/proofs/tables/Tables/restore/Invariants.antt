@@ -1,5 +1,5 @@
 use Rattle.std.proofs.Common.{ℕ, ◌+◌, ◌*◌, ◌≤◌, length}
-use Rattle.chain_state.proofs.Restoring.{IsReturning}
+use Rattle.chain_state.proofs.RestoreLemmas.{IsReturning}
 use Rattle.chain_state.proofs.tables.Tables.restore.Given as goal
 
 abbrev pub invariant-loop-at : goal.invariant-loop-at

@@ -1,6 +1,6 @@
 use Rattle.std.proofs.Common.{◌++◌, ◌∷◌, [], ap, sym, ◌∙◌, arith}
 use Rattle.chain_names.specs.Tables.{row_points}
-use Rattle.chain_state.proofs.Due.{take_next}
+use Rattle.chain_state.proofs.ExpiryLemmas.{take_next}
 use Rattle.chain_state.proofs.tables.Tables.row_points.Goals as goal
 
 pub loop-i-preserved : goal.loop-i-preserved

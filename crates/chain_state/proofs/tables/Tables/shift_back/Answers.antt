@@ -6,7 +6,7 @@ use Rattle.chain_names.specs.Changes.{without_entry}
 use Rattle.chain_names.specs.Tables.{coins_in, names_in, name_places}
 use Rattle.chain_names.proofs.Changed.{changed_still}
 use Rattle.chain_names.proofs.Points.{same_point-Decides}
-use Rattle.chain_state.proofs.Coming.{none_free, names_popped, names_filled_by, names_filled_same}
+use Rattle.chain_state.proofs.TableLemmas.{none_free, names_popped, names_filled_by, names_filled_same}
 use Rattle.chain_state.proofs.tables.Tables.shift_back.Goals as goal
 
 pub put_coin-requires-clause-free : goal.put_coin-requires-clause-free

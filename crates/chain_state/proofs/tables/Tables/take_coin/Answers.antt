@@ -1,5 +1,5 @@
 use Rattle.std.proofs.Common.{refl, sym}
-use Rattle.chain_state.proofs.Coming.{taken_none}
+use Rattle.chain_state.proofs.TableLemmas.{taken_none}
 use Rattle.chain_state.proofs.tables.Tables.take_coin.Goals as goal
 
 pub returns-in-None-clause-taken : goal.returns-in-None-clause-taken

@@ -1,5 +1,5 @@
 use Rattle.std.proofs.Common.{sym, arith}
-use Rattle.chain_state.proofs.Due.{begins_taking, took, passed_by, none_queued, room_for_one, taken_all, split_front, split_shorter, none_left, one_more}
+use Rattle.chain_state.proofs.ExpiryLemmas.{begins_taking, took, passed_by, none_queued, room_for_one, taken_all, split_front, split_shorter, none_left, one_more}
 use Rattle.chain_state.proofs.tables.Tables.take_due.Goals as goal
 
 pub loop-rest-init : goal.loop-rest-init

@@ -1,5 +1,5 @@
 use Rattle.std.proofs.Common.{◌+◌, ◌*◌, ◌≤◌, length}
-use Rattle.chain_state.proofs.Due.{IsTaking}
+use Rattle.chain_state.proofs.ExpiryLemmas.{IsTaking}
 use Rattle.chain_state.proofs.tables.Tables.take_due.Given as goal
 
 abbrev pub invariant-loop-rest : goal.invariant-loop-rest

@@ -1,4 +1,4 @@
-use Rattle.chain_state.proofs.Wholes.{returned_work}
+use Rattle.chain_state.proofs.WholeLemmas.{returned_work}
 use Rattle.chain_state.proofs.whole.Whole.abandon.Goals as goal
 
 pub abandon-requires : goal.abandon-requires

@@ -1,6 +1,6 @@
 use Rattle.std.proofs.Common.{[], length, ap, subst, sym, arith}
 use Rattle.chain_state.specs.Clearing.{IsClearing}
-use Rattle.chain_state.proofs.Clear.{whole_clearing, committed}
+use Rattle.chain_state.proofs.ClearLemmas.{whole_clearing, committed}
 use Rattle.chain_state.proofs.whole.Whole.commit.Goals as goal
 
 pub returns-clause-commits : goal.returns-clause-commits

@@ -1,8 +1,8 @@
 use Rattle.std.proofs.Common.{sym, arith}
 use Rattle.chain_names.specs.Tables.{names_in}
-use Rattle.chain_state.proofs.Standing.{entry_below}
-use Rattle.chain_state.proofs.Costing.{plain_cost, paid, paid_commitment, with_spent_count, commits_outputs, opens_outputs, opens_inputs, updates_outputs, updates_inputs}
-use Rattle.chain_state.proofs.Applying.{applied_commitment, applied_opening, applied_update}
+use Rattle.chain_state.proofs.StandLemmas.{entry_below}
+use Rattle.chain_state.proofs.CostLemmas.{plain_cost, paid, paid_commitment, with_spent_count, commits_outputs, opens_outputs, opens_inputs, updates_outputs, updates_inputs}
+use Rattle.chain_state.proofs.VerdictLemmas.{applied_commitment, applied_opening, applied_update}
 use Rattle.chain_state.proofs.work.Work.apply.Goals as goal
 
 pub invariant_of-view : goal.invariant_of-view
@@ -10,15 +10,15 @@ invariant_of-view g c = record { low_names = λ name item e. omega (arith, entry
 
 pub returns-in_ok-commit_to-in-New-clause-applies : goal.returns-in_ok-commit_to-in-New-clause-applies
 returns-in_ok-commit_to-in-New-clause-applies g c =
-    applied_commitment c.args.profile c.args.self.now c.commit_to.new.self c.args.tx.now c.requires.ready c.txid-txid.result c.txid-txid.ensures c.in-New.output c.in-New.hash (sym c.in-New.ensures.verdict) c.in_ok-commit_to-in-New.ensures.ok
+    applied_commitment c.args.profile c.args.self.now c.commit_to.new.self c.args.tx.now c.requires.ready c.args.txid c.requires.id c.in-New.output c.in-New.hash (sym c.in-New.ensures.verdict) c.in_ok-commit_to-in-New.ensures.ok
 
 pub returns-in_ok-open-in-First-clause-applies : goal.returns-in_ok-open-in-First-clause-applies
 returns-in_ok-open-in-First-clause-applies g c =
-    applied_opening c.args.profile c.args.self.now c.«open».new.self c.args.tx.now c.requires.ready c.txid-txid.result c.txid-txid.ensures c.in-First.output c.in-First.name.now c.in-First.value.now c.in-First.spent (sym c.in-First.ensures.verdict) c.in_ok-open-in-First.ensures.ok
+    applied_opening c.args.profile c.args.self.now c.«open».new.self c.args.tx.now c.requires.ready c.args.txid c.requires.id c.in-First.output c.in-First.name.now c.in-First.value.now c.in-First.spent (sym c.in-First.ensures.verdict) c.in_ok-open-in-First.ensures.ok
 
 pub returns-in_ok-update-in-Update-clause-applies : goal.returns-in_ok-update-in-Update-clause-applies
 returns-in_ok-update-in-Update-clause-applies g c =
-    applied_update c.args.profile c.args.self.now c.update.new.self c.args.tx.now c.requires.ready c.txid-txid.result c.txid-txid.ensures c.in-Update.output c.in-Update.name.now c.in-Update.value.now c.in-Update.spent (sym c.in-Update.ensures.verdict) c.in_ok-update-in-Update.ensures.ok
+    applied_update c.args.profile c.args.self.now c.update.new.self c.args.tx.now c.requires.ready c.args.txid c.requires.id c.in-Update.output c.in-Update.name.now c.in-Update.value.now c.in-Update.spent (sym c.in-Update.ensures.verdict) c.in_ok-update-in-Update.ensures.ok
 
 pub returns-in-Plain-clause-cost : goal.returns-in-Plain-clause-cost
 returns-in-Plain-clause-cost g c =

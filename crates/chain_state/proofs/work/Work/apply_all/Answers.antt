@@ -1,6 +1,8 @@
-use Rattle.std.proofs.Common.{rules, subst, sym, arith}
-use Rattle.chain_state.proofs.Looping.{IsOn, begins, few_here, counted_here, went_on_at, declined_at, stopped_at, ended_at}
-use Rattle.chain_state.proofs.Costing.{begun_paid, more_paid}
+use Rattle.std.proofs.Common.{rules, ◌≡◌, map, subst, sym, arith}
+use Rattle.block_grammar.specs.Transaction.{txid_of}
+use Rattle.block_reader.specs.Rows.{seen_row}
+use Rattle.chain_state.proofs.TransactionLemmas.{IsOn, more_ids, begins, few_here, counted_here, went_on_at, declined_at, stopped_at, ended_at}
+use Rattle.chain_state.proofs.CostLemmas.{begun_paid, more_paid}
 use Rattle.chain_state.proofs.work.Work.apply_all.Goals as goal
 
 pub loop-tx-init : goal.loop-tx-init
@@ -9,6 +11,7 @@ loop-tx-init g c = (
   search rules,
   subst (λ left. IsOn c.args.profile c.args.self.now c.args.self.now c.args.txs left 1) (sym c.into_iter-tx-iterator.ensures.into_iter_gives)
       (begins c.args.profile c.args.self.now c.args.txs c.requires.ready c.requires.fresh c.requires.outputs c.requires.count),
+  subst (λ left. seen_row c.args.ids.now ≡ map txid_of left) (sym c.into_iter-tx-iterator.ensures.into_iter_gives) c.requires.ids,
   begun_paid c.args.steps.now c.args.txs c.into_iter-tx-iterator.result c.args.self.now.ops.items c.into_iter-tx-iterator.ensures.into_iter_gives c.requires.fresh,
 )
 
@@ -32,11 +35,12 @@ loop-tx-preserved g c = (
   search rules,
   search rules,
   went_on_at _ _ _ c.apply.new.self _ _ _ _ _ c.in-Some.ensures.steps c.loop-tx.invariant.2 (rw c.in-Ok-None.field-0-is at c.in-Ok-None.ensures.applies),
-  more_paid c.args.steps.now c.loop-tx.steps c.apply.new.steps c.args.txs c.loop-tx.tx-iterator _ _ c.loop-tx.self.ops.items c.apply.new.self.ops.items c.in-Some.ensures.steps c.loop-tx.invariant.3 (rw c.in-Ok-None.field-0-is at c.in-Ok-None.ensures.cost),
+  more_ids c.loop-tx.left.now c.loop-tx.tx-iterator _ _ c.in-Some.ensures.steps c.loop-tx.invariant.3,
+  more_paid c.args.steps.now c.loop-tx.steps c.apply.new.steps c.args.txs c.loop-tx.tx-iterator _ _ c.loop-tx.self.ops.items c.apply.new.self.ops.items c.in-Some.ensures.steps c.loop-tx.invariant.4 (rw c.in-Ok-None.field-0-is at c.in-Ok-None.ensures.cost),
 )
 
 pub returns-clause-applies : goal.returns-clause-applies
 returns-clause-applies g c = ended_at _ _ _ _ _ _ c.in-None.ensures.steps.0 c.loop-tx.invariant.2
 
 pub returns-clause-cost : goal.returns-clause-cost
-returns-clause-cost g c = omega (arith, c.loop-tx.invariant.3)
+returns-clause-cost g c = omega (arith, c.loop-tx.invariant.4)

@@ -7,7 +7,7 @@ use Rattle.chain_names.specs.Tables.{coin_places}
 use Rattle.chain_names.proofs.Changed.{changed_at}
 use Rattle.chain_names.proofs.Points.{same_point-Decides}
 use Rattle.std.proofs.lemmas.Grind.{common_steps}
-use Rattle.chain_state.proofs.Working.{commit_advances}
+use Rattle.chain_state.proofs.WorkLemmas.{commit_advances}
 use Rattle.chain_state.proofs.work.Work.commit_to.Goals as goal
 
 pub put-requires : goal.put-requires

@@ -1,8 +1,8 @@
 use Rattle.std.proofs.Common.{ap, arith}
 use Rattle.nmc_base.specs.Roomy.{Roomy}
 use Rattle.chain_names.specs.declared.coin.HeldCoin.{HeldCoin}
-use Rattle.chain_state.proofs.Wholes.{finished, finished_none}
-use Rattle.chain_state.proofs.Costing.{row_count}
+use Rattle.chain_state.proofs.WholeLemmas.{finished, finished_none}
+use Rattle.chain_state.proofs.CostLemmas.{row_count}
 use Rattle.chain_state.proofs.work.Work.finish.Goals as goal
 
 pub returns-in-None-clause-ok : goal.returns-in-None-clause-ok

@@ -1,7 +1,7 @@
 use Rattle.std.proofs.Common.{◌∷◌, [], length, ap, arith, length-append}
 use Rattle.std.proofs.lemmas.Grind.{common_steps}
-use Rattle.chain_state.proofs.Due.{one_more}
-use Rattle.chain_state.proofs.GivingUp.{gives_up, gave_up, given_up}
+use Rattle.chain_state.proofs.ExpiryLemmas.{one_more}
+use Rattle.chain_state.proofs.PlaceLemmas.{gives_up, gave_up, given_up}
 use Rattle.chain_state.proofs.work.Work.give_up_empty.Goals as goal
 
 pub loop-at-init : goal.loop-at-init

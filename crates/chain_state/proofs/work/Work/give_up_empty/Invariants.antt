@@ -1,5 +1,5 @@
 use Rattle.std.proofs.Common.{◌+◌, ◌*◌, ◌≤◌, length}
-use Rattle.chain_state.proofs.GivingUp.{IsGivingUp}
+use Rattle.chain_state.proofs.PlaceLemmas.{IsGivingUp}
 use Rattle.chain_state.proofs.work.Work.give_up_empty.Given as goal
 
 abbrev pub invariant-loop-at : goal.invariant-loop-at

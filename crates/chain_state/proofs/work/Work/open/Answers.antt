@@ -1,4 +1,4 @@
-use Rattle.chain_state.proofs.Naming.{opened}
+use Rattle.chain_state.proofs.NameLemmas.{opened}
 use Rattle.chain_state.proofs.work.Work.open.Goals as goal
 
 pub returns-clause-ok : goal.returns-clause-ok

@@ -1,6 +1,6 @@
 use Rattle.std.proofs.Common.{◌++◌, ◌∷◌, [], ap, ◌∙◌, arith}
 use Rattle.std.proofs.lemmas.Grind.{common_steps}
-use Rattle.chain_state.proofs.Halting.{halts}
+use Rattle.chain_state.proofs.HaltLemmas.{halts}
 use Rattle.chain_state.proofs.work.Work.shift.Goals as goal
 
 pub returns-in-Err-clause-err : goal.returns-in-Err-clause-err

@@ -1,7 +1,7 @@
 use Rattle.std.proofs.Common.{◌∷◌, [], length, refl, ap, arith, length-append}
 use Rattle.std.proofs.lemmas.Grind.{common_steps}
-use Rattle.chain_state.proofs.Due.{one_more}
-use Rattle.chain_state.proofs.Undone.{popped_work, went_back, gone_back}
+use Rattle.chain_state.proofs.ExpiryLemmas.{one_more}
+use Rattle.chain_state.proofs.UndoneLemmas.{popped_work, went_back, gone_back}
 use Rattle.chain_state.proofs.work.Work.undo_all.Goals as goal
 
 pub loop-op-init : goal.loop-op-init

@@ -1,5 +1,5 @@
 use Rattle.std.proofs.Common.{◌+◌, ◌*◌, ◌≤◌, length}
-use Rattle.chain_state.proofs.Undone.{IsGoingBack}
+use Rattle.chain_state.proofs.UndoneLemmas.{IsGoingBack}
 use Rattle.chain_state.proofs.work.Work.undo_all.Given as goal
 
 abbrev pub invariant-loop-op : goal.invariant-loop-op

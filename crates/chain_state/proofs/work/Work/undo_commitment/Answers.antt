@@ -2,8 +2,8 @@ use Rattle.std.proofs.Common.{refl, arith}
 use Rattle.chain_names.specs.declared.undo.UndoOp.TheVariants.{New as undo_new}
 use Rattle.chain_names.specs.Tables.{names_in}
 use Rattle.chain_state.specs.Work.{with_op}
-use Rattle.chain_state.proofs.Backing.{uncommitted_work}
-use Rattle.chain_state.proofs.Due.{one_more}
+use Rattle.chain_state.proofs.BackLemmas.{uncommitted_work}
+use Rattle.chain_state.proofs.ExpiryLemmas.{one_more}
 use Rattle.chain_state.proofs.work.Work.undo_commitment.Goals as goal
 
 pub returns-clause-back : goal.returns-clause-back

@@ -1,8 +1,8 @@
 use Rattle.std.proofs.Common.{refl, arith}
 use Rattle.chain_state.specs.Work.{with_op}
-use Rattle.chain_state.proofs.Backing.{unmoved_work}
-use Rattle.chain_state.proofs.Undone.{spent_free, spent_place, spent_row}
-use Rattle.chain_state.proofs.Due.{one_more}
+use Rattle.chain_state.proofs.BackLemmas.{unmoved_work}
+use Rattle.chain_state.proofs.UndoneLemmas.{spent_free, spent_place, spent_row}
+use Rattle.chain_state.proofs.ExpiryLemmas.{one_more}
 use Rattle.chain_state.proofs.work.Work.undo_shift.Goals as goal
 
 pub shift_back-requires-clause-free : goal.shift_back-requires-clause-free

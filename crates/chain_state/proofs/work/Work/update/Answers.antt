@@ -1,4 +1,4 @@
-use Rattle.chain_state.proofs.Naming.{updated}
+use Rattle.chain_state.proofs.NameLemmas.{updated}
 use Rattle.chain_state.proofs.work.Work.update.Goals as goal
 
 pub returns-clause-ok : goal.returns-clause-ok

@@ -1,0 +1,108 @@
+"""What a replay has to hash, and what it takes: the instructions of the program, counted by valgrind's callgrind."""
+import pathlib
+import random
+import re
+import shutil
+import subprocess
+import tempfile
+import typing
+
+from blocks import Chain, transaction
+
+TOP = pathlib.Path(__file__).resolve().parent.parent
+PROGRAM = TOP / "crates" / "bridge_server" / "out" / "bridge_server"
+COMPRESSION = "sha2::block256::compress"
+
+
+class Work(typing.NamedTuple):
+    """What is hashed where each thing is hashed once: bytes, and the blocks of 64 bytes that SHA-256 compresses."""
+
+    hashed: int = 0
+    compressions: int = 0
+
+    def twice(self, length, times=1):
+        """With messages of this length, each hashed twice over."""
+        return Work(self.hashed + times * (length + 32), self.compressions + times * ((length + 72) // 64 + 1))
+
+    def block(self, transactions):
+        """With a block of transactions of these lengths: its hash, their ids, and the nodes of the Merkle tree."""
+        work, row = self.twice(80), len(transactions)
+        for length in transactions:
+            work = work.twice(length)
+        while row > 1:
+            row = (row + 1) // 2
+            work = work.twice(64, row)
+        return work
+
+
+class Counted(typing.NamedTuple):
+    """The instructions of a run: all, those of the compression, and how often it was called."""
+
+    total: int
+    inner: int
+    calls: int
+
+
+class Cost(typing.NamedTuple):
+    """Of a replay, without what an empty one takes: instructions a byte of its stream, those of the compression in the same
+    run, those of the compression where each thing is hashed once, and the bytes hashed for each byte of the stream."""
+
+    all: float
+    inner: float
+    once: float
+    hashed: float
+
+
+def write_stream(path, blocks, transactions):
+    """A stream of blocks of so many transactions without names. Its size, and what it asks to be hashed."""
+    chance, work = random.Random(7), Work()
+    with open(path, "wb") as out:
+        chain = Chain(out)
+        for _ in range(blocks):
+            items = [some_transaction(chance) for _ in range(transactions)]
+            chain.connect(items)
+            work = work.block([len(item) for item in items])
+    return chain.size, work
+
+
+def some_transaction(chance):
+    outputs = [(amount, b"\x76" + chance.randbytes(24)) for amount in (5000, 700)]
+    return transaction(1, [(chance.randbytes(36), chance.randbytes(107))], outputs)
+
+
+def has_counter():
+    return shutil.which("valgrind") is not None
+
+
+def counted(path):
+    """The instructions of a replay of the file."""
+    with tempfile.NamedTemporaryFile("r") as trace, open(path, "rb") as stream:
+        command = ["valgrind", "--tool=callgrind", f"--callgrind-out-file={trace.name}", PROGRAM, "replay"]
+        run = subprocess.run(command, stdin=stream, stdout=subprocess.DEVNULL, stderr=subprocess.PIPE, text=True)
+        total = re.search(r"Collected : (\d+)", run.stderr)
+        if run.returncode or not total:
+            raise SystemExit(f"callgrind ended with {run.returncode}:\n{run.stderr}")
+        return Counted(int(total.group(1)), *called(trace.read()))
+
+
+def called(trace):
+    """The instructions of the compression, and its calls."""
+    number = re.search(r"^c?fn=(\(\d+\)) " + re.escape(COMPRESSION) + "$", trace, re.MULTILINE)
+    if not number:
+        return 0, 0
+    calls = re.findall(r"^cfn=" + re.escape(number.group(1)) + r"(?: .*)?\ncalls=(\d+) .*\n\S+ (\d+)$", trace, re.MULTILINE)
+    return sum(int(inside) for _, inside in calls), sum(int(times) for times, _ in calls)
+
+
+def cost_of(blocks, transactions):
+    """What a replay of so many blocks costs."""
+    with tempfile.TemporaryDirectory() as folder:
+        path = pathlib.Path(folder) / "stream"
+        size, work = write_stream(path, blocks, transactions)
+        full = counted(path)
+        path.write_bytes(b"")
+        empty = counted(path)
+    if not full.calls:
+        raise SystemExit(f"no call of {COMPRESSION} was counted")
+    each = full.inner / full.calls
+    return Cost((full.total - empty.total) / size, full.inner / size, work.compressions * each / size, work.hashed / size)

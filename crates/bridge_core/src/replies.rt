@@ -1,0 +1,51 @@
+//! The replies to connects and disconnects.
+
+ghost use Rattle.std.specs.Prelude.{◌≡◌, ◌++◌};
+ghost use Rattle.std.specs.Int.{w32, to_le_bytes};
+ghost use Rattle.machine.specs.Reply.{no_memory_reply};
+ghost use Rattle.machine.specs.Connecting.{refusal_reply};
+ghost use Rattle.machine.specs.Disconnecting.{back_reply};
+ghost use Rattle.chain_steps.specs.Views.{refusal_of, back_refusal_of};
+
+use chain_state::{BackRefusal, Refusal};
+use frame_loop::ReplyBuf;
+use nmc_base::Tip;
+
+/// Code 0, and the height and hash of the tip that the event left.
+pub(crate) fn accept(reply: &mut ReplyBuf, tip: &Tip)
+    ensures { reply.new ≡ record { code = 0; payload = to_le_bytes w32 tip.now.height ++ tip.now.hash.0 } }
+{
+    reply.set(0, &tip.height.to_le_bytes(), &tip.hash.0);
+}
+
+/// The code of a connect's refusal with its payload.
+pub(crate) fn refuse(reply: &mut ReplyBuf, refusal: &Refusal)
+    ensures { reply.new ≡ refusal_reply (refusal_of refusal.now) }
+{
+    match refusal {
+        Refusal::BadBlock { at } => reply.set(1, &at.to_le_bytes(), &[]),
+        Refusal::NotOnTip { tip } => reply.set(2, &tip.0, &[]),
+        Refusal::HeightLimit => reply.set(4, &[], &[]),
+        Refusal::MerkleMismatch { computed } => reply.set(3, &computed.0, &[]),
+        Refusal::Rule { tx, refusal } => reply.set(refusal.number(), &tx.to_le_bytes(), &[]),
+        Refusal::JournalFull => reply.set(5, &[], &[]),
+    }
+}
+
+/// The code of a disconnect's refusal with its payload.
+pub(crate) fn refuse_back(reply: &mut ReplyBuf, refusal: &BackRefusal)
+    ensures { reply.new ≡ back_reply (back_refusal_of refusal.now) }
+{
+    match refusal {
+        BackRefusal::AtBase => reply.set(7, &[], &[]),
+        BackRefusal::NotTip { tip } => reply.set(6, &tip.0, &[]),
+        BackRefusal::JournalFull => reply.set(5, &[], &[]),
+    }
+}
+
+/// Code FE, want of memory.
+pub(crate) fn lack_memory(reply: &mut ReplyBuf)
+    ensures { reply.new ≡ no_memory_reply }
+{
+    reply.set(0xFE, &[], &[]);
+}

@@ -1,0 +1,111 @@
+-- The coins that are due: those of one row of the queue.
+use Rattle.std.proofs.Common.{◌≡◌, ℕ, suc, ◌+◌, ◌<◌, Bool, true, false, cond, List, [], ◌∷◌, refl, sym, ap, ◌∙◌, arith}
+use Rattle.std.proofs.Math.Path.{fun_ext}
+use Rattle.std.specs.Prelude.{Option, Some, None, ◌==◌, ◌||◌, ◌&&◌}
+use Rattle.std.specs.List.{list_any}
+use Rattle.std.specs.Cmp.{unsigned_Decides}
+use Rattle.nmc_base.specs.declared.hashes.OutPoint.{OutPoint}
+use Rattle.nmc_base.specs.declared.chain_ends.Profile.{Profile}
+use Rattle.nmc_base.specs.Expiry.{expiry_depth, is_expired}
+use Rattle.chain_names.specs.declared.coin.Coin.{Coin}
+use Rattle.chain_names.specs.declared.coin.Coin.TheVariants.{New, Named}
+use Rattle.chain_names.specs.Points.{same_point, changed}
+use Rattle.chain_names.specs.Coins.{unless_expired}
+use Rattle.chain_names.specs.Tables.{is_named_at}
+use Rattle.chain_names.specs.Changes.{unless_named_at, cleared}
+use Rattle.chain_names.proofs.Points.{same_point-Decides}
+use Rattle.chain_names.proofs.LogLemmas.{no_lower}
+use Rattle.chain_names.proofs.Shown.{true_is_not_false}
+
+-- ---- what is cleared
+
+cleared_at : (height : ℕ) (point q : OutPoint) (coins : OutPoint → Option Coin) (b : Bool) → same_point point q ≡ b
+    → cond b (unless_named_at height (coins point)) (coins q) ≡ cond (is_named_at height (coins q) && b) None (coins q)
+cleared_at height point q coins true is = ap (λ p. unless_named_at height (coins p)) ((same_point-Decides point q).0 is) ∙ same (is_named_at height (coins q))
+  where
+    same : (c : Bool) → cond c None (coins q) ≡ cond (c && true) None (coins q)
+    same true = refl
+    same false = refl
+cleared_at height point q coins false is = same (is_named_at height (coins q))
+  where
+    same : (c : Bool) → coins q ≡ cond (c && false) None (coins q)
+    same true = refl
+    same false = refl
+
+swap : (a b : OutPoint) → same_point a b ≡ same_point b a
+swap a b = by (same_point a b) (same_point b a) refl refl
+  where
+    by : (x y : Bool) → same_point a b ≡ x → same_point b a ≡ y → x ≡ y
+    by true true e f = refl
+    by false false e f = refl
+    by true false e f = absurd (true_is_not_false (sym ((same_point-Decides b a).1 (sym ((same_point-Decides a b).0 e))) ∙ f))
+    by false true e f = absurd (true_is_not_false (sym ((same_point-Decides a b).1 (sym ((same_point-Decides b a).0 f))) ∙ e))
+
+twice : (height : ℕ) (coin : Option Coin) (n a b : Bool) → is_named_at height coin ≡ n
+    → cond (is_named_at height (cond (n && a) None coin) && b) None (cond (n && a) None coin) ≡ cond (n && (a || b)) None coin
+twice height coin true true b is = refl
+twice height coin true false b is = ap (λ c. cond (c && b) None coin) is
+twice height coin false a b is = ap (λ c. cond (c && b) None coin) is
+
+cleared-at : (height : ℕ) (points : List OutPoint) (coins : OutPoint → Option Coin) (q : OutPoint)
+    → cleared height points coins q ≡ cond (is_named_at height (coins q) && list_any (same_point q) points) None (coins q)
+cleared-at height [] coins q = same (is_named_at height (coins q))
+  where
+    same : (c : Bool) → coins q ≡ cond (c && false) None (coins q)
+    same true = refl
+    same false = refl
+cleared-at height (point ∷ points) coins q =
+    let next = changed same_point coins point (unless_named_at height (coins point)) in
+    let first = cleared_at height point q coins (same_point point q) refl ∙ ap (λ b. cond (is_named_at height (coins q) && b) None (coins q)) (swap point q) in
+    cleared-at height points next q
+    ∙ ap (λ c. cond (is_named_at height c && list_any (same_point q) points) None c) first
+    ∙ twice height (coins q) (is_named_at height (coins q)) (same_point q point) (list_any (same_point q) points) refl
+
+-- the outpoints are all of the row
+pub cleared-row : (height : ℕ) (points : List OutPoint) (coins : OutPoint → Option Coin)
+    → ((q : OutPoint) → is_named_at height (coins q) ≡ true → list_any (same_point q) points ≡ true)
+    → cleared height points coins ≡ (λ q. unless_named_at height (coins q))
+cleared-row height points coins all = fun_ext (λ q. cleared-at height points coins q ∙ row q (is_named_at height (coins q)) refl)
+  where
+    row : (q : OutPoint) (n : Bool) → is_named_at height (coins q) ≡ n → cond (n && list_any (same_point q) points) None (coins q) ≡ cond n None (coins q)
+    row q true is = ap (λ b. cond b None (coins q)) (all q is)
+    row q false is = refl
+
+-- ---- what is due
+
+due_named : (profile : Profile) (height row made : ℕ) (name : List ℕ) → row + expiry_depth profile (suc height) ≡ suc height
+    → is_expired profile made height ≡ false → (b : Bool) → (made == row) ≡ b → is_expired profile made (suc height) ≡ b
+due_named profile height row made name due live true is = grind (arith, due, (unsigned_Decides made row).0 is)
+due_named profile height row made name due live false is =
+    by (is_expired profile made (suc height)) refl
+  where
+    by : (e : Bool) → is_expired profile made (suc height) ≡ e → e ≡ false
+    by true expired =
+        let same : made ≡ row = grind (arith, due, live, expired, no_lower profile height) in
+        absurd (true_is_not_false (sym ((unsigned_Decides made row).1 same) ∙ is))
+    by false expired = refl
+
+live_named : (profile : Profile) (height made : ℕ) (name : List ℕ) → cond (is_expired profile made height) None (Some (Named name made)) ≡ Some (Named name made) → is_expired profile made height ≡ false
+live_named profile height made name live = by (is_expired profile made height) live
+  where
+    by : (e : Bool) → cond e None (Some (Named name made)) ≡ Some (Named name made) → e ≡ false
+    by true none = absurd cc
+    by false some = refl
+
+-- a live coin that expires is of the row at this depth
+pub unless_expired-row : (profile : Profile) (height row : ℕ) (coin : Option Coin) → row + expiry_depth profile (suc height) ≡ suc height
+    → unless_expired profile height coin ≡ coin → unless_expired profile (suc height) coin ≡ unless_named_at row coin
+unless_expired-row profile height row None due live = refl
+unless_expired-row profile height row (Some (New hash made)) due live = refl
+unless_expired-row profile height row (Some (Named name made)) due live =
+    ap (λ b. cond b None (Some (Named name made))) (due_named profile height row made name due (live_named profile height made name live) (made == row) refl)
+
+-- and none expires where there is no such row
+pub unless_expired-none : (profile : Profile) (height : ℕ) (coin : Option Coin) → suc height < expiry_depth profile (suc height) → unless_expired profile (suc height) coin ≡ coin
+unless_expired-none profile height None high = refl
+unless_expired-none profile height (Some (New hash made)) high = refl
+unless_expired-none profile height (Some (Named name made)) high = ap (λ b. cond b None (Some (Named name made))) (stands (is_expired profile made (suc height)) refl)
+  where
+    stands : (e : Bool) → is_expired profile made (suc height) ≡ e → e ≡ false
+    stands true is = absurd (grind (arith, is, high))
+    stands false is = refl

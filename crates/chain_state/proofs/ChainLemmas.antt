@@ -1,0 +1,340 @@
+-- Chains, and blocks that are staged on them.
+use Rattle.std.proofs.Common.{◌≡◌, ℕ, suc, ◌+◌, ◌<◌, ◌≤◌, ◌^◌, Bool, true, false, cond, List, [], ◌∷◌, ◌++◌, map, reverse, length, refl, sym, ap, subst, ◌∙◌, arith}
+use Rattle.std.proofs.Math.Path.{fun_ext}
+use Rattle.std.specs.Prelude.{Option, Some, None}
+use Rattle.std.specs.Option.{is_some}
+use Rattle.std.specs.List.{AllByRecursion}
+use Rattle.nmc_base.specs.declared.chain_ends.Profile.{Profile}
+use Rattle.nmc_base.specs.declared.hashes.OutPoint.{OutPoint}
+use Rattle.nmc_base.specs.Expiry.{is_expired}
+use Rattle.chain_names.specs.declared.coin.Coin.{Coin}
+use Rattle.chain_names.specs.declared.coin.Coin.TheVariants.{New, Named}
+use Rattle.nmc_base.specs.declared.chain_ends.Base.{Base}
+use Rattle.std.proofs.lemmas.List.{map-append, reverse-append}
+use Rattle.nmc_base.specs.Roomy.{Roomy}
+use Rattle.nmc_base.specs.declared.chain_ends.Tip.{Tip}
+use Rattle.chain_names.specs.declared.undo.UndoOp.{UndoOp}
+use Rattle.undo_laws.specs.Expired.{IsDue}
+use Rattle.block_grammar.specs.Block.{count_outputs, Block}
+use Rattle.undo_laws.specs.Sound.{IsSound}
+use Rattle.undo_laws.specs.State.{IsState, IsUpTo}
+use Rattle.undo_laws.proofs.SoundLemmas.{block_sound, sound_state}
+use Rattle.undo_laws.proofs.StartLemmas.{base_sound}
+use Rattle.undo_records.specs.Writable.{IsWritable}
+use Rattle.undo_laws.specs.Fits.{AreUndoable}
+use Rattle.chain_state.specs.Measure.{AreMeasured}
+use Rattle.chain_state.proofs.MeasureLemmas.{block_measured, block_writable, was_there}
+use Rattle.undo_records.specs.Seen.{seen_undo}
+use Rattle.undo_records.specs.declared.undo.Undo.{Undo}
+use Rattle.chain_names.specs.Coins.{Maps, maps_of, unless_expired}
+use Rattle.block_grammar.specs.Transaction.{Transaction}
+use Rattle.block_grammar.specs.Merkle.{block_root}
+use Rattle.block_grammar.specs.Header.{header_hash}
+use Rattle.nmc_base.specs.declared.hashes.Hash32.{Hash32}
+use Rattle.chain_names.specs.Log.{behind_coinbase}
+use Rattle.chain_names.specs.Changes.{Refused as RefusedBy, without_expired, back_ops, undo_ops, after_all, after_block, first_refused}
+use Rattle.chain_names.specs.Tables.{AreCoinsFilled, AreNamesFilled, IsQueueFilled, coins_in, coin_places, names_in, queued_in, queue_places, queue_of, FilledBut}
+use Rattle.chain_state.specs.Tables.{maps_by, IsBelow, IsStanding, AreFilled}
+use Rattle.chain_state.specs.Work.{HasSpentPlace, HasSpentRow, may_be_empty, may_be_empty_at, IsWork}
+use Rattle.chain_state.specs.Block.{IsReady, HasFewOutputs, AppliedAll}
+use Rattle.chain_state.specs.Stage.{Begins, StagesWell, StagesNames, Stages}
+use Rattle.chain_state.specs.declared.stage.Refusal.TheVariants.{BadBlock, NotOnTip, HeightLimit, MerkleMismatch, Rule, JournalFull}
+use Rattle.chain_state.specs.declared.stage.StageOutcome.{StageOutcome}
+use Rattle.chain_state.specs.declared.stage.StageOutcome.TheVariants.{Staged, Refused, NoMemory}
+use Rattle.chain_state.proofs.WorkLemmas.{all-weaker}
+use Rattle.chain_state.specs.Worked.{HandsBack}
+use Rattle.chain_state.proofs.WorkedLemmas.{applied_back}
+use Rattle.chain_state.specs.Whole.{Finishes, Commits, maps_before_block}
+use Rattle.nmc_base.specs.Heights.{highest}
+use Rattle.chain_state.specs.Chain.{rule_refused, Indexed, IsIndexed, SameIndex, IsStagedIndex, index_of, staged_of, staged_undo, newest_first, newest_hash}
+use Rattle.chain_state.specs.declared.tables.Tables.{Tables}
+use Rattle.chain_state.specs.declared.whole.Committed.{Committed}
+use Rattle.chain_state.specs.declared.whole.Whole.{Whole}
+use Rattle.chain_state.specs.declared.work.Work.{Work}
+
+next_is : (n : ℕ) → suc n ≡ n + 1
+next_is n = omega arith
+
+-- ---- what undoes the blocks
+
+pub newest_more : (undos : List Undo) (undo : Undo) → newest_first (undos ++ undo ∷ []) ≡ seen_undo undo ∷ newest_first undos
+newest_more undos undo = ap reverse (map-append seen_undo undos (undo ∷ [])) ∙ reverse-append (map seen_undo undos) (seen_undo undo ∷ [])
+
+pub few_each : (ts : List Transaction) → count_outputs ts < 2 ^ 32 → AllByRecursion HasFewOutputs ts
+few_each [] few = tt
+few_each (t ∷ ts) few = (omega (arith, few), few_each ts (omega (arith, few)))
+
+-- ---- a state stands for the next block
+
+live_coin : (profile : Profile) (tip : ℕ) (maps : Maps) (state : IsState profile tip maps) (point : OutPoint) (coin : Option Coin) → maps.coins point ≡ coin → unless_expired profile (suc tip) coin ≡ coin
+live_coin profile tip maps state point None is = refl
+live_coin profile tip maps state point (Some (New hash made)) is = refl
+live_coin profile tip maps state point (Some (Named name made)) is = rw (state.named_coins point name made is).live refl
+
+pub state_standing : (profile : Profile) (tip : ℕ) (maps : Maps) → IsState profile tip maps → IsStanding profile (suc tip) (suc tip) maps
+state_standing profile tip maps state = record {
+  low_coins = λ point coin e. omega (arith, state.coin_heights point coin e);
+  low_names = λ name. all-weaker (IsUpTo tip) (IsBelow (suc tip)) (maps.names name) (λ item low. omega (arith, low)) (state.item_heights name);
+  live = fun_ext (λ point. live_coin profile tip maps state point (maps.coins point) refl);
+}
+
+pub indexed_state : (c : Indexed) → IsIndexed c → IsState c.base.profile c.tip.height (maps_by c.tables)
+indexed_state c indexed = sound_state c.base.profile c.base.height c.tip.height (maps_by c.tables) c.undos indexed.sound
+
+-- ---- the same index again
+
+module _ (c : Indexed) (indexed : IsIndexed c) (tables : Tables) (undos : Roomy Undo) (same_undos : newest_first undos.items ≡ c.undos) (same : maps_by tables ≡ maps_by c.tables) where
+  pub returned_index : queued_in tables.queue ≡ queue_of (coins_in tables.coins) → AreFilled tables → IsIndexed (index_of c.base c.tip tables undos)
+  returned_index queue filled = record {
+    hash = indexed.hash ∙ sym (ap (newest_hash c.base) same_undos);
+    queue = queue;
+    filled = filled;
+    sound = subst (λ us. IsSound c.base.profile c.base.height c.tip.height (maps_by tables) us) (sym same_undos)
+        (subst (λ m. IsSound c.base.profile c.base.height c.tip.height m c.undos) (sym same) indexed.sound);
+    measured = subst AreMeasured (sym same) indexed.measured;
+    writable = subst (AllByRecursion IsWritable) (sym same_undos) indexed.writable;
+  }
+
+  pub returned_same : queued_in tables.queue ≡ queue_of (coins_in tables.coins) → SameIndex (index_of c.base c.tip tables undos) c
+  returned_same queue = record {
+    base = refl;
+    tip = refl;
+    maps = same;
+    queue = queue ∙ ap (λ (m : Maps). queue_of m.coins) same ∙ sym indexed.queue;
+    undos = same_undos;
+  }
+
+-- the tables were handed back as they were given
+pub unused_index : (c : Indexed) → IsIndexed c → (tables : Tables) (undos : Roomy Undo) → newest_first undos.items ≡ c.undos → tables ≡ c.tables → IsIndexed (index_of c.base c.tip tables undos)
+unused_index c indexed tables undos same_undos same =
+    returned_index c indexed tables undos same_undos (ap maps_by same)
+    (subst (λ (t : Tables). queued_in t.queue ≡ queue_of (coins_in t.coins)) (sym same) indexed.queue) (subst AreFilled (sym same) indexed.filled)
+
+-- ---- a block is committed, or abandoned
+
+module _ (base : Base) (tip : Tip) (hash : Hash32) (whole : Whole) (undos : Roomy Undo) (staged : IsStagedIndex (staged_of base tip hash whole undos)) where
+  module _ (c : Committed) (commits : Commits whole c) (more : Roomy Undo) (pushed : more.items ≡ undos.items ++ record { block = hash; ops = c.ops; expired = c.expired } ∷ []) where
+    pub undo_added : newest_first more.items ≡ staged_undo hash whole ∷ newest_first undos.items
+    undo_added =
+        ap newest_first pushed ∙ newest_more undos.items (record { block = hash; ops = c.ops; expired = c.expired })
+        ∙ (λ i. record { block = hash; ops = (commits.ops i).items; expired = (commits.expired i).items } ∷ newest_first undos.items)
+
+    pub connected_index : IsIndexed (index_of base (record { height = tip.height + 1; hash = hash }) c.tables more)
+    connected_index = record {
+      hash = sym (ap (newest_hash base) undo_added);
+      queue = commits.queue;
+      filled = commits.filled;
+      sound = subst (λ us. IsSound base.profile base.height (tip.height + 1) (maps_by c.tables) us) (sym undo_added)
+          (subst (λ n. IsSound base.profile base.height n (maps_by c.tables) (staged_undo hash whole ∷ newest_first undos.items)) (next_is tip.height)
+          (subst (λ m. IsSound base.profile base.height (suc tip.height) m (staged_undo hash whole ∷ newest_first undos.items)) (sym commits.maps) staged.sound_after));
+      measured = subst AreMeasured (sym commits.maps) staged.measured_after;
+      writable = subst (AllByRecursion IsWritable) (sym undo_added) staged.writable;
+    }
+
+  pub abandoned_index : (tables : Tables) → maps_by tables ≡ maps_before_block whole → queued_in tables.queue ≡ queue_of (coins_in tables.coins) → AreFilled tables
+      → IsIndexed (index_of base tip tables undos)
+  abandoned_index tables before queue filled = record {
+    hash = staged.tip_hash;
+    queue = queue;
+    filled = filled;
+    sound = subst (λ m. IsSound base.profile base.height tip.height m (newest_first undos.items)) (sym before) staged.sound_before;
+    measured = subst AreMeasured (sym before) staged.measured_before;
+    writable = staged.writable.1;
+  }
+
+-- ---- the next block
+
+twice_at : (profile : Profile) (height : ℕ) (coin : Option Coin) → unless_expired profile height (unless_expired profile height coin) ≡ unless_expired profile height coin
+twice_at profile height None = refl
+twice_at profile height (Some (New hash made)) = refl
+twice_at profile height (Some (Named name made)) = by (is_expired profile made height) refl
+  where
+    by : (b : Bool) → is_expired profile made height ≡ b → unless_expired profile height (cond b None (Some (Named name made))) ≡ cond b None (Some (Named name made))
+    by true is = refl
+    by false is = ap (λ b. cond b None (Some (Named name made))) is
+
+-- what stood at a height stands at the next without what is expired there
+pub standing_next : (profile : Profile) (height : ℕ) (maps : Maps) → IsStanding profile height (suc height) maps → IsStanding profile (suc height) (suc height) (without_expired profile (suc height) maps)
+standing_next profile height maps standing = record {
+  low_coins = λ point coin e. standing.low_coins point coin (was_there profile (suc height) (maps.coins point) coin e);
+  low_names = standing.low_names;
+  live = fun_ext (λ point. twice_at profile (suc height) (maps.coins point));
+}
+
+-- what is below a height is below the next
+higher_next : (profile : Profile) (at : ℕ) (maps : Maps) → IsStanding profile at at maps → IsStanding profile at (suc at) maps
+higher_next profile at maps standing = record {
+  low_coins = λ point coin e. omega (arith, standing.low_coins point coin e);
+  low_names = λ name. all-weaker (IsBelow at) (IsBelow (suc at)) (maps.names name) (λ item below. omega (arith, below)) (standing.low_names name);
+  live = standing.live;
+}
+
+-- ---- staging
+
+module _ (c : Indexed) (indexed : IsIndexed c) (low : c.tip.height < highest) (given : Tables) (given_is : given ≡ c.tables) (w : Work) (begins : Begins given (c.tip.height + 1) w) where
+  tables_are : w.tables ≡ c.tables
+  tables_are = begins.tables_are ∙ given_is
+
+  height_is : w.height ≡ suc c.tip.height
+  height_is = begins.height_is ∙ sym (next_is c.tip.height)
+
+  filled_coins : (t : Tables) → AreFilled t → (touched : OutPoint → Bool) → FilledBut touched (coin_places t.coins) (λ point. is_some (coins_in t.coins point))
+  filled_coins t filled touched point here free = sym (filled.coins point) ∙ here
+
+  filled_rows : (t : Tables) → AreFilled t → (touched : ℕ → OutPoint → Bool) (height : ℕ) → FilledBut (touched height) (queue_places t.queue height) (queued_in t.queue height)
+  filled_rows t filled touched height point here free = sym (filled.queue height point) ∙ here
+
+  begun_work : IsWork w
+  begun_work =
+      let filled = subst AreFilled (sym tables_are) indexed.filled in
+      record {
+        queue = subst (λ (t : Tables). queued_in t.queue ≡ queue_of (coins_in t.coins)) (sym tables_are) indexed.queue;
+        fits = subst (λ ops. AreUndoable w.height ops (maps_by w.tables)) (sym begins.ops) tt;
+        spent_placed = subst (AllByRecursion (HasSpentPlace w.tables)) (sym begins.ops) tt;
+        spent_rows = subst (AllByRecursion (HasSpentRow w.tables)) (sym begins.ops) tt;
+        coins_filled = filled_coins w.tables filled (may_be_empty w.ops.items w.empty.items);
+        queue_filled = filled_rows w.tables filled (may_be_empty_at w.height w.ops.items w.empty.items);
+        names_filled = filled.names;
+        room = subst (λ ops. length ops + 1 ≤ w.empty.spare) (sym begins.ops) begins.room;
+      }
+
+  same_maps : maps_by w.tables ≡ maps_by c.tables
+  same_maps = ap maps_by tables_are
+
+  pub begun_ready : IsReady c.base.profile w
+  begun_ready = record {
+    work = begun_work;
+    none_empty = begins.empty;
+    low = omega (arith, height_is, low);
+    standing = subst (λ h. IsStanding c.base.profile h (suc h) (maps_by w.tables)) (sym height_is)
+        (subst (IsStanding c.base.profile (suc c.tip.height) (suc (suc c.tip.height))) (sym same_maps) (higher_next c.base.profile (suc c.tip.height) (maps_by c.tables) (state_standing c.base.profile c.tip.height (maps_by c.tables) (indexed_state c indexed))));
+  }
+
+  pub refused_by : (block : Block) (ts : List Transaction) → ts ≡ behind_coinbase block.transactions → (first : Option RefusedBy)
+      → first_refused c.base.profile w.height 1 ts (maps_by w.tables) ≡ first → rule_refused c block ≡ first
+  refused_by block ts ts_are first refusal =
+      ap (λ l. first_refused c.base.profile (suc c.tip.height) 1 l (maps_by c.tables)) (sym ts_are)
+      ∙ ap (λ m. first_refused c.base.profile (suc c.tip.height) 1 ts m) (sym same_maps)
+      ∙ ap (λ h. first_refused c.base.profile h 1 ts (maps_by w.tables)) (sym height_is) ∙ refusal
+
+  pub back_maps : (t : Tables) → HandsBack w t → maps_by t ≡ maps_by c.tables
+  back_maps t back = back.maps ∙ same_maps
+
+  module _ (done : Work) (ts : List Transaction) (applied : AppliedAll c.base.profile w done ts) where
+    done_height : done.height ≡ suc c.tip.height
+    done_height = applied.height ∙ height_is
+
+    done_before : back_ops done.ops.items (maps_by done.tables) ≡ maps_by c.tables
+    done_before = applied_back c.base.profile w done ts applied ∙ same_maps
+
+    module _ (hash : Hash32) (whole : Whole) (finishes : Finishes c.base.profile done whole) (undos : Roomy Undo) (same_undos : newest_first undos.items ≡ c.undos) where
+      abbrev maps : Maps
+      maps = maps_by c.tables
+
+      unrefused : first_refused c.base.profile (suc c.tip.height) 1 ts maps ≡ None
+      unrefused =
+          ap (λ m. first_refused c.base.profile (suc c.tip.height) 1 ts m) (sym same_maps)
+          ∙ ap (λ h. first_refused c.base.profile h 1 ts (maps_by w.tables)) (sym height_is) ∙ applied.accepted
+
+      done_maps : maps_by done.tables ≡ after_all c.base.profile (suc c.tip.height) ts maps
+      done_maps =
+          applied.maps
+          ∙ ap (λ h. after_all c.base.profile h ts (maps_by w.tables)) height_is
+          ∙ ap (after_all c.base.profile (suc c.tip.height) ts) same_maps
+
+      after_is : maps_by whole.work.tables ≡ after_block c.base.profile (suc c.tip.height) ts maps
+      after_is =
+          finishes.maps
+          ∙ ap (λ h. without_expired c.base.profile (suc h) (maps_by done.tables)) done_height
+          ∙ ap (without_expired c.base.profile (suc (suc c.tip.height))) done_maps
+
+      ops_are : whole.work.ops.items ≡ undo_ops c.base.profile (suc c.tip.height) ts maps
+      ops_are =
+          ap (λ (l : Roomy UndoOp). l.items) finishes.ops ∙ applied.ops
+          ∙ ap (λ h. undo_ops c.base.profile h ts (maps_by w.tables)) height_is
+          ∙ ap (undo_ops c.base.profile (suc c.tip.height) ts) same_maps
+
+      due_are : IsDue (after_all c.base.profile (suc c.tip.height) ts maps).coins (after_block c.base.profile (suc c.tip.height) ts maps).coins whole.expired.items
+      due_are =
+          subst (λ (m : Maps). IsDue m.coins (after_block c.base.profile (suc c.tip.height) ts maps).coins whole.expired.items) done_maps
+          (subst (λ (m : Maps). IsDue (coins_in done.tables.coins) m.coins whole.expired.items) after_is finishes.due)
+
+      grown : count_outputs ts < 2 ^ 32 → IsSound c.base.profile c.base.height (suc c.tip.height) (maps_by whole.work.tables) (staged_undo hash whole ∷ newest_first undos.items)
+      grown few =
+          subst (λ us. IsSound c.base.profile c.base.height (suc c.tip.height) (maps_by whole.work.tables) (staged_undo hash whole ∷ us)) (sym same_undos)
+          (subst (λ m. IsSound c.base.profile c.base.height (suc c.tip.height) m (staged_undo hash whole ∷ c.undos)) (sym after_is)
+          (block_sound c.base.profile c.base.height c.tip.height 1 ts maps (staged_undo hash whole) c.undos indexed.sound unrefused low few ops_are due_are finishes.sorted))
+
+      tip_low : suc c.tip.height < 2 ^ 32
+      tip_low = omega (arith, low)
+
+      pub staged_index : count_outputs ts < 2 ^ 32 → length hash.0 ≡ 32 → IsStagedIndex (staged_of c.base c.tip hash whole undos)
+      staged_index few hash_length = record {
+        height = low;
+        tip_hash = indexed.hash ∙ sym (ap (newest_hash c.base) same_undos);
+        work_height = finishes.height ∙ done_height;
+        whole = finishes.whole;
+        sound_before = subst (λ us. IsSound c.base.profile c.base.height c.tip.height (maps_before_block whole) us) (sym same_undos)
+            (subst (λ m. IsSound c.base.profile c.base.height c.tip.height m c.undos) (sym (finishes.before ∙ done_before)) indexed.sound);
+        sound_after = grown few;
+        measured_before = subst AreMeasured (sym (finishes.before ∙ done_before)) indexed.measured;
+        measured_after = subst AreMeasured (sym after_is) (block_measured c.base.profile (suc c.tip.height) ts maps tip_low (few_each ts few) indexed.measured);
+        writable = (
+          block_writable c.base.profile (suc c.tip.height) ts maps (staged_undo hash whole) tip_low (few_each ts few) indexed.measured hash_length (grown few).1.limits ops_are due_are,
+          subst (AllByRecursion IsWritable) (sym same_undos) indexed.writable,
+        );
+      }
+
+      pub staged_well : (block : Block) → ts ≡ behind_coinbase block.transactions → hash.0 ≡ header_hash block.header → StagesWell c block (staged_of c.base c.tip hash whole undos)
+      staged_well block ts_are hash_is = record {
+        on = λ on root. record {
+          on_tip = on;
+          low = low;
+          root = root;
+          accepted = refused_by block ts ts_are None applied.accepted;
+          base = refl;
+          tip = refl;
+          hash = hash_is;
+          before = finishes.before ∙ done_before;
+          after = after_is ∙ ap (λ l. after_block c.base.profile (suc c.tip.height) l maps) ts_are;
+          ops = ops_are ∙ ap (λ l. undo_ops c.base.profile (suc c.tip.height) l maps) ts_are;
+          due = subst (λ l. IsDue (after_all c.base.profile (suc c.tip.height) l maps).coins (after_block c.base.profile (suc c.tip.height) l maps).coins whole.expired.items) ts_are due_are;
+          sorted = finishes.sorted;
+          undos = same_undos;
+        };
+      }
+
+-- ---- the whole of staging
+
+pub stages : (c : Indexed) (block : Block) (outcome : StageOutcome) → block.header.fields.previous ≡ c.tip.hash.0 → c.tip.height < highest → block.header.fields.root ≡ block_root block
+    → StagesNames c block outcome → Stages c block outcome
+stages c block (Staged s) on low root names = names.on on root
+stages c block (Refused chain (BadBlock at)) on low root names = absurd names.1
+stages c block (Refused chain (NotOnTip tip)) on low root names = absurd names.1
+stages c block (Refused chain HeightLimit) on low root names = absurd names.1
+stages c block (Refused chain (MerkleMismatch computed)) on low root names = absurd names.1
+stages c block (Refused chain (Rule index refusal)) on low root names = (names.0, (on, low, root, names.1))
+stages c block (Refused chain JournalFull) on low root names = absurd names.1
+stages c block (NoMemory chain) on low root names = (names, on, low)
+
+none_measured : AreMeasured (record { coins = coins_in []; names = names_in [] })
+none_measured = record { coins = λ point coin e. absurd cc; items = λ name. tt }
+
+pub begun_index : (base : Base) (c : Tables) → base.height ≤ highest → c.coins ≡ [] → c.names ≡ [] → c.queue ≡ []
+    → (undos : Roomy Undo) → undos.items ≡ [] → IsIndexed (index_of base (record { height = base.height; hash = base.hash }) c undos)
+begun_index base c low coins names queue undos none = record {
+  hash = sym (ap (λ us. newest_hash base (newest_first us)) none);
+  sound = subst (λ us. IsSound base.profile base.height base.height (maps_by c) (newest_first us)) (sym none)
+      (subst (λ m. IsSound base.profile base.height base.height m []) (sym (λ i. record { coins = coins_in (coins i); names = names_in (names i) })) (base_sound base.profile [] base.height low (record { makes = tt; few = omega arith })));
+  queue = ap queued_in queue ∙ sym (ap (λ s. queue_of (coins_in s)) coins);
+  filled = record {
+    coins = subst AreCoinsFilled (sym coins) (λ point. refl);
+    names = subst AreNamesFilled (sym names) (λ name. refl);
+    queue = subst IsQueueFilled (sym queue) (λ height point. refl);
+  };
+  measured = subst AreMeasured (sym (λ i. record { coins = coins_in (coins i); names = names_in (names i) })) none_measured;
+  writable = subst (λ us. AllByRecursion IsWritable (newest_first us)) (sym none) tt;
+}
+
+pub begun_maps : (base : Base) (c : Tables) → c.coins ≡ [] → c.names ≡ [] → maps_by c ≡ maps_of base.profile [] (suc base.height)
+begun_maps base c coins names = λ i. record { coins = coins_in (coins i); names = names_in (names i) }

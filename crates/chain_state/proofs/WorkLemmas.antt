@@ -1,0 +1,183 @@
+-- Work goes on, operation by operation.
+use Rattle.std.proofs.Common.{◌≡◌, ℕ, ◌+◌, ◌≤◌, Bool, true, false, cond, ◌&&◌, List, [], ◌∷◌, ◌++◌, length, refl, sym, ap, subst, ◌∙◌, arith}
+use Rattle.std.specs.Prelude.{Some, None, ◌||◌, ◌==◌}
+use Rattle.std.specs.Option.{is_some}
+use Rattle.std.specs.List.{list_any, AllByRecursion}
+use Rattle.std.proofs.lemmas.Grind.{common_steps}
+use Rattle.nmc_base.specs.declared.hashes.OutPoint.{OutPoint}
+use Rattle.chain_names.specs.declared.coin.Coin.TheVariants.{New}
+use Rattle.chain_names.specs.declared.undo.UndoOp.{UndoOp}
+use Rattle.chain_names.specs.declared.undo.UndoOp.TheVariants.{New as undo_new}
+use Rattle.chain_names.specs.Points.{same_point, changed}
+use Rattle.chain_names.specs.Coins.{Maps}
+use Rattle.chain_names.specs.Changes.{back_op}
+use Rattle.chain_names.specs.Tables.{CoinSlots, coins_in, coin_places, names_in, queued_in, queue_places, is_named_at, queue_of, FilledBut}
+use Rattle.nmc_base.specs.Roomy.{Roomy}
+use Rattle.nmc_base.specs.declared.hashes.Hash20.{Hash20}
+use Rattle.chain_names.proofs.Changed.{changed_at, changed_back, changed_mapped}
+use Rattle.chain_names.proofs.Points.{same_point-Decides}
+use Rattle.chain_names.proofs.QueueLemmas.{queue_of-still}
+use Rattle.chain_names.proofs.Filled.{filled-weaker}
+use Rattle.chain_names.proofs.Shown.{true_is_not_false}
+use Rattle.chain_names.proofs.UndoLemmas.{back_ops-append}
+use Rattle.undo_laws.specs.Fits.{IsUndoable, AreUndoable}
+use Rattle.chain_state.specs.Tables.{maps_by}
+use Rattle.chain_state.specs.Work.{spends, spends_at, HasSpentPlace, HasSpentRow, may_be_empty, may_be_empty_at, IsWork, Advances, with_commitment}
+use Rattle.chain_state.specs.declared.work.Work.{Work}
+
+-- ---- lists with one item more
+
+pub list_any-more : {A : Type 0} (test : A → Bool) (xs : List A) (x : A) → list_any test (xs ++ x ∷ []) ≡ (list_any test xs || test x)
+list_any-more test [] x = grind (arith, common_steps)
+list_any-more test (y ∷ ys) x = grind (arith, common_steps, list_any-more test ys x)
+
+pub all-more : {A : Type 0} (P : A → Type 0) (xs : List A) (x : A) → AllByRecursion P xs → P x → AllByRecursion P (xs ++ x ∷ [])
+all-more P [] x all here = (here, tt)
+all-more P (y ∷ ys) x all here = (all.0, all-more P ys x all.1 here)
+
+pub all-weaker : {A : Type 0} (P Q : A → Type 0) (xs : List A) → ((x : A) → P x → Q x) → AllByRecursion P xs → AllByRecursion Q xs
+all-weaker P Q [] f all = tt
+all-weaker P Q (y ∷ ys) f all = (f y all.0, all-weaker P Q ys f all.1)
+
+pub fits-more : (height : ℕ) (ops : List UndoOp) (op : UndoOp) (maps : Maps) → AreUndoable height ops (back_op op maps) → IsUndoable height op maps → AreUndoable height (ops ++ op ∷ []) maps
+fits-more height [] op maps fits here = (tt, here)
+fits-more height (first ∷ ops) op maps fits here =
+    (fits-more height ops op maps fits.0 here, subst (IsUndoable height first) (sym (back_ops-append ops (op ∷ []) maps)) fits.1)
+
+-- the last operation fits, and the others fit the maps before it
+pub fits-less : (height : ℕ) (ops : List UndoOp) (op : UndoOp) (maps : Maps) → AreUndoable height (ops ++ op ∷ []) maps → AreUndoable height ops (back_op op maps) × IsUndoable height op maps
+fits-less height [] op maps fits = (tt, fits.1)
+fits-less height (first ∷ ops) op maps fits =
+    let rest = fits-less height ops op maps fits.0 in
+    ((rest.0, subst (IsUndoable height first) (back_ops-append ops (op ∷ []) maps) fits.1), rest.1)
+
+-- ---- booleans
+
+pub or_left : (a b : Bool) → (a || b) ≡ false → a ≡ false
+or_left true b e = e
+or_left false b e = refl
+
+pub or_right : (a b : Bool) → (a || b) ≡ false → b ≡ false
+or_right true b e = absurd (true_is_not_false e)
+or_right false b e = e
+
+pub or_both : (a b : Bool) → a ≡ false → b ≡ false → (a || b) ≡ false
+or_both a b e f = rw e f
+
+-- ---- places that may be empty
+
+pub empty-weaker : (ops : List UndoOp) (op : UndoOp) (empty : List OutPoint) (point : OutPoint) → may_be_empty (ops ++ op ∷ []) empty point ≡ false → may_be_empty ops empty point ≡ false
+empty-weaker ops op empty point e =
+    let e' = sym (ap (λ b. b || list_any (same_point point) empty) (list_any-more (spends point) ops op)) ∙ e in
+    or_both _ _ (or_left _ _ (or_left _ _ e')) (or_right (list_any (spends point) ops || spends point op) _ e')
+
+pub empty_at-weaker : (made : ℕ) (ops : List UndoOp) (op : UndoOp) (empty : List OutPoint) (height : ℕ) (point : OutPoint)
+    → may_be_empty_at made (ops ++ op ∷ []) empty height point ≡ false → may_be_empty_at made ops empty height point ≡ false
+empty_at-weaker made ops op empty height point e =
+    let e' = sym (ap (λ b. b || ((made == height) && list_any (same_point point) empty)) (list_any-more (spends_at height point) ops op)) ∙ e in
+    or_both _ _ (or_left _ _ (or_left _ _ e')) (or_right (list_any (spends_at height point) ops || spends_at height point op) _ e')
+
+-- ---- a commitment
+
+-- a place that is made and filled
+made_at_filled : (touched places held : OutPoint → Bool) (k q : OutPoint) (b : Bool) → FilledBut touched places held
+    → cond b true (places q) ≡ true → touched q ≡ false → cond b true (held q) ≡ true
+made_at_filled touched places held k q true filled here free = refl
+made_at_filled touched places held k q false filled here free = filled q here free
+
+pub filled-made : (touched places held : OutPoint → Bool) (k : OutPoint) → FilledBut touched places held
+    → FilledBut touched (changed same_point places k true) (changed same_point held k true)
+filled-made touched places held k filled q = made_at_filled touched places held k q (same_point k q) filled
+
+none_queued : (u : ℕ) → is_named_at u None ≡ false
+none_queued u = refl
+
+-- what has a place keeps it where one more is made
+pub place-kept : (places : OutPoint → Bool) (k q : OutPoint) → places q ≡ true → changed same_point places k true q ≡ true
+place-kept places k q e = kept (same_point k q)
+  where
+    kept : (b : Bool) → cond b true (places q) ≡ true
+    kept true = refl
+    kept false = e
+
+module _ (w : Work) (made : OutPoint) (hash : Hash20) (coins : CoinSlots) (ops : Roomy UndoOp) (empty : Roomy OutPoint)
+    (work : IsWork w) (fresh : coins_in w.tables.coins made ≡ None)
+    (coins_are : coins_in coins ≡ changed same_point (coins_in w.tables.coins) made (Some (New hash w.height)))
+    (places_are : coin_places coins ≡ changed same_point (coin_places w.tables.coins) made true)
+    (ops_are : ops.items ≡ w.ops.items ++ undo_new made ∷ [])
+    (empty_is : empty.items ≡ w.empty.items)
+    (room : length ops.items + 1 ≤ empty.spare) where
+  abbrev Committed : Work
+  Committed = record { tables = record { coins = coins; names = w.tables.names; queue = w.tables.queue }; ops = ops; empty = empty; height = w.height }
+
+  commit_maps : maps_by Committed.tables ≡ with_commitment (maps_by w.tables) w.height made hash
+  commit_maps = λ i. record { coins = coins_are i; names = names_in w.tables.names }
+
+  commit_queue : queued_in w.tables.queue ≡ queue_of (coins_in coins)
+  commit_queue =
+      work.queue ∙ sym (queue_of-still (coins_in w.tables.coins) made (Some (New hash w.height)) (λ u. ap (is_named_at u) fresh) (λ u. refl)) ∙ ap queue_of (sym coins_are)
+
+  commit_back : back_op (undo_new made) (maps_by Committed.tables) ≡ maps_by w.tables
+  commit_back =
+      ap (back_op (undo_new made)) commit_maps
+      ∙ (λ i. record { coins = changed_back same_point-Decides (coins_in w.tables.coins) made None (Some (New hash w.height)) fresh i; names = names_in w.tables.names })
+
+  commit_fits : AreUndoable w.height ops.items (maps_by Committed.tables)
+  commit_fits =
+      subst (λ os. AreUndoable w.height os (maps_by Committed.tables)) (sym ops_are)
+      (fits-more w.height w.ops.items (undo_new made) (maps_by Committed.tables)
+      (subst (AreUndoable w.height w.ops.items) (sym commit_back) work.fits)
+      (record {
+        coin = New hash w.height;
+        held = ap (λ f. f made) coins_are ∙ changed_at same_point-Decides (coins_in w.tables.coins) made (Some (New hash w.height));
+        unnamed = λ u. refl;
+      }))
+
+  place_stays : (op : UndoOp) → HasSpentPlace w.tables op → HasSpentPlace Committed.tables op
+  place_stays op has point spent = ap (λ f. f point) places_are ∙ place-kept (coin_places w.tables.coins) made point (has point spent)
+
+  commit_places : AllByRecursion (HasSpentPlace Committed.tables) ops.items
+  commit_places =
+      subst (AllByRecursion (HasSpentPlace Committed.tables)) (sym ops_are)
+      (all-more (HasSpentPlace Committed.tables) w.ops.items (undo_new made)
+      (all-weaker (HasSpentPlace w.tables) (HasSpentPlace Committed.tables) w.ops.items place_stays work.spent_placed)
+      (λ point spent. absurd (true_is_not_false (sym spent))))
+
+  commit_rows : AllByRecursion (HasSpentRow Committed.tables) ops.items
+  commit_rows =
+      subst (AllByRecursion (HasSpentRow Committed.tables)) (sym ops_are)
+      (all-more (HasSpentRow Committed.tables) w.ops.items (undo_new made) work.spent_rows (λ height point spent. absurd (true_is_not_false (sym spent))))
+
+  commit_held : (λ point. is_some (coins_in coins point)) ≡ changed same_point (λ point. is_some (coins_in w.tables.coins point)) made true
+  commit_held = ap (λ f. λ point. is_some (f point)) coins_are ∙ changed_mapped same_point is_some (coins_in w.tables.coins) made (Some (New hash w.height))
+
+  commit_filled : FilledBut (may_be_empty ops.items empty.items) (coin_places coins) (λ point. is_some (coins_in coins point))
+  commit_filled =
+      rw ops_are
+      (rw empty_is
+      (subst (λ places. FilledBut (may_be_empty (w.ops.items ++ undo_new made ∷ []) w.empty.items) places (λ point. is_some (coins_in coins point))) (sym places_are)
+      (subst (λ held. FilledBut (may_be_empty (w.ops.items ++ undo_new made ∷ []) w.empty.items) (changed same_point (coin_places w.tables.coins) made true) held) (sym commit_held)
+      (filled-weaker _ _ _ _ (empty-weaker w.ops.items (undo_new made) w.empty.items) (filled-made _ _ _ made work.coins_filled)))))
+
+  commit_row_filled : (height : ℕ) → FilledBut (may_be_empty_at w.height ops.items empty.items height) (queue_places w.tables.queue height) (queued_in w.tables.queue height)
+  commit_row_filled height =
+      rw ops_are
+      (rw empty_is (filled-weaker _ _ _ _ (empty_at-weaker w.height w.ops.items (undo_new made) w.empty.items height) (work.queue_filled height)))
+
+  pub commit_advances : Advances w Committed (undo_new made ∷ []) (with_commitment (maps_by w.tables) w.height made hash)
+  commit_advances = record {
+    maps = commit_maps;
+    ops = ops_are;
+    height = refl;
+    empty = empty_is;
+    work = record {
+      queue = commit_queue;
+      fits = commit_fits;
+      spent_placed = commit_places;
+      spent_rows = commit_rows;
+      coins_filled = commit_filled;
+      queue_filled = commit_row_filled;
+      names_filled = work.names_filled;
+      room = room;
+    };
+  }

@@ -1,0 +1,5 @@
+pub mod Views
+pub mod Standing
+pub mod Stages
+pub mod StagesBack
+pub mod Costs

@@ -1,4 +1,0 @@
-use Rattle.chain_trials.proofs.tests.names_live_and_expire.Given as goal
-
-abbrev pub ghosts-each_way : goal.ghosts-each_way
-ghosts-each_way g a = record { name = a.blank.name; parts = a.blank.parts }

@@ -1,0 +1,108 @@
+//! The chain of a trial, behind one owner: what goes on with it borrows that, so that no way out of a trial drops a chain.
+
+ghost use Rattle.std.specs.Prelude.{◌≤◌};
+ghost use Rattle.nmc_base.specs.declared.limits.TheConstants.{HIGHEST_HEIGHT};
+
+use super::stop::Stop;
+use chain_state::{BackOutcome, Chain, Refusal, StageOutcome};
+use chain_steps::{stage_bytes, stage_hash};
+use nmc_base::{Base, LONGEST_BLOCK, Steps, Tip};
+use std::alloc::Global;
+use std::sync::ledger::Ledger;
+
+/// The number of a refusal, and the index of its transaction or the place in the bytes. Both are 0 where the block is
+/// connected.
+pub type Answer = (u8, u32);
+
+/// The answer where there was no memory to connect a block.
+pub const NO_MEMORY: Answer = (0xFE, 0);
+
+/// The most bytes of an area, and those of one without commands.
+const AREA: (u64, u64) = (9, 1 << 42);
+
+/// The chain, or none where it was lost.
+#[derive(Drop)]
+pub struct Held {
+    chain: Option<Chain>,
+}
+
+fn number_of(refusal: &Refusal) -> Answer {
+    match refusal {
+        Refusal::BadBlock { at } => (1, *at),
+        Refusal::NotOnTip { .. } => (2, 0),
+        Refusal::MerkleMismatch { .. } => (3, 0),
+        Refusal::HeightLimit => (4, 0),
+        Refusal::JournalFull => (5, 0),
+        Refusal::Rule { tx, refusal } => (refusal.number(), *tx),
+    }
+}
+
+impl Held {
+    /// A chain of the base alone.
+    pub fn at_base(alloc: Global, base: Base) -> Result<Held, Stop>
+        requires { base.height ≤ HIGHEST_HEIGHT }
+    {
+        match Chain::at_base(alloc, base) {
+            Ok(chain) => Ok(Held { chain: Some(chain) }),
+            Err(_) => Err(Stop::NoMemory),
+        }
+    }
+
+    pub fn chain(&self) -> Result<&Chain, Stop> {
+        match &self.chain {
+            Some(chain) => Ok(chain),
+            None => Err(Stop::Wrong("a chain")),
+        }
+    }
+
+    pub fn tip(&self) -> Result<Tip, Stop> {
+        match &self.chain {
+            Some(chain) => Ok(chain.tip()),
+            None => Err(Stop::Wrong("a chain")),
+        }
+    }
+
+    fn take(&mut self) -> Result<Chain, Stop> {
+        match self.chain.take() {
+            Some(chain) => Ok(chain),
+            None => Err(Stop::Wrong("a chain")),
+        }
+    }
+
+    /// Connects the bytes of a block, and tells the answer.
+    pub fn connect<L: Ledger>(
+        &mut self,
+        alloc: Global,
+        bytes: &[u8],
+        steps: &mut Steps<L>,
+    ) -> Result<Answer, Stop> {
+        if bytes.len() > LONGEST_BLOCK {
+            return Err(Stop::Wrong("too long"));
+        }
+        let chain = self.take()?;
+        let (chain, answer) = match stage_bytes(alloc, chain, bytes, AREA.0, AREA.1, steps) {
+            StageOutcome::Staged(staged) => (staged.commit(steps), (0, 0)),
+            StageOutcome::Refused(chain, refusal) => (chain, number_of(&refusal)),
+            StageOutcome::NoMemory(chain) => (chain, NO_MEMORY),
+        };
+        self.chain = Some(chain);
+        Ok(answer)
+    }
+
+    /// Disconnects the newest block, and tells whether there was memory for it.
+    pub fn disconnect<L: Ledger>(
+        &mut self,
+        alloc: Global,
+        steps: &mut Steps<L>,
+    ) -> Result<bool, Stop> {
+        let chain = self.take()?;
+        let hash = chain.tip().hash;
+        let (chain, is_done) = match stage_hash(alloc, chain, hash, AREA.0, AREA.1, steps) {
+            BackOutcome::StagedBack(staged) => (staged.commit(steps), true),
+            BackOutcome::Refused(chain, _) => (chain, true),
+            BackOutcome::NoMemory(chain) => (chain, false),
+        };
+        self.chain = Some(chain);
+        Ok(is_done)
+    }
+}

@@ -1,0 +1,138 @@
+-- The refusals of each command: one at a place, each with a code of its own, whatever the journal holds.
+use Rattle.std.proofs.Common.{◌≡◌, ℕ, ◌+◌, ◌<◌, ◌≤◌, List, ◌++◌, take, drop, Some, refl, ap, ◌∙◌, sym, append_assoc, arith, inl, inr}
+use Rattle.std.proofs.lemmas.Bool.{cases_lt}
+use Rattle.std.proofs.lemmas.List.{take-take, take-append-drop}
+use Rattle.block_grammar.specs.Block.{Block, IsBlock, block_text, FitsBlock}
+use Rattle.block_grammar.specs.Merkle.{block_root}
+use Rattle.block_grammar.specs.Fault.{IsFront, IsFirstFault, IsFaultPlace}
+use Rattle.block_grammar.proofs.BlockLaws.{BlockSpot, block_again}
+use Rattle.block_grammar.proofs.ReaderLaws.{ok_is}
+use Rattle.chain_names.specs.Changes.{Refused}
+use Rattle.chain_names.specs.declared.refusal.RuleRefusal.{RuleRefusal}
+use Rattle.chain_names.specs.declared.refusal.RuleRefusal.TheVariants.{MultipleNameInputs, MultipleNameOutputs, PlainWithNameInput, PlainWithNameOutput, NameWithoutOutput, Greedy, NewWithNameInput, NewWrongSize, UpdateWithoutInput, NameTooLong, ValueTooLong, UpdateOfNew, NameMismatch, FirstNotFromNew, Immature, RandTooLong, CommitMismatch, NameTaken, DuplicateOutpoint}
+use Rattle.chain_names.specs.Refusals.{number_of}
+use Rattle.machine.specs.Chain.{Chain}
+use Rattle.machine.specs.Connecting.{Refusal, BadBlock, NotOnTip, HeightLimit, MerkleMismatch, Rule, JournalFull, refused_on, Holds, order_of, refusal_reply}
+use Rattle.machine.specs.Disconnecting as back
+use Rattle.machine.specs.Disconnecting.{BackRefusal, AtBase, NotTip, HoldsBack, back_order, back_reply}
+
+-- ---- a connect
+
+-- bytes are one block at most
+pub one_block : (bytes : List ℕ) (a b : Block) → IsBlock bytes a → IsBlock bytes b → a ≡ b
+one_block bytes a b is_a is_b = ok_is {E = BlockSpot} a b (sym (block_again bytes a is_a) ∙ block_again bytes b is_b)
+
+-- what is a front of a text has only fronts of it
+shorter_front : {A : Type 0} (text : A → List ℕ) (Fits : A → Type 0) (bytes : List ℕ) (m n : ℕ) → m ≤ n → IsFront text Fits (take n bytes) → IsFront text Fits (take m bytes)
+shorter_front text Fits bytes m n le f = record {
+  value = f.value;
+  fits = f.fits;
+  more = drop m (take n bytes) ++ f.more;
+  text_is = f.text_is ∙ ap (λ (q : List ℕ). q ++ f.more) (sym (take-append-drop m (take n bytes))) ∙ append_assoc (take m (take n bytes)) (drop m (take n bytes)) f.more
+      ∙ ap (λ (q : List ℕ). q ++ (drop m (take n bytes) ++ f.more)) (take-take m n bytes le);
+}
+
+-- no first fault lies before another
+not_before : {A : Type 0} (text : A → List ℕ) (Fits : A → Type 0) (bytes : List ℕ) (p q : ℕ) → IsFirstFault text Fits bytes p → IsFirstFault text Fits bytes q → p < q → ⊥
+not_before text Fits bytes p q fp fq lt =
+    elim fp.no_further [
+      | inl end ↦ omega (arith, fq.inside, end)
+      | inr none ↦ none (shorter_front text Fits bytes (p + 1) q (omega arith) fq.front)
+    ]
+
+one_place : (bytes : List ℕ) (p q : ℕ) → IsFaultPlace bytes p → IsFaultPlace bytes q → p ≡ q
+one_place bytes p q hp hq =
+    elim (cases_lt p q) [
+      | inl below ↦ absurd (not_before block_text FitsBlock bytes p q hp.first hq.first below)
+      | inr above ↦ elim (cases_lt q p) [
+        | inl below ↦ absurd (not_before block_text FitsBlock bytes q p hq.first hp.first below)
+        | inr same ↦ omega arith
+      ]
+    ]
+
+same_rule : (first second : Refused) → Some first ≡ Some second → Rule first.0 first.1 ≡ Rule second.0 second.1
+same_rule first second e =
+    let same : first ≡ second = cc in
+    ap (λ (r : Refused). Rule r.0 r.1) same
+
+module _ (full : Type 0) (chain : Chain) (bytes : List ℕ) where
+  pub one_at_place : (r s : Refusal) → Holds full chain bytes r → Holds full chain bytes s → order_of r ≡ order_of s → r ≡ s
+  one_at_place (BadBlock p) (BadBlock q) hr hs e = ap BadBlock (one_place bytes p q hr hs)
+  one_at_place (NotOnTip t) (NotOnTip u) hr hs e = ap NotOnTip (hr.1 ∙ sym hs.1)
+  one_at_place HeightLimit HeightLimit hr hs e = refl
+  one_at_place (MerkleMismatch a) (MerkleMismatch b) hr hs e =
+      ap MerkleMismatch (hr.computed_is ∙ ap block_root (one_block bytes hr.block hs.block hr.is_block hs.is_block) ∙ sym hs.computed_is)
+  one_at_place (Rule i a) (Rule j b) hr hs e =
+      same_rule (i, a) (j, b) (sym hr.refused ∙ ap (refused_on chain) (one_block bytes hr.block hs.block hr.is_block hs.is_block) ∙ hs.refused)
+  one_at_place JournalFull JournalFull hr hs e = refl
+  one_at_place r s hr hs e = absurd (omega arith)
+
+  pub without_journal : (r : Refusal) → Holds ⊥ chain bytes r → Holds full chain bytes r
+  without_journal (BadBlock place) h = h
+  without_journal (NotOnTip tip) h = h
+  without_journal HeightLimit h = h
+  without_journal (MerkleMismatch computed) h = h
+  without_journal (Rule index refusal) h = h
+  without_journal JournalFull h = absurd h
+
+pub placed : (r : Refusal) → order_of r < 6
+placed (BadBlock place) = omega arith
+placed (NotOnTip tip) = omega arith
+placed HeightLimit = omega arith
+placed (MerkleMismatch computed) = omega arith
+placed (Rule index refusal) = omega arith
+placed JournalFull = omega arith
+
+-- no rule has the number of an acceptance
+numbered : (r : RuleRefusal) → number_of r ≡ 0 → ⊥
+numbered MultipleNameInputs e = omega (arith, e)
+numbered MultipleNameOutputs e = omega (arith, e)
+numbered PlainWithNameInput e = omega (arith, e)
+numbered PlainWithNameOutput e = omega (arith, e)
+numbered NameWithoutOutput e = omega (arith, e)
+numbered Greedy e = omega (arith, e)
+numbered NewWithNameInput e = omega (arith, e)
+numbered NewWrongSize e = omega (arith, e)
+numbered UpdateWithoutInput e = omega (arith, e)
+numbered NameTooLong e = omega (arith, e)
+numbered ValueTooLong e = omega (arith, e)
+numbered UpdateOfNew e = omega (arith, e)
+numbered NameMismatch e = omega (arith, e)
+numbered FirstNotFromNew e = omega (arith, e)
+numbered Immature e = omega (arith, e)
+numbered RandTooLong e = omega (arith, e)
+numbered CommitMismatch e = omega (arith, e)
+numbered NameTaken e = omega (arith, e)
+numbered DuplicateOutpoint e = omega (arith, e)
+
+pub coded : (r : Refusal) → (refusal_reply r).code ≡ 0 → ⊥
+coded (BadBlock place) e = omega (arith, e)
+coded (NotOnTip tip) e = omega (arith, e)
+coded HeightLimit e = omega (arith, e)
+coded (MerkleMismatch computed) e = omega (arith, e)
+coded (Rule index refusal) e = numbered refusal e
+coded JournalFull e = omega (arith, e)
+
+-- ---- a disconnect
+
+module _ (full : Type 0) (chain : Chain) (hash : List ℕ) where
+  pub one_at_place_back : (r s : BackRefusal) → HoldsBack full chain hash r → HoldsBack full chain hash s → back_order r ≡ back_order s → r ≡ s
+  one_at_place_back AtBase AtBase hr hs e = refl
+  one_at_place_back (NotTip t) (NotTip u) hr hs e = ap NotTip (hr.1 ∙ sym hs.1)
+  one_at_place_back back.JournalFull back.JournalFull hr hs e = refl
+  one_at_place_back r s hr hs e = absurd (omega arith)
+
+  pub without_journal_back : (r : BackRefusal) → HoldsBack ⊥ chain hash r → HoldsBack full chain hash r
+  without_journal_back AtBase h = h
+  without_journal_back (NotTip tip) h = h
+  without_journal_back back.JournalFull h = absurd h
+
+pub placed_back : (r : BackRefusal) → back_order r < 3
+placed_back AtBase = omega arith
+placed_back (NotTip tip) = omega arith
+placed_back back.JournalFull = omega arith
+
+pub coded_back : (r : BackRefusal) → (back_reply r).code ≡ 0 → ⊥
+coded_back AtBase e = omega (arith, e)
+coded_back (NotTip tip) e = omega (arith, e)
+coded_back back.JournalFull e = omega (arith, e)
