@@ -10,3 +10,4 @@ pub mod BlockLaws
 pub mod MerkleLaws
 pub mod Statements
 pub mod Lengths
+pub mod FaultRowLaws

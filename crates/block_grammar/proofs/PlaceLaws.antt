@@ -1,7 +1,8 @@
 -- Where a reader stops is the first fault, by the grammar alone.
-use Rattle.std.proofs.Common.{◌≡◌, ℕ, ◌+◌, ◌-◌, ◌⊎◌, ◌↔◌, Bool, true, List, [], ◌∷◌, ◌++◌, length, take, drop, sym, ap, subst, ◌∙◌, append_assoc, append-nil, arith, inl, inr}
+use Rattle.std.proofs.Common.{◌≡◌, ℕ, ◌+◌, ◌-◌, ◌≤◌, ◌⊎◌, ◌↔◌, Bool, true, List, [], ◌∷◌, ◌++◌, length, take, drop, sym, ap, subst, ◌∙◌, append_assoc, append-nil, arith, inl, inr}
 use Rattle.std.specs.Prelude.{Ok, Err}
-use Rattle.std.proofs.lemmas.List.{take_at, length-append, take-append-drop}
+use Rattle.std.proofs.lemmas.Bool.{cases_lt}
+use Rattle.std.proofs.lemmas.List.{take_at, length-append, take-append-drop, take-take}
 use Rattle.block_grammar.proofs.Readers.{IsBytes}
 use Rattle.block_grammar.specs.Fault.{IsFront, IsFirstFault}
 use Rattle.block_grammar.specs.Combinators.{Reader}
@@ -68,3 +69,28 @@ pub none_at_front : {K A : Type 0} (is_cut : K → Bool) (text : A → List ℕ)
 none_at_front is_cut text Fits read r bytes e h x n fits is =
     let whole : bytes ≡ text x ++ drop n bytes = sym (take-append-drop n bytes) ∙ ap (λ (t : List ℕ). t ++ drop n bytes) is in
     ok_err (read bytes) (x, drop n bytes) e (ap read whole ∙ r.again x (drop n bytes) fits) h
+
+-- ---- there is one place
+
+shorter_front : {A : Type 0} (text : A → List ℕ) (Fits : A → Type 0) (bytes : List ℕ) (n q : ℕ) → n ≤ q → IsFront text Fits (take q bytes) → IsFront text Fits (take n bytes)
+shorter_front text Fits bytes n q le f =
+    let parts : take q bytes ≡ take n bytes ++ drop n (take q bytes) = sym (take-append-drop n (take q bytes)) ∙ ap (λ (t : List ℕ). t ++ drop n (take q bytes)) (take-take n q bytes le) in
+    record {
+      value = f.value;
+      fits = f.fits;
+      more = drop n (take q bytes) ++ f.more;
+      text_is = f.text_is ∙ ap (λ (t : List ℕ). t ++ f.more) parts ∙ append_assoc (take n bytes) (drop n (take q bytes)) f.more;
+    }
+
+no_later : {A : Type 0} (text : A → List ℕ) (Fits : A → Type 0) (bytes : List ℕ) (p q : ℕ) → IsFirstFault text Fits bytes p → IsFirstFault text Fits bytes q → q ≤ p
+no_later text Fits bytes p q f g =
+    elim (cases_lt p q) [
+      | inl lt ↦ elim f.no_further [
+        | inl last ↦ absurd (omega (arith, lt, last, g.inside))
+        | inr dead ↦ absurd (dead (shorter_front text Fits bytes (p + 1) q (omega (arith, lt)) g.front))
+      ]
+      | inr le ↦ le
+    ]
+
+pub one_place : {A : Type 0} (text : A → List ℕ) (Fits : A → Type 0) (bytes : List ℕ) (p q : ℕ) → IsFirstFault text Fits bytes p → IsFirstFault text Fits bytes q → p ≡ q
+one_place text Fits bytes p q f g = omega (arith, no_later text Fits bytes p q f g, no_later text Fits bytes q p g f)

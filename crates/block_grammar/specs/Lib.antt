@@ -10,6 +10,7 @@ pub mod Header
 pub mod Block
 pub mod Merkle
 pub mod Fault
+pub mod FaultRows
 pub mod Combinators
 pub mod Reading
 pub mod Examples

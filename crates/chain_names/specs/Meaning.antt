@@ -1,8 +1,9 @@
 -- What a verdict says of the maps and of the transaction.
 use Rattle.std.specs.Prelude.{◌≡◌, ℕ, ◌+◌, ◌≤◌, false, List, [], ◌∷◌, ◌++◌, length, Some, None}
-use Rattle.block_grammar.specs.Transaction.{name_version, Transaction, txid_of}
+use Rattle.block_grammar.specs.Transaction.{Transaction, txid_of}
 use Rattle.hash160.specs.Hash160.{hash160}
 use Rattle.name_script.specs.NameScript.{NameOperation, name_new, name_firstupdate, name_update}
+use Rattle.nmc_base.specs.declared.limits.TheConstants.{LONGEST_NAME, LONGEST_RAND, LONGEST_VALUE, NAME_VERSION}
 use Rattle.nmc_base.specs.declared.hashes.Hash20.{Hash20}
 use Rattle.nmc_base.specs.declared.hashes.OutPoint.{OutPoint}
 use Rattle.nmc_base.specs.declared.chain_ends.Profile.{Profile}
@@ -21,7 +22,7 @@ pub record IsPlain (maps : Maps) (t : Transaction) : Type 0 where
 -- it has the version of a name transaction; its one name output stands at the place, does this and has at least the
 -- least amount; and there is no coin at its outpoint
 pub record HasOutput (profile : Profile) (maps : Maps) (t : Transaction) (place : ℕ) (operation : NameOperation) : Type 0 where
-  pub version : t.version ≡ name_version
+  pub version : t.version ≡ NAME_VERSION
   pub amount : ℕ
   pub outputs : name_outputs 0 t.outputs ≡ record { place = place; value = amount; operation = operation } ∷ []
   pub enough : least_amount profile ≤ amount
@@ -33,8 +34,8 @@ pub record HasInput (maps : Maps) (t : Transaction) (spent : OutPoint) (coin : C
   pub held : maps.coins spent ≡ Some coin
 
 pub record FitsName (name value : List ℕ) : Type 0 where
-  pub name_length : length name ≤ 255
-  pub value_length : length value ≤ 1023
+  pub name_length : length name ≤ LONGEST_NAME
+  pub value_length : length value ≤ LONGEST_VALUE
 
 pub record Commits (profile : Profile) (maps : Maps) (t : Transaction) (hash : List ℕ) (place : ℕ) : Type 0 where
   pub output : HasOutput profile maps t place (name_new hash)
@@ -49,7 +50,7 @@ pub record Opens (profile : Profile) (maps : Maps) (height : ℕ) (t : Transacti
   pub output : HasOutput profile maps t place (name_firstupdate name rand value)
   pub input : HasInput maps t spent (New hash made)
   pub fits : FitsName name value
-  pub rand_length : length rand ≤ 20
+  pub rand_length : length rand ≤ LONGEST_RAND
   pub mature : made + 12 ≤ height
   pub committed : hash160 (rand ++ name) ≡ hash.0
   pub untaken : is_taken profile height (entry_of (maps.names name)) ≡ false

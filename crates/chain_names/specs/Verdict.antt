@@ -2,10 +2,11 @@
 use Rattle.std.specs.Prelude.{ℕ, suc, ◌+◌, Bool, true, false, not, ◌&&◌, ◌==◌, nat_lt, List, [], ◌∷◌, ◌++◌, length, Option, Some, None, cond}
 use Rattle.std.specs.Option.{is_some}
 use Rattle.std.specs.Str.{bytes_eq}
-use Rattle.block_grammar.specs.Transaction.{name_version, TxInput, TxOutput, Transaction, txid_of}
+use Rattle.block_grammar.specs.Transaction.{TxInput, TxOutput, Transaction, txid_of}
 use Rattle.hash160.specs.Hash160.{hash160}
 use Rattle.name_script.specs.NameScript.{NameOperation, name_new, name_firstupdate, name_update}
 use Rattle.name_script.specs.Reading.{name_op}
+use Rattle.nmc_base.specs.declared.limits.TheConstants.{LONGEST_NAME, LONGEST_RAND, LONGEST_VALUE, NAME_VERSION}
 use Rattle.nmc_base.specs.declared.hashes.OutPoint.{OutPoint}
 use Rattle.nmc_base.specs.declared.chain_ends.Profile.{Profile}
 use Rattle.nmc_base.specs.Expiry.{is_expired, least_amount}
@@ -125,9 +126,9 @@ abbrev pub count_tests : ℕ → List HeldCoin → List NameOutput → List Test
 count_tests version inputs outputs =
     (MultipleNameInputs, nat_lt 1 (length inputs))
     ∷ (MultipleNameOutputs, nat_lt 1 (length outputs))
-    ∷ (PlainWithNameInput, not (version == name_version) && nat_lt 0 (length inputs))
-    ∷ (PlainWithNameOutput, not (version == name_version) && nat_lt 0 (length outputs))
-    ∷ (NameWithoutOutput, (version == name_version) && (length outputs == 0))
+    ∷ (PlainWithNameInput, not (version == NAME_VERSION) && nat_lt 0 (length inputs))
+    ∷ (PlainWithNameOutput, not (version == NAME_VERSION) && nat_lt 0 (length outputs))
+    ∷ (NameWithoutOutput, (version == NAME_VERSION) && (length outputs == 0))
     ∷ []
 
 -- of the operation, and whether there is a name input
@@ -136,8 +137,8 @@ operation_tests operation inputs =
     (NewWithNameInput, is_new operation && nat_lt 0 (length inputs))
     ∷ (NewWrongSize, is_new operation && not (length (hash_in operation) == 20))
     ∷ (UpdateWithoutInput, not (is_new operation) && (length inputs == 0))
-    ∷ (NameTooLong, not (is_new operation) && nat_lt 255 (length (name_in operation)))
-    ∷ (ValueTooLong, not (is_new operation) && nat_lt 1023 (length (value_in operation)))
+    ∷ (NameTooLong, not (is_new operation) && nat_lt LONGEST_NAME (length (name_in operation)))
+    ∷ (ValueTooLong, not (is_new operation) && nat_lt LONGEST_VALUE (length (value_in operation)))
     ∷ []
 
 -- of the name output, and whether there is a name input
@@ -151,7 +152,7 @@ spent_tests profile maps height operation coin =
     ∷ (NameMismatch, is_update operation && not (is_coin_of coin (name_in operation)))
     ∷ (FirstNotFromNew, is_first operation && not (is_commitment coin))
     ∷ (Immature, is_first operation && nat_lt height (made_at coin + 12))
-    ∷ (RandTooLong, is_first operation && nat_lt 20 (length (rand_in operation)))
+    ∷ (RandTooLong, is_first operation && nat_lt LONGEST_RAND (length (rand_in operation)))
     ∷ (CommitMismatch, is_first operation && not (commits_to coin (rand_in operation ++ name_in operation)))
     ∷ (NameTaken, is_first operation && is_taken profile height (entry_of (maps.names (name_in operation))))
     ∷ []

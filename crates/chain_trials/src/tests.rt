@@ -40,7 +40,7 @@ fn values_are_served(rt: HostRuntime) -> Result<(), Fail> {
     Ok(())
 }
 
-fn highest<L: Ledger>(rt: &impl Abort, alloc: Global, blank: Blank) -> Result<(), Stop>
+fn takes_no_block<L: Ledger>(rt: &impl Abort, alloc: Global, blank: Blank) -> Result<(), Stop>
     requires name { blank.name ≡ L.name }
     requires parts { blank.parts ≡ L.parts }
     requires some { 0 < blank.parts }
@@ -51,7 +51,7 @@ fn highest<L: Ledger>(rt: &impl Abort, alloc: Global, blank: Blank) -> Result<()
 
 #[test]
 fn the_highest_chain_takes_no_block(rt: HostRuntime) -> Result<(), Fail> {
-    highest::<Brand>(&rt, rt.alloc(), Blank::new(1))?;
+    takes_no_block::<Brand>(&rt, rt.alloc(), Blank::new(1))?;
     Ok(())
 }
 

@@ -2,7 +2,6 @@
 
 use super::one_byte::{OneByteSink, OneByteSource};
 use super::{MOST, bytes_of, ended, took};
-use crate::delivery::deliver;
 use crate::{Status, replay};
 use byte_io::{MemorySink, MemorySource, RoomSink, SteadySource};
 use std::alloc::{AllocError, Global};
@@ -116,49 +115,6 @@ fn ends_at_the_write_that_fails(rt: HostRuntime) -> Result<(), Fail> {
     writes_up_to(&rt, rt.alloc(), &frames, 1, Status::SinkFault, 0)?;
     writes_up_to(&rt, rt.alloc(), &frames, 2, Status::SinkFault, 41)?;
     writes_up_to(&rt, rt.alloc(), &frames, 3, Status::Done, 78)
-}
-
-/// Delivers to a sink that takes one byte at a write, and fails behind so many.
-fn delivers_up_to<R: Abort>(
-    rt: &R,
-    alloc: Global,
-    output: &[u8],
-    written: usize,
-    number: u64,
-) -> Result<(), Fail> {
-    let mut sink = OneByteSink {
-        whole: MemorySink::new(alloc, &[number])?,
-    };
-    let is_done = deliver(&mut sink, output).is_ok();
-    assert!(rt; is_done == (written == 41), "write {number}");
-    took(rt, sink.whole.taken(), output, written, number);
-    Ok(())
-}
-
-#[test]
-fn delivers_no_byte_behind_the_write_that_fails(rt: HostRuntime) -> Result<(), Fail> {
-    let output = bytes_of(rt.alloc(), "accepted")?;
-    for written in 0..=41usize {
-        delivers_up_to(&rt, rt.alloc(), &output, written, written as u64 + 1)?;
-    }
-    Ok(())
-}
-
-fn delivers_into<R: Abort>(rt: &R, alloc: Global, output: &[u8], room: usize) -> Result<(), Fail> {
-    let mut sink = RoomSink::new(alloc, room)?;
-    let is_done = deliver(&mut sink, output).is_ok();
-    assert!(rt; is_done == (41 <= room), "room {room}");
-    took(rt, sink.taken(), output, room.min(41), room as u64);
-    Ok(())
-}
-
-#[test]
-fn delivers_what_the_sink_has_room_for(rt: HostRuntime) -> Result<(), Fail> {
-    let output = bytes_of(rt.alloc(), "accepted")?;
-    for room in 0..=42usize {
-        delivers_into(&rt, rt.alloc(), &output, room)?;
-    }
-    Ok(())
 }
 
 /// Replays into a sink with so much room.

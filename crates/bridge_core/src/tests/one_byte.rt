@@ -7,14 +7,9 @@ pub(super) struct OneByteSource {
 }
 
 impl Source for OneByteSource {
-    ghost use Rattle.std.specs.Prelude.{Some, IsTrue};
-    ghost use Rattle.fault_counts.specs.Counts.{faults_of};
+    ghost use Rattle.byte_io.specs.MemorySource.{memory_seen};
 
-    ghost left = { λ s. Some s.whole.left };
-
-    ghost faults = { λ s. faults_of s.whole.counts };
-
-    ghost failed = { λ s. IsTrue s.whole.counts.failed };
+    ghost seen = { λ s. memory_seen s.whole };
 
     fn read(&mut self, buf: &mut [u8]) -> Result<usize, Failed> {
         let most = buf.len().min(1);
@@ -29,16 +24,9 @@ pub(super) struct OneByteSink {
 }
 
 impl Sink for OneByteSink {
-    ghost use Rattle.std.specs.Prelude.{Some, IsTrue};
-    ghost use Rattle.fault_counts.specs.Counts.{faults_of};
+    ghost use Rattle.byte_io.specs.MemorySink.{memory_seen};
 
-    ghost taken = { λ s. Some s.whole.taken };
-
-    ghost faults = { λ s. faults_of s.whole.counts };
-
-    ghost failed = { λ s. IsTrue s.whole.counts.failed };
-
-    ghost stalled = { λ _. ⊥ };
+    ghost seen = { λ s. memory_seen s.whole };
 
     fn write(&mut self, piece: &[u8]) -> Result<usize, Failed> {
         let most = piece.len().min(1);
