@@ -1,16 +1,17 @@
 -- What the transactions of a generated block carry, in Namecoin's terms.
 use Rattle.std.specs.Prelude.{◌≡◌, List, [], ◌∷◌, Option, Some, None}
-use Rattle.block_grammar.specs.Transaction.{TxInput, TxOutput, name_version, Transaction}
+use Rattle.block_grammar.specs.Transaction.{TxInput, TxOutput, Transaction}
 use Rattle.block_grammar.specs.Block.{Block}
 use Rattle.block_grammar.specs.Merkle.{block_root}
 use Rattle.name_script.specs.NameScript.{IsNameScript}
+use Rattle.nmc_base.specs.declared.limits.TheConstants.{NAME_VERSION}
 use Rattle.nmc_base.specs.declared.chain_ends.Tip.{Tip}
 use Rattle.block_maker.specs.Generated.{Making}
 
 -- a transaction of the version that carries names, which spends that output alone, and whose one output has a name
 -- script of that operation (Namecoin's consensus rules, CNameScript)
 pub record IsNameTransaction (t : Transaction) (making : Making) : Type 0 where
-  pub version : t.version ≡ name_version
+  pub version : t.version ≡ NAME_VERSION
   pub input : TxInput
   pub one_input : t.inputs ≡ input ∷ []
   pub txid : input.txid ≡ making.spent.txid.0

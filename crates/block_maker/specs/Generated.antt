@@ -1,11 +1,12 @@
 -- Generated blocks: small blocks, each standing on a tip, with one name operation or none.
 use Rattle.std.specs.Prelude.{ℕ, ◌+◌, List, [], ◌∷◌, map, replicate, Option, Some, None}
 use Rattle.std.specs.Int.{w32, to_le_bytes}
-use Rattle.block_grammar.specs.Transaction.{name_version, Transaction, txid_of}
+use Rattle.block_grammar.specs.Transaction.{Transaction, txid_of}
 use Rattle.block_grammar.specs.PureHeader as plain
 use Rattle.block_grammar.specs.Block.{Block}
 use Rattle.block_grammar.specs.Merkle.{merkle_root_of}
 use Rattle.name_script.specs.NameScript.{NameOperation}
+use Rattle.nmc_base.specs.declared.limits.TheConstants.{NAME_VERSION}
 use Rattle.nmc_base.specs.declared.hashes.OutPoint.{OutPoint}
 use Rattle.nmc_base.specs.declared.chain_ends.Tip.{Tip}
 use Rattle.block_maker.specs.Script.{script_of}
@@ -40,7 +41,7 @@ coinbase_at height = single_transaction 1 no_output (height_script height) 0 (0x
 
 -- the transaction of a name operation holds 1,000,000 units
 unfoldable pub name_transaction : Making → Transaction
-name_transaction making = single_transaction name_version making.spent [] 1000000 (script_of making.operation)
+name_transaction making = single_transaction NAME_VERSION making.spent [] 1000000 (script_of making.operation)
 
 abbrev pub generated_transactions : ℕ → Option Making → List Transaction
 generated_transactions height None = coinbase_at height ∷ []

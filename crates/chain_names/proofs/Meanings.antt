@@ -5,9 +5,10 @@ use Rattle.std.specs.Str.{bytes_eq}
 use Rattle.std.specs.Cmp.Lexicographic.{bytes_decides}
 use Rattle.std.proofs.lemmas.Bool.{not-false, true≢false}
 use Rattle.std.proofs.lemmas.Bool.Decides.{nat_tests}
-use Rattle.block_grammar.specs.Transaction.{name_version, TxInput, Transaction, txid_of}
+use Rattle.block_grammar.specs.Transaction.{TxInput, Transaction, txid_of}
 use Rattle.hash160.specs.Hash160.{hash160}
 use Rattle.name_script.specs.NameScript.{NameOperation, name_new, name_firstupdate, name_update}
+use Rattle.nmc_base.specs.declared.limits.TheConstants.{NAME_VERSION}
 use Rattle.nmc_base.specs.declared.hashes.OutPoint.{OutPoint}
 use Rattle.nmc_base.specs.declared.chain_ends.Profile.{Profile}
 use Rattle.nmc_base.specs.Expiry.{least_amount}
@@ -58,8 +59,8 @@ unnamed : (named there : Bool) → not named && there ≡ false → named && tru
 unnamed true there a b = absurd (true≢false b)
 unnamed false there a b = a
 
-named_version : (version : ℕ) → not (version == name_version) && true ≡ false → version ≡ name_version
-named_version version e = not_unequal version name_version (and_true (not (version == name_version)) e)
+named_version : (version : ℕ) → not (version == NAME_VERSION) && true ≡ false → version ≡ NAME_VERSION
+named_version version e = not_unequal version NAME_VERSION (and_true (not (version == NAME_VERSION)) e)
 
 none_there : {A : Type 0} (o : Option A) → is_some o ≡ false → o ≡ None
 none_there None e = refl
@@ -92,7 +93,7 @@ output_of place amount operation = record { place = place; value = amount; opera
 
 -- what the lists of name inputs and name outputs are, and the version
 record Counted (maps : Maps) (t : Transaction) (inputs : List HeldCoin) (outputs : List NameOutput) : Type 0 where
-  version : t.version ≡ name_version
+  version : t.version ≡ NAME_VERSION
   inputs_are : name_inputs maps.coins t.inputs ≡ inputs
   outputs_are : name_outputs 0 t.outputs ≡ outputs
 
@@ -215,9 +216,9 @@ output_says profile maps height t operation place amount (held ∷ next ∷ more
 
 no_output_says : (profile : Profile) (maps : Maps) (height : ℕ) (t : Transaction) (inputs : List HeldCoin)
     → name_inputs maps.coins t.inputs ≡ inputs → name_outputs 0 t.outputs ≡ []
-    → not (t.version == name_version) && nat_lt 0 (length inputs) ≡ false → (t.version == name_version) && true ≡ false → IsPlain maps t
+    → not (t.version == NAME_VERSION) && nat_lt 0 (length inputs) ≡ false → (t.version == NAME_VERSION) && true ≡ false → IsPlain maps t
 no_output_says profile maps height t inputs ins outs plain_input named = record {
-  inputs = ins ∙ not_any inputs (unnamed (t.version == name_version) (nat_lt 0 (length inputs)) plain_input named);
+  inputs = ins ∙ not_any inputs (unnamed (t.version == NAME_VERSION) (nat_lt 0 (length inputs)) plain_input named);
   outputs = outs;
 }
 
