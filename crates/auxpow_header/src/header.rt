@@ -5,6 +5,7 @@ ghost use Rattle.block_grammar.specs.Header as full;
 ghost use Rattle.block_grammar.specs.Reading.{header_from};
 ghost use Rattle.wire_read.specs.Seen.{seen};
 ghost use Rattle.block_grammar.specs.Fault.{StandsFirst};
+ghost use Rattle.block_grammar.specs.FaultRows.{HeaderByte};
 ghost use Rattle.wire_read.specs.Front.{IsRead, Gives};
 
 use crate::fields::{Fields, fields_in};
@@ -94,7 +95,7 @@ fn header_in<'a>(bytes: &'a [u8]) -> Result<(Header<'a>, &'a [u8]), Fault<'a>>
 /// Reads the header with its merge-mining part at the front, and says how many bytes they take. Bytes may follow them.
 pub fn read_header<'a>(bytes: &'a [u8]) -> Result<(Header<'a>, usize), TxFault>
     // What is read is there, and each fault is the first.
-    ensures read { IsRead header_text FitsHeader header_from bytes.now result }
+    ensures read { IsRead header_text FitsHeader HeaderByte bytes.now result }
     // A header at the front is read.
     ensures only { (h : full.Header) (n : ℕ) → StandsFirst header_text FitsHeader bytes.now h n → result ≡ Ok (h, n) }
     // The same, by the reader on lists.

@@ -1,27 +1,26 @@
 -- The table of faults of a transaction, and the reader on lists.
-use Rattle.std.proofs.Common.{◌≡◌, ℕ, zero, suc, ◌-◌, ◌<◌, ◌≤◌, ◌^◌, ◌⊎◌, Bool, true, false, ◌||◌, cond, ltb, eqb, List, [], ◌∷◌, ◌++◌, length, take, drop, replicate, refl, sym, ap, subst, ◌∙◌, arith, inl, inr}
+use Rattle.std.proofs.Common.{◌≡◌, ℕ, zero, suc, ◌-◌, ◌<◌, ◌^◌, ◌⊎◌, Bool, true, false, ◌||◌, cond, ltb, eqb, List, [], ◌∷◌, ◌++◌, length, take, drop, replicate, Option, Some, None, bit_and, refl, sym, ap, subst, ◌∙◌, inl, inr}
 use Rattle.std.specs.Prelude.{Result, Ok, Err}
 use Rattle.std.specs.List.{flat_map}
 use Rattle.std.specs.Int.{Width, w16, w32, w64, byte_len, from_le_bytes, to_le_bytes}
 use Rattle.std.proofs.lemmas.Bool.{eqb-true, eqb-false, ne_eqb}
-use Rattle.std.proofs.lemmas.List.{drop_at, length-drop}
 use Rattle.block_grammar.specs.declared.kinds.TxKind.{TxKind}
 use Rattle.block_grammar.specs.declared.kinds.TxKind.TheVariants.{Cut, LongForm, BadFlag, NoInput, NoOutput, EmptyWitness}
 use Rattle.block_grammar.specs.Kinds.{is_cut}
 use Rattle.block_grammar.specs.CompactSize.{compact_size, counted_list}
 use Rattle.block_grammar.specs.Witness.{stack_text, has_item}
-use Rattle.block_grammar.specs.Transaction.{TxInput, TxOutput, Transaction, input_text, output_text, transaction_text, FitsInput, FitsOutput, FitsTransaction}
-use Rattle.block_grammar.specs.FaultRows.{FitsSome, opening, HasBadFlag, HasNoInput, HasNoOutput, HasEmptyWitness, FaultRow, IsTransactionFault}
-use Rattle.block_grammar.specs.Fault.{StandsFirst, IsFrontPlace}
+use Rattle.block_grammar.specs.Transaction.{TxInput, TxOutput, input_text, output_text, FitsInput, FitsOutput}
+use Rattle.block_grammar.specs.FaultRows.{FitsSome, opening, HasBadFlag, HasNoInput, HasNoOutput, HasEmptyWitness, TransactionByte, HeaderByte}
+use Rattle.block_grammar.specs.PureHeader.{PureHeader, pure_header_text, FitsPureHeader, IsMerged}
+use Rattle.block_grammar.specs.MergePart.{MergePart}
 use Rattle.block_grammar.specs.Combinators.{◌>>=◌, Reader, then_from, map_from, many_from, nonzero_from}
-use Rattle.block_grammar.specs.Reading.{number_from, piece_from, marked_from, size_from, counted_from, some_from, input_from, output_from, stack_from, last_stack_from, stacks_from, Body, plain_body, flagged_body, plain_body_from, flagged_body_from, flag_from, body_from, with_body, transaction_from}
+use Rattle.block_grammar.specs.Reading.{number_from, piece_from, marked_from, size_from, counted_from, some_from, input_from, output_from, stack_from, last_stack_from, stacks_from, Body, plain_body, flagged_body, plain_body_from, flagged_body_from, flag_from, body_from, with_body, transaction_from, fields_from, branch_from, merge_part_from, merged_from, header_from}
 use Rattle.block_grammar.proofs.Readers.{IsBytes}
-use Rattle.block_grammar.proofs.ReaderLaws.{Reads, Halt, runs_out, meets, err_is, ok_err, bind_err, made_err}
+use Rattle.block_grammar.proofs.ReaderLaws.{Reads, err_is, ok_err, bind_err, made_err}
 use Rattle.block_grammar.proofs.FieldLaws.{IsCount, FitsListed, laws32, size_first, some_laws}
 use Rattle.block_grammar.proofs.TransactionLaws.{Stacks, input_laws, output_laws, stack_laws}
-use Rattle.block_grammar.proofs.BodyLaws.{transaction_laws}
-use Rattle.block_grammar.proofs.PlaceLaws.{is_place, one_place}
-use Rattle.block_grammar.proofs.Statements.{front_place}
+use Rattle.block_grammar.proofs.HeaderLaws.{fields_laws}
+use Rattle.block_grammar.proofs.RowLaws.{is_field, ByTable}
 
 abbrev Spot : Type 0
 Spot = TxKind × List ℕ
@@ -110,14 +109,6 @@ witness_met bytes rest h =
     ∙ ap (λ (r : List ℕ). Err (EmptyWitness, r)) (sym h.rest_is)
 
 -- ---- fields end the bytes, or have a longer form
-
-abbrev is_field : TxKind → Bool
-is_field Cut = true
-is_field LongForm = true
-is_field BadFlag = false
-is_field NoInput = false
-is_field NoOutput = false
-is_field EmptyWitness = false
 
 -- the reader gives no other fault
 abbrev OnlyFields : {A : Type 0} → Reader TxKind A → Type 0
@@ -277,20 +268,11 @@ stacks_fault some (suc n) bytes e fits h =
 
 -- ---- from the reader to a row
 
--- one of the four rows
-abbrev OtherRow : TxKind → List ℕ → List ℕ → Type 0
-OtherRow Cut bytes rest = ⊥
-OtherRow LongForm bytes rest = ⊥
-OtherRow BadFlag bytes rest = HasBadFlag bytes rest
-OtherRow NoInput bytes rest = HasNoInput bytes rest
-OtherRow NoOutput bytes rest = HasNoOutput bytes rest
-OtherRow EmptyWitness bytes rest = HasEmptyWitness bytes rest
-
 abbrev Told : List ℕ → Spot → Type 0
-Told bytes e = (is_field e.0 ≡ true) ⊎ OtherRow e.0 bytes e.1
+Told bytes e = (is_field e.0 ≡ true) ⊎ TransactionByte e.0 bytes e.1
 
-told_at : (bytes : List ℕ) (at e : Spot) → at ≡ e → OtherRow at.0 bytes at.1 → Told bytes e
-told_at bytes at e is row = inr (subst (λ (s : Spot). OtherRow s.0 bytes s.1) is row)
+told_at : (bytes : List ℕ) (at e : Spot) → at ≡ e → TransactionByte at.0 bytes at.1 → Told bytes e
+told_at bytes at e is row = inr (subst (λ (s : Spot). TransactionByte s.0 bytes s.1) is row)
 
 some_of : {A : Type 0} (Fits : A → Type 0) (xs : List A) → FitsListed IsCount Fits xs → FitsSome Fits xs
 some_of Fits xs f = record { some = f.0.0; count = f.0.1; each = f.1 }
@@ -406,105 +388,100 @@ transaction_told bytes e fits h =
           body_told bytes x.0.1 x.0.0 e t.fits t.parts t.rest_bytes (made_err (body_from x.0.1) (λ (y : Body × List ℕ). ((x.0.0, y.0), y.1)) e x.2)
     ]
 
-unlike : {A : Type 0} (r : Answer A) (k k' : TxKind) (rest : List ℕ) → is_field k ≡ true → is_field k' ≡ false → r ≡ Err (k, rest) → r ≡ Err (k', rest) → ⊥
-unlike r k k' rest is other e e' =
-    let at : Spot = (k, rest) in
-    let same : at ≡ (k', rest) = err_is at (k', rest) (sym e ∙ e') in
-    let kinds : is_field k ≡ is_field k' = ap (λ (s : Spot). is_field s.0) same in
-    cc
-
--- the row of a fault of a field
-field_row : (bytes : List ℕ) (kind : TxKind) (rest front : List ℕ) → Halt is_cut transaction_from front (kind, rest) → transaction_from bytes ≡ Err (kind, rest) → is_field kind ≡ true → FaultRow kind bytes rest
-field_row bytes Cut rest front (runs_out cut none) h is = none
-field_row bytes Cut rest front (meets b more at whole dead) h is = absurd cc
-field_row bytes LongForm rest front (runs_out cut none) h is = absurd cc
-field_row bytes LongForm rest front (meets b more at whole dead) h is = record {
-  some = λ none. cons_nil b more (sym at ∙ none);
-  flag = λ r. unlike (transaction_from bytes) LongForm BadFlag rest refl refl h (flag_met bytes rest r);
-  input = λ r. unlike (transaction_from bytes) LongForm NoInput rest refl refl h (input_met bytes rest r);
-  output = λ r. unlike (transaction_from bytes) LongForm NoOutput rest refl refl h (output_met bytes rest r);
-  witness = λ r. unlike (transaction_from bytes) LongForm EmptyWitness rest refl refl h (witness_met bytes rest r);
-}
+pub transaction_bytes : ByTable TransactionByte transaction_from
+transaction_bytes = record { told = transaction_told; met = met; own = own; some = some }
   where
-    cons_nil : (b : ℕ) (more : List ℕ) → b ∷ more ≡ [] → ⊥
-    cons_nil b more e = cc
-field_row bytes BadFlag rest front how h is = absurd cc
-field_row bytes NoInput rest front how h is = absurd cc
-field_row bytes NoOutput rest front how h is = absurd cc
-field_row bytes EmptyWitness rest front how h is = absurd cc
+    met : (bytes : List ℕ) (kind : TxKind) (rest : List ℕ) → TransactionByte kind bytes rest → transaction_from bytes ≡ Err (kind, rest)
+    met bytes Cut rest f = absurd f
+    met bytes LongForm rest f = absurd f
+    met bytes BadFlag rest f = flag_met bytes rest f
+    met bytes NoInput rest f = input_met bytes rest f
+    met bytes NoOutput rest f = output_met bytes rest f
+    met bytes EmptyWitness rest f = witness_met bytes rest f
 
-other_row : (bytes : List ℕ) (kind : TxKind) (rest : List ℕ) → OtherRow kind bytes rest → FaultRow kind bytes rest
-other_row bytes Cut rest r = absurd r
-other_row bytes LongForm rest r = absurd r
-other_row bytes BadFlag rest r = r
-other_row bytes NoInput rest r = r
-other_row bytes NoOutput rest r = r
-other_row bytes EmptyWitness rest r = r
+    own : (bytes : List ℕ) (kind : TxKind) (rest : List ℕ) → TransactionByte kind bytes rest → is_field kind ≡ false
+    own bytes Cut rest f = absurd f
+    own bytes LongForm rest f = absurd f
+    own bytes BadFlag rest f = refl
+    own bytes NoInput rest f = refl
+    own bytes NoOutput rest f = refl
+    own bytes EmptyWitness rest f = refl
 
-pub transaction_row : (bytes : List ℕ) (kind : TxKind) (rest : List ℕ) → IsBytes bytes → transaction_from bytes ≡ Err (kind, rest) → FaultRow kind bytes rest
-transaction_row bytes kind rest fits h =
-    elim (transaction_told bytes (kind, rest) fits h) [
-      | inl is ↦ let s = transaction_laws.stops bytes (kind, rest) fits h in field_row bytes kind rest s.front s.how h is
-      | inr r ↦ other_row bytes kind rest r
+    left : (b : ℕ) (more : List ℕ) → b ∷ more ≡ [] → ⊥
+    left b more e = cc
+
+    some : (bytes : List ℕ) (kind : TxKind) (rest : List ℕ) → TransactionByte kind bytes rest → rest ≡ [] → ⊥
+    some bytes Cut rest f none = f
+    some bytes LongForm rest f none = f
+    some bytes BadFlag rest f none = left f.flag f.more (sym f.rest_is ∙ none)
+    some bytes NoInput rest f none = left 0 f.more (sym f.rest_is ∙ none)
+    some bytes NoOutput rest f none = left 0 f.more (sym f.rest_is ∙ none)
+    some bytes EmptyWitness rest f none = left 0 f.more (sym f.rest_is ∙ none)
+
+-- ---- headers
+
+fields_only : OnlyFields fields_from
+unfolding fields_from
+fields_only =
+    map_only _ _ (then_only (number_from w32) _ (number_only w32) (λ _. then_only (piece_from 32) _ (piece_only 32) (λ _. then_only (piece_from 32) _ (piece_only 32) (λ _. then_only (number_from w32) _ (number_only w32) (λ _. then_only (number_from w32) (λ _. number_from w32) (number_only w32) (λ _. number_only w32))))))
+
+branch_only : OnlyFields branch_from
+unfolding branch_from
+branch_only = map_only (λ x. x.1) (then_from size_from (many_from (piece_from 32))) (then_only size_from (many_from (piece_from 32)) size_only (many_only (piece_from 32) (piece_only 32)))
+
+abbrev behind_coinbase : Reader TxKind (List ℕ × (List (List ℕ) × (ℕ × (List (List ℕ) × (ℕ × PureHeader)))))
+behind_coinbase = then_from (piece_from 32) (λ _. then_from branch_from (λ _. then_from (number_from w32) (λ _. then_from branch_from (λ _. then_from (number_from w32) (λ _. fields_from)))))
+
+behind_only : OnlyFields behind_coinbase
+behind_only =
+    then_only (piece_from 32) _ (piece_only 32) (λ _. then_only branch_from _ branch_only (λ _. then_only (number_from w32) _ (number_only w32) (λ _. then_only branch_from _ branch_only (λ _. then_only (number_from w32) (λ _. fields_from) (number_only w32) (λ _. fields_only)))))
+
+part_told : (bytes : List ℕ) (e : Spot) → IsBytes bytes → merge_part_from bytes ≡ Err e → Told bytes e
+unfolding merge_part_from
+part_told bytes e fits h =
+    let inner : then_from transaction_from (λ _. behind_coinbase) bytes ≡ Err e = made_err (then_from transaction_from (λ _. behind_coinbase) bytes) (λ x. (record { coinbase = x.0.0; parent_hash = x.0.1.0; coinbase_branch = x.0.1.1.0; coinbase_index = x.0.1.1.1.0; chain_branch = x.0.1.1.1.1.0; chain_index = x.0.1.1.1.1.1.0; parent = x.0.1.1.1.1.1.1 }, x.1)) e h in
+    elim (bind_err (transaction_from bytes) (λ x. behind_coinbase x.1 >>= λ y. Ok ((x.0, y.0), y.1)) e inner) [
+      | inl w ↦ transaction_told bytes e fits w
+      | inr x ↦ inl (behind_only x.0.1 e (made_err (behind_coinbase x.0.1) (λ y. ((x.0.0, y.0), y.1)) e x.2))
     ]
 
--- ---- both ways
+header_told : (bytes : List ℕ) (e : Spot) → IsBytes bytes → header_from bytes ≡ Err e → (is_field e.0 ≡ true) ⊎ HeaderByte e.0 bytes e.1
+unfolding header_from merged_from
+header_told bytes e fits h =
+    let inner = made_err (then_from fields_from (λ fields. merged_from fields.version) bytes) (λ (x : (PureHeader × Option MergePart) × List ℕ). (record { fields = x.0.0; merged = x.0.1 }, x.1)) e h in
+    elim (bind_err (fields_from bytes) (λ (x : PureHeader × List ℕ). merged_from x.0.version x.1 >>= λ (y : Option MergePart × List ℕ). Ok ((x.0, y.0), y.1)) e inner) [
+      | inl w ↦ inl (fields_only bytes e w)
+      | inr x ↦
+          let t = fields_laws.takes bytes x.0 fits x.1 in
+          let version = x.0.0.version in
+          let part : merged_from version x.0.1 ≡ Err e = made_err (merged_from version x.0.1) (λ (y : Option MergePart × List ℕ). ((x.0.0, y.0), y.1)) e x.2 in
+          elim (chosen {A = Answer (Option MergePart)} (eqb (bit_and version 0x100) 0) (Ok (None, x.0.1)) (map_from (λ m. Some m) merge_part_from x.0.1) (Err e) part) [
+            | inl w ↦ inl (ok_field (None, x.0.1) e w.1)
+            | inr w ↦ elim (part_told x.0.1 e t.rest_bytes (made_err (merge_part_from x.0.1) (λ (y : MergePart × List ℕ). (Some y.0, y.1)) e w.1)) [
+              | inl f ↦ inl f
+              | inr f ↦ inr (record { fields = x.0.0; fields_fit = t.fits; merged = λ z. eqb-false (bit_and version 0x100) 0 w.0 z; body = x.0.1; text = t.parts; fault = f })
+            ]
+          ]
+    ]
 
-stands : (bytes : List ℕ) (x : Transaction × List ℕ) → IsBytes bytes → transaction_from bytes ≡ Ok x → StandsFirst transaction_text FitsTransaction bytes x.0 (length bytes - length x.1)
-stands bytes x fits h =
-    let t = transaction_laws.takes bytes x fits h in
-    let p = is_place bytes (transaction_text x.0) x.1 t.parts in
-    record { within = omega arith; fits = t.fits; text_is = p.taken }
+part_met : (body : List ℕ) (e : Spot) → transaction_from body ≡ Err e → merge_part_from body ≡ Err e
+unfolding merge_part_from
+part_met body e h = rw h refl
 
--- the kind and the bytes that are left, from the row
-same_kind : (bytes : List ℕ) (kind k : TxKind) (rest : List ℕ) → FaultRow kind bytes rest → FaultRow k bytes rest → transaction_from bytes ≡ Err (k, rest) → transaction_from bytes ≡ Err (kind, rest)
-same_kind bytes BadFlag k rest row row' h = flag_met bytes rest row
-same_kind bytes NoInput k rest row row' h = input_met bytes rest row
-same_kind bytes NoOutput k rest row row' h = output_met bytes rest row
-same_kind bytes EmptyWitness k rest row row' h = witness_met bytes rest row
-same_kind bytes Cut Cut rest row row' h = h
-same_kind bytes Cut LongForm rest row row' h = absurd (row'.some row)
-same_kind bytes Cut BadFlag rest row row' h = absurd (left row'.flag row'.more (sym row'.rest_is ∙ row))
-  where
-    left : (b : ℕ) (more : List ℕ) → b ∷ more ≡ [] → ⊥
-    left b more e = cc
-same_kind bytes Cut NoInput rest row row' h = absurd (left 0 row'.more (sym row'.rest_is ∙ row))
-  where
-    left : (b : ℕ) (more : List ℕ) → b ∷ more ≡ [] → ⊥
-    left b more e = cc
-same_kind bytes Cut NoOutput rest row row' h = absurd (left 0 row'.more (sym row'.rest_is ∙ row))
-  where
-    left : (b : ℕ) (more : List ℕ) → b ∷ more ≡ [] → ⊥
-    left b more e = cc
-same_kind bytes Cut EmptyWitness rest row row' h = absurd (left 0 row'.more (sym row'.rest_is ∙ row))
-  where
-    left : (b : ℕ) (more : List ℕ) → b ∷ more ≡ [] → ⊥
-    left b more e = cc
-same_kind bytes LongForm Cut rest row row' h = absurd (row.some row')
-same_kind bytes LongForm LongForm rest row row' h = h
-same_kind bytes LongForm BadFlag rest row row' h = absurd (row.flag row')
-same_kind bytes LongForm NoInput rest row row' h = absurd (row.input row')
-same_kind bytes LongForm NoOutput rest row row' h = absurd (row.output row')
-same_kind bytes LongForm EmptyWitness rest row row' h = absurd (row.witness row')
+merged_met : (version : ℕ) (body : List ℕ) (e : Spot) → IsMerged version → merge_part_from body ≡ Err e → merged_from version body ≡ Err e
+unfolding merged_from
+merged_met version body e is h = rw (ne_eqb (bit_and version 0x100) 0 is, h) refl
 
-pub fault_told : (bytes : List ℕ) (kind : TxKind) (place : ℕ) → IsBytes bytes → place ≤ length bytes → transaction_from bytes ≡ Err (kind, drop place bytes) → IsTransactionFault bytes kind place
-fault_told bytes kind place fits within h =
-    let count : length bytes - length (drop place bytes) ≡ place = omega (arith, length-drop place bytes, within) in
-    record {
-      first = subst (IsFrontPlace transaction_text FitsTransaction bytes) count (front_place transaction_text FitsTransaction transaction_from transaction_laws bytes kind (drop place bytes) fits h);
-      row = transaction_row bytes kind (drop place bytes) fits h;
-    }
+header_met : (fields : PureHeader) (body : List ℕ) (e : Spot) → FitsPureHeader fields → merged_from fields.version body ≡ Err e → header_from (pure_header_text fields ++ body) ≡ Err e
+unfolding header_from
+header_met fields body e fits h = rw (fields_laws.again fields body fits, h) refl
 
-pub fault_met : (bytes : List ℕ) (kind : TxKind) (place : ℕ) → IsBytes bytes → IsTransactionFault bytes kind place → (transaction_from bytes ≡ Err (kind, drop place bytes)) × (place ≤ length bytes)
-fault_met bytes kind place fits f = (by_answer (transaction_from bytes) refl, f.first.first.inside)
-  where
-    by_answer : (r : Answer Transaction) → transaction_from bytes ≡ r → transaction_from bytes ≡ Err (kind, drop place bytes)
-    by_answer (Ok x) h = absurd (f.first.none x.0 (length bytes - length x.1) (stands bytes x fits h))
-    by_answer (Err e) h =
-        let s = transaction_laws.stops bytes e fits h in
-        let p = is_place bytes s.front e.1 s.parts in
-        let mine = front_place transaction_text FitsTransaction transaction_from transaction_laws bytes e.0 e.1 fits h in
-        let at : length bytes - length e.1 ≡ place = one_place transaction_text FitsTransaction bytes (length bytes - length e.1) place mine.first f.first.first in
-        let left : drop place bytes ≡ e.1 = ap (drop place) s.parts ∙ drop_at s.front e.1 place (sym p.place ∙ at) in
-        let read : transaction_from bytes ≡ Err (e.0, drop place bytes) = h ∙ ap (λ (r : List ℕ). Err (e.0, r)) (sym left) in
-        same_kind bytes kind e.0 (drop place bytes) f.row (transaction_row bytes e.0 (drop place bytes) fits read) read
+pub header_bytes : ByTable HeaderByte header_from
+header_bytes = record {
+  told = header_told;
+  met = λ bytes kind rest f.
+      ap header_from f.text
+      ∙ header_met f.fields f.body (kind, rest) f.fields_fit (merged_met f.fields.version f.body (kind, rest) f.merged (part_met f.body (kind, rest) (transaction_bytes.met f.body kind rest f.fault)));
+  own = λ bytes kind rest f. transaction_bytes.own f.body kind rest f.fault;
+  some = λ bytes kind rest f none. transaction_bytes.some f.body kind rest f.fault none;
+}

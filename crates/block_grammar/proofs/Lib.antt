@@ -10,4 +10,5 @@ pub mod BlockLaws
 pub mod MerkleLaws
 pub mod Statements
 pub mod Lengths
+pub mod RowLaws
 pub mod FaultRowLaws

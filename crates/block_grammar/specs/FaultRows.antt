@@ -1,11 +1,12 @@
--- The table of faults of a transaction: which bytes stand before the place of a fault, and which from it on (`rest`).
+-- The table of faults of a transaction, and of a header: which bytes stand before the place of a fault, and which from it on (`rest`).
 use Rattle.std.specs.Prelude.{◌≡◌, ℕ, ◌-◌, ◌<◌, ◌≤◌, ◌^◌, Bool, true, false, List, [], ◌∷◌, ◌++◌, length, drop, replicate}
 use Rattle.std.specs.List.{AllByRecursion}
 use Rattle.std.specs.Int.{w32, to_le_bytes}
 use Rattle.block_grammar.specs.declared.kinds.TxKind.{TxKind}
 use Rattle.block_grammar.specs.declared.kinds.TxKind.TheVariants.{Cut, LongForm, BadFlag, NoInput, NoOutput, EmptyWitness}
 use Rattle.block_grammar.specs.CompactSize.{counted_list}
-use Rattle.block_grammar.specs.Transaction.{TxInput, TxOutput, input_text, output_text, transaction_text, FitsInput, FitsOutput, FitsTransaction}
+use Rattle.block_grammar.specs.Transaction.{TxInput, TxOutput, input_text, output_text, FitsInput, FitsOutput}
+use Rattle.block_grammar.specs.PureHeader.{PureHeader, pure_header_text, FitsPureHeader, IsMerged}
 use Rattle.block_grammar.specs.Fault.{IsFrontPlace}
 
 -- values that stand behind their number, which is 1 at least
@@ -60,24 +61,41 @@ pub record HasEmptyWitness (bytes rest : List ℕ) : Type 0 where
   pub rest_is : rest ≡ 0 ∷ more
   pub text : bytes ≡ to_le_bytes w32 version ++ (opening true ++ (counted_list input_text inputs ++ (counted_list output_text outputs ++ (replicate (length inputs - 1) 0 ++ rest))))
 
--- Bytes are left, and none of these four stands there: then it is the last byte of a compact size in a longer form.
-pub record HasNoOther (bytes rest : List ℕ) : Type 0 where
+-- the four faults that are a byte of their own
+abbrev pub TransactionByte : TxKind → List ℕ → List ℕ → Type 0
+TransactionByte Cut bytes rest = ⊥
+TransactionByte LongForm bytes rest = ⊥
+TransactionByte BadFlag bytes rest = HasBadFlag bytes rest
+TransactionByte NoInput bytes rest = HasNoInput bytes rest
+TransactionByte NoOutput bytes rest = HasNoOutput bytes rest
+TransactionByte EmptyWitness bytes rest = HasEmptyWitness bytes rest
+
+-- one of them in the coinbase of the parent, which stands behind 80 bytes whose version has bit 0x100
+pub record HeaderByte (kind : TxKind) (bytes rest : List ℕ) : Type 0 where
+  pub fields : PureHeader
+  pub fields_fit : FitsPureHeader fields
+  pub merged : IsMerged fields.version
+  pub body : List ℕ
+  pub text : bytes ≡ pure_header_text fields ++ body
+  pub fault : TransactionByte kind body rest
+
+-- bytes are left, and none of them is such a fault
+pub record HasNoByte (Byte : TxKind → List ℕ → List ℕ → Type 0) (bytes rest : List ℕ) : Type 0 where
   pub some : ¬ (rest ≡ [])
-  pub flag : ¬ (HasBadFlag bytes rest)
-  pub input : ¬ (HasNoInput bytes rest)
-  pub output : ¬ (HasNoOutput bytes rest)
-  pub witness : ¬ (HasEmptyWitness bytes rest)
+  pub none : (kind : TxKind) → ¬ (Byte kind bytes rest)
 
-abbrev pub FaultRow : TxKind → List ℕ → List ℕ → Type 0
-FaultRow Cut bytes rest = rest ≡ []
-FaultRow LongForm bytes rest = HasNoOther bytes rest
-FaultRow BadFlag bytes rest = HasBadFlag bytes rest
-FaultRow NoInput bytes rest = HasNoInput bytes rest
-FaultRow NoOutput bytes rest = HasNoOutput bytes rest
-FaultRow EmptyWitness bytes rest = HasEmptyWitness bytes rest
+-- The table: nothing is left where the input is cut; and where the fault is none of those bytes, it is the last byte of a
+-- compact size in a longer form.
+abbrev pub FaultRow : (TxKind → List ℕ → List ℕ → Type 0) → TxKind → List ℕ → List ℕ → Type 0
+FaultRow Byte Cut bytes rest = rest ≡ []
+FaultRow Byte LongForm bytes rest = HasNoByte Byte bytes rest
+FaultRow Byte BadFlag bytes rest = Byte BadFlag bytes rest
+FaultRow Byte NoInput bytes rest = Byte NoInput bytes rest
+FaultRow Byte NoOutput bytes rest = Byte NoOutput bytes rest
+FaultRow Byte EmptyWitness bytes rest = Byte EmptyWitness bytes rest
 
--- No transaction stands at the front of the bytes; the place is that of the first byte that none can have there, or the
--- input's length; and the kind is that of the table.
-pub record IsTransactionFault (bytes : List ℕ) (kind : TxKind) (place : ℕ) : Type 0 where
-  pub first : IsFrontPlace transaction_text FitsTransaction bytes place
-  pub row : FaultRow kind bytes (drop place bytes)
+-- No text stands at the front of the bytes; the place is that of the first byte that none can have there, or the input's
+-- length; and the kind is that of the table.
+pub record IsTableFault {A : Type 0} (text : A → List ℕ) (Fits : A → Type 0) (Byte : TxKind → List ℕ → List ℕ → Type 0) (bytes : List ℕ) (kind : TxKind) (place : ℕ) : Type 0 where
+  pub first : IsFrontPlace text Fits bytes place
+  pub row : FaultRow Byte kind bytes (drop place bytes)

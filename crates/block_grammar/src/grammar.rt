@@ -11,7 +11,7 @@ ghost use Rattle.block_grammar.specs.Header.{Header, IsHeader, FitsHeader, heade
 ghost use Rattle.block_grammar.specs.Block.{Block, IsBlock};
 ghost use Rattle.block_grammar.specs.Merkle.{merkle_root_of, paired_row};
 ghost use Rattle.block_grammar.specs.Fault.{IsFaultPlace, IsFrontPlace};
-ghost use Rattle.block_grammar.specs.FaultRows.{IsTransactionFault};
+ghost use Rattle.block_grammar.specs.FaultRows.{TransactionByte, HeaderByte, IsTableFault};
 ghost use Rattle.block_grammar.specs.Reading.{transaction_from, header_from, block_from};
 
 /// A transaction is read as it is spelled, whatever follows; and where none is read, the place is that of the first
@@ -24,10 +24,13 @@ pub fn transaction_law()
         → transaction_from bytes ≡ Err (kind, rest) → IsTrue (is_cut kind) ↔ (length bytes - length rest ≡ length bytes) }
 {}
 
-/// Where no transaction is read, the kind of the fault and its place are those of the table, and the other way round.
-pub fn transaction_fault_law()
-    ensures { (bytes : List ℕ) (kind : TxKind) (place : ℕ) → ((i : ℕ) → slice_index bytes i < 256)
-        → ((transaction_from bytes ≡ Err (kind, drop place bytes)) × (place ≤ length bytes)) ↔ IsTransactionFault bytes kind place }
+/// Where no transaction, or no header, is read, the kind of the fault and its place are those of the table, and the other
+/// way round.
+pub fn fault_law()
+    ensures transaction { (bytes : List ℕ) (kind : TxKind) (place : ℕ) → ((i : ℕ) → slice_index bytes i < 256)
+        → ((transaction_from bytes ≡ Err (kind, drop place bytes)) × (place ≤ length bytes)) ↔ IsTableFault transaction_text FitsTransaction TransactionByte bytes kind place }
+    ensures header { (bytes : List ℕ) (kind : TxKind) (place : ℕ) → ((i : ℕ) → slice_index bytes i < 256)
+        → ((header_from bytes ≡ Err (kind, drop place bytes)) × (place ≤ length bytes)) ↔ IsTableFault header_text FitsHeader HeaderByte bytes kind place }
 {}
 
 /// No transaction's text begins another's: bytes have one front at most that is a transaction.

@@ -6,6 +6,7 @@ ghost use Rattle.block_grammar.specs.Combinators.{then_from, map_from};
 ghost use Rattle.block_grammar.specs.Reading.{some_from, input_from, output_from, plain_body_from, flagged_body_from, body_from, with_body, transaction_from};
 ghost use Rattle.wire_read.specs.Seen.{seen};
 ghost use Rattle.block_grammar.specs.Fault.{StandsFirst};
+ghost use Rattle.block_grammar.specs.FaultRows.{TransactionByte};
 ghost use Rattle.wire_read.specs.Front.{IsRead, Gives};
 
 use crate::inputs::{Inputs, inputs_in};
@@ -191,7 +192,7 @@ fn transaction_in<'a>(bytes: &'a [u8]) -> Result<(Tx<'a>, &'a [u8]), Fault<'a>>
 /// Reads the transaction at the front, and says how many bytes it takes. Bytes may follow it.
 pub fn read_tx<'a>(bytes: &'a [u8]) -> Result<(Tx<'a>, usize), TxFault>
     // What is read is there, and each fault is the first.
-    ensures read { IsRead transaction_text FitsTransaction transaction_from bytes.now result }
+    ensures read { IsRead transaction_text FitsTransaction TransactionByte bytes.now result }
     // A transaction at the front is read.
     ensures only { (t : Transaction) (n : ℕ) → StandsFirst transaction_text FitsTransaction bytes.now t n → result ≡ Ok (t, n) }
     // The same, by the reader on lists.

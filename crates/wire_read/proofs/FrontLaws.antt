@@ -1,16 +1,16 @@
 -- A reader at the front of bytes, by the relations and by the reader on lists.
-use Rattle.std.proofs.Common.{◌≡◌, ℕ, ◌-◌, ◌≤◌, ◌↔◌, true, List, ◌++◌, length, take, drop, refl, sym, ap, subst, ◌∙◌, arith}
+use Rattle.std.proofs.Common.{◌≡◌, ℕ, ◌-◌, ◌≤◌, ◌↔◌, true, List, ◌++◌, length, take, drop, refl, sym, ap, ◌∙◌, arith}
 use Rattle.std.specs.Prelude.{Result, Ok, Err}
 use Rattle.std.proofs.lemmas.List.{drop_at, take-append-drop, append_cancel_right, length-drop}
 use Rattle.block_grammar.specs.declared.kinds.TxKind.{TxKind}
 use Rattle.block_grammar.specs.declared.kinds.TxKind.TheVariants.{Cut, LongForm, BadFlag, NoInput, NoOutput, EmptyWitness}
 use Rattle.block_grammar.specs.Kinds.{is_cut}
-use Rattle.block_grammar.specs.Fault.{StandsFirst, IsFrontPlace}
+use Rattle.block_grammar.specs.Fault.{StandsFirst}
 use Rattle.block_grammar.specs.Combinators.{Reader}
 use Rattle.block_grammar.proofs.Readers.{IsBytes}
 use Rattle.block_grammar.proofs.ReaderLaws.{Reads, ok_is, ok_err}
 use Rattle.block_grammar.proofs.PlaceLaws.{is_place, cut_place}
-use Rattle.block_grammar.proofs.Statements.{front_place}
+use Rattle.block_grammar.proofs.RowLaws.{ByTable, fault_told}
 use Rattle.wire_read.specs.declared.fault.TxFault.{TxFault}
 use Rattle.wire_read.specs.Front.{IsFault, IsRead, Gives}
 
@@ -77,24 +77,21 @@ kind_cut NoOutput = ((λ e. absurd cc), λ e. absurd cc)
 kind_cut EmptyWitness = ((λ e. absurd cc), λ e. absurd cc)
 
 -- the fault, from where reading stops
-stopped_fault : {A : Type 0} (text : A → List ℕ) (Fits : A → Type 0) (read : Reader TxKind A) → Reads is_cut text Fits read → (bytes : List ℕ) (kind : TxKind) (place : ℕ) → IsBytes bytes → place ≤ length bytes
-    → read bytes ≡ Err (kind, drop place bytes) → IsFault text Fits read bytes kind place
-stopped_fault text Fits read laws bytes kind place fits within e =
+stopped_fault : {A : Type 0} (text : A → List ℕ) (Fits : A → Type 0) (Byte : TxKind → List ℕ → List ℕ → Type 0) (read : Reader TxKind A) → Reads is_cut text Fits read → ByTable Byte read
+    → (bytes : List ℕ) (kind : TxKind) (place : ℕ) → IsBytes bytes → place ≤ length bytes → read bytes ≡ Err (kind, drop place bytes) → IsFault text Fits Byte bytes kind place
+stopped_fault text Fits Byte read laws table bytes kind place fits within e =
     let count : length bytes - length (drop place bytes) ≡ place = omega (arith, length-drop place bytes, within) in
     let cut = cut_place is_cut text Fits read laws bytes (kind, drop place bytes) fits e in
     let named = kind_cut kind in
-    record {
-      stopped = e;
-      first = subst (IsFrontPlace text Fits bytes) count (front_place text Fits read laws bytes kind (drop place bytes) fits e);
-      cut = ((λ k. sym count ∙ cut.0 (named.1 k)), λ p. named.0 (cut.1 (count ∙ p)));
-    }
+    let told = fault_told text Fits Byte read laws table bytes kind place fits within e in
+    record { first = told.first; row = told.row; cut = ((λ k. sym count ∙ cut.0 (named.1 k)), λ p. named.0 (cut.1 (count ∙ p))) }
 
 -- ---- the clauses of public readers
 
-pub is_read : {A : Type 0} (text : A → List ℕ) (Fits : A → Type 0) (read : Reader TxKind A) → Reads is_cut text Fits read → (bytes : List ℕ) (answer : Result (A × ℕ) TxFault) → IsBytes bytes → Gives read bytes answer
-    → IsRead text Fits read bytes answer
-is_read text Fits read laws bytes (Ok (x, n)) fits e = front_takes text Fits read laws bytes x n fits e.1 e.0
-is_read text Fits read laws bytes (Err fault) fits e = stopped_fault text Fits read laws bytes fault.kind fault.at fits e.1 e.0
+pub is_read : {A : Type 0} (text : A → List ℕ) (Fits : A → Type 0) (Byte : TxKind → List ℕ → List ℕ → Type 0) (read : Reader TxKind A) → Reads is_cut text Fits read → ByTable Byte read
+    → (bytes : List ℕ) (answer : Result (A × ℕ) TxFault) → IsBytes bytes → Gives read bytes answer → IsRead text Fits Byte bytes answer
+is_read text Fits Byte read laws table bytes (Ok (x, n)) fits e = front_takes text Fits read laws bytes x n fits e.1 e.0
+is_read text Fits Byte read laws table bytes (Err fault) fits e = stopped_fault text Fits Byte read laws table bytes fault.kind fault.at fits e.1 e.0
 
 pub only_read : {A : Type 0} (text : A → List ℕ) (Fits : A → Type 0) (read : Reader TxKind A) → Reads is_cut text Fits read → (bytes : List ℕ) (answer : Result (A × ℕ) TxFault) → Gives read bytes answer
     → (x : A) (n : ℕ) → StandsFirst text Fits bytes x n → answer ≡ Ok (x, n)
