@@ -1,5 +1,5 @@
--- When the coin of a name expires, and what a name output has to hold (Namecoin's consensus rules: the expiration depth
--- of names, NameExpirationDepth, and the amount that a name locks, NAME_LOCKED_AMOUNT).
+-- When the coin of a name expires, and what a name output has to hold. That names expire, and that an output holds an
+-- amount, are Namecoin's rules; the depths, their heights and the amounts of the two profiles are this project's own.
 use Rattle.std.specs.Prelude.{ℕ, ◌+◌, ◌-◌, Bool, nat_le, nat_lt, if◌then◌else◌}
 use Rattle.nmc_base.specs.declared.chain_ends.Profile.{Profile}
 use Rattle.nmc_base.specs.declared.chain_ends.Profile.TheVariants.{Regtest, Main}
