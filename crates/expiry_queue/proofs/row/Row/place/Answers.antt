@@ -3,7 +3,7 @@ use Rattle.chain_names.specs.Points.{same_point}
 use Rattle.chain_names.specs.Tables.{is_filled}
 use Rattle.chain_names.proofs.Changed.{read_at-changed, read_at-kept, same_point-true}
 use Rattle.expiry_queue.proofs.RowReadings.{not_filled}
-use Rattle.std.proofs.Common.{◌≡◌, true, false, sym}
+use Rattle.std.proofs.Common.{false, sym}
 use Rattle.indexmap.proofs.SetLemmas.{keys_insert_entry}
 use Rattle.expiry_queue.proofs.RowReadings.{placed_key}
 use Rattle.expiry_queue.proofs.row.Row.place.Goals as goal
