@@ -4,6 +4,7 @@ use Rattle.std.specs.Prelude.{Result, Ok, Err}
 use Rattle.std.specs.List.{flat_map}
 use Rattle.std.specs.Int.{Width, w16, w32, w64, byte_len, from_le_bytes, to_le_bytes}
 use Rattle.std.proofs.lemmas.Bool.{eqb-true, eqb-false, ne_eqb}
+use Rattle.block_grammar.proofs.TruthLemmas.{chosen, or_parts}
 use Rattle.block_grammar.specs.declared.kinds.TxKind.{TxKind}
 use Rattle.block_grammar.specs.declared.kinds.TxKind.TheVariants.{Cut, LongForm, BadFlag, NoInput, NoOutput, EmptyWitness}
 use Rattle.block_grammar.specs.Kinds.{is_cut}
@@ -186,10 +187,6 @@ stack_only = map_only (λ x. x.1) (then_from size_from (many_from counted_from))
 
 -- ---- what may be 00
 
-chosen : {A : Type 0} (b : Bool) (x y z : A) → cond b x y ≡ z → ((b ≡ true) × (x ≡ z)) ⊎ ((b ≡ false) × (y ≡ z))
-chosen true x y z e = inl (refl, e)
-chosen false x y z e = inr (refl, e)
-
 -- the byte 00 stands there, and is the fault
 record IsZero (kind : TxKind) (bytes : List ℕ) (e : Spot) : Type 0 where
   more : List ℕ
@@ -229,10 +226,6 @@ last_fault false bytes e h =
       | inl w ↦ inl w
       | inr z ↦ inr (record { before = refl; rest = bytes; more = z.more; rest_is = z.bytes_is; text = refl; fault_is = z.fault_is })
     ]
-
-or_parts : (a b : Bool) → (a || b) ≡ false → (a ≡ false) × (b ≡ false)
-or_parts true b e = absurd cc
-or_parts false b e = (refl, e)
 
 empty_stack : (stack : List (List ℕ)) → has_item stack ≡ false → stack ≡ []
 empty_stack [] e = refl

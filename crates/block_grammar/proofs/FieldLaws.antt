@@ -27,10 +27,6 @@ value_ok : {A E : Type 0} (r : Result A E) (x : A) → value_of r ≡ Some x →
 value_ok (Ok y) x e = let h : y ≡ x = cc in ap (λ (z : _). Ok z) h
 value_ok (Err w) x e = absurd cc
 
-chosen : {A : Type 0} (b : Bool) (x y z : A) → cond b x y ≡ z → ((b ≡ true) × (x ≡ z)) ⊎ ((b ≡ false) × (y ≡ z))
-chosen true x y z e = inl (refl, e)
-chosen false x y z e = inr (refl, e)
-
 abbrev Spot : Type 0
 Spot = TxKind × List ℕ
 

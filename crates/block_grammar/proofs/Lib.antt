@@ -1,3 +1,4 @@
+pub mod TruthLemmas
 pub mod Readers
 pub mod Sizes
 pub mod ReaderLaws

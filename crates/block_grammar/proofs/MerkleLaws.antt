@@ -3,7 +3,7 @@ use Rattle.std.proofs.Common.{◌≡◌, ℕ, zero, suc, ◌+◌, ◌≤◌, Lis
 use Rattle.block_grammar.specs.Merkle.{paired_row, row_root, merkle_root_of}
 
 -- a row above two hashes at least is shorter
-row_shorter : (hashes : List (List ℕ)) → length (paired_row hashes) ≤ length hashes
+pub row_shorter : (hashes : List (List ℕ)) → length (paired_row hashes) ≤ length hashes
 row_shorter [] = omega arith
 row_shorter (hash ∷ []) = omega arith
 row_shorter (left ∷ right ∷ hashes) = omega (arith, row_shorter hashes)

@@ -1,8 +1,9 @@
 -- The laws of readers: what is read is spelled so and fits; what fits is read, whatever follows; and a reader stops at the
 -- first byte that no text of the format can have there.
-use Rattle.std.proofs.Common.{◌≡◌, ℕ, zero, suc, ◌⊎◌, Bool, true, false, cond, eqb, List, [], ◌∷◌, ◌++◌, length, refl, sym, ap, subst, ◌∙◌, append_assoc, append-nil, arith, inl, inr}
+use Rattle.std.proofs.Common.{◌≡◌, ℕ, zero, suc, ◌⊎◌, Bool, true, false, eqb, List, [], ◌∷◌, ◌++◌, length, refl, sym, ap, subst, ◌∙◌, append_assoc, append-nil, arith, inl, inr}
 use Rattle.std.specs.Prelude.{Result, Ok, Err}
 use Rattle.std.specs.List.{flat_map, AllByRecursion}
+use Rattle.block_grammar.proofs.TruthLemmas.{chosen}
 use Rattle.block_grammar.proofs.Readers.{IsBytes, Took}
 use Rattle.block_grammar.specs.Fault.{IsFront}
 use Rattle.block_grammar.specs.Combinators.{◌>>=◌, Reader, then_from, map_from, many_from, retold, within, nonzero_from}
@@ -270,10 +271,6 @@ within_reads is_cut is_cut' f text Fits read same r = record {
 }
 
 -- ---- a text that doesn't begin with 00
-
-chosen : {A : Type 0} (b : Bool) (x y z : A) → cond b x y ≡ z → ((b ≡ true) × (x ≡ z)) ⊎ ((b ≡ false) × (y ≡ z))
-chosen true x y z e = inl (refl, e)
-chosen false x y z e = inr (refl, e)
 
 -- what stands behind a front whose first byte isn't 0
 same_head : (front : List ℕ) (b : ℕ) (rest more : List ℕ) (first : ℕ) (tail : List ℕ) → front ++ (b ∷ rest) ≡ first ∷ tail → (t : List ℕ) × (front ++ (b ∷ more) ≡ first ∷ t)

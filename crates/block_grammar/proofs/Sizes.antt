@@ -1,15 +1,11 @@
 -- Compact sizes are read as they are spelled, whatever follows.
-use Rattle.std.proofs.Common.{◌≡◌, ℕ, suc, ◌<◌, ◌≤◌, ◌^◌, ◌⊎◌, Bool, true, false, cond, ltb, eqb, List, [], ◌∷◌, ◌++◌, Option, Some, None, refl, ap, subst, ◌∙◌, arith, inl, inr}
+use Rattle.std.proofs.Common.{◌≡◌, ℕ, ◌<◌, ◌≤◌, ◌^◌, cond, ltb, eqb, List, [], ◌∷◌, ◌++◌, Option, Some, None, refl, ap, subst, ◌∙◌, arith, inl, inr}
 use Rattle.std.specs.Int.{Width, w16, w32, w64, to_le_bytes}
 use Rattle.std.proofs.lemmas.Bool.{cases_lt, ltb-true, ltb-false, lt-ltb, le-ltb, eqb-true, eqb-false}
+use Rattle.block_grammar.proofs.TruthLemmas.{chosen}
 use Rattle.block_grammar.specs.CompactSize.{compact_size}
 use Rattle.block_grammar.specs.Fields.{number_at, at_least, compact_size_at}
-use Rattle.block_grammar.proofs.Readers.{IsBytes, Took, Reads, IsWide, some_is, number_reads, wide16, wide32, wide64}
-
--- which way a test went
-chosen : {A : Type 0} (b : Bool) (x y z : A) → cond b x y ≡ z → ((b ≡ true) × (x ≡ z)) ⊎ ((b ≡ false) × (y ≡ z))
-chosen true x y z e = inl (refl, e)
-chosen false x y z e = inr (refl, e)
+use Rattle.block_grammar.proofs.Readers.{IsBytes, Took, Reads, IsWide, some_is, number_reads, wide16, wide32, wide64, IsBytes-rest}
 
 -- ---- the four forms
 
@@ -62,9 +58,6 @@ marked_takes w limit wide mark least rest z form below fits e =
       fits = omega (arith, t.fits);
       rest_bytes = t.rest_bytes;
     }
-
-IsBytes-rest : (b : ℕ) (bytes : List ℕ) → IsBytes (b ∷ bytes) → IsBytes bytes
-IsBytes-rest b bytes h i = h (suc i)
 
 size_takes : (bytes : List ℕ) (z : ℕ × List ℕ) → IsBytes bytes → compact_size_at bytes ≡ Some z → Took compact_size (λ n. n < 2 ^ 64) bytes z
 unfolding compact_size_at

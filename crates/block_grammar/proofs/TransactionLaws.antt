@@ -3,6 +3,7 @@ use Rattle.std.proofs.Common.{◌≡◌, ℕ, zero, suc, ◌+◌, ◌-◌, ◌<�
 use Rattle.std.specs.Prelude.{Ok, IsTrue}
 use Rattle.std.specs.List.{flat_map, list_any, AllByRecursion}
 use Rattle.std.specs.Int.{w32, w64, to_le_bytes}
+use Rattle.block_grammar.proofs.TruthLemmas.{or_assoc, or_false}
 use Rattle.block_grammar.specs.CompactSize.{compact_size, counted, counted_list}
 use Rattle.block_grammar.specs.Transaction.{TxInput, TxOutput, input_text, output_text, FitsInput, FitsOutput, body_text}
 use Rattle.block_grammar.specs.declared.kinds.TxKind.{TxKind}
@@ -104,14 +105,6 @@ pub record FitsMore (some : Bool) (n : ℕ) (stacks : Stacks) : Type 0 where
   pub count : length stacks ≡ n + 1
   pub each : AllByRecursion FitsStack stacks
   pub item : IsTrue (some || list_any has_item stacks)
-
-or_assoc : (a b c : Bool) → ((a || b) || c) ≡ (a || (b || c))
-or_assoc true b c = refl
-or_assoc false b c = refl
-
-or_false : (a : Bool) → (a || false) ≡ a
-or_false true = refl
-or_false false = refl
 
 abbrev first : Stacks → List (List ℕ)
 first [] = []

@@ -26,10 +26,6 @@ pub record Transaction : Type 0 where
   pub witness : Option (List (List (List ℕ)))
   pub lock_time : ℕ
 
--- the version of a transaction that carries a name (Namecoin's NAMECOIN_TX_VERSION)
-abbrev pub name_version : ℕ
-name_version = 0x7100
-
 unfoldable pub input_text : TxInput → List ℕ
 input_text i = i.txid ++ (to_le_bytes w32 i.index ++ (counted i.script ++ to_le_bytes w32 i.sequence))
 

@@ -5,7 +5,7 @@ use Rattle.std.proofs.Math.ListN.{drop_of_length-le}
 use Rattle.nmc_base.specs.declared.hashes.Hash32.{Hash32}
 use Rattle.block_grammar.specs.Transaction.{Transaction, txid_of}
 use Rattle.block_grammar.specs.Merkle.{paired_row, merkle_root_of}
-use Rattle.block_grammar.proofs.MerkleLaws.{one_root, next_root}
+use Rattle.block_grammar.proofs.MerkleLaws.{one_root, next_root, row_shorter}
 use Rattle.block_reader.specs.Rows.{seen_row}
 
 seen_more : (row : List Hash32) (h : Hash32) → seen_row (row ++ h ∷ []) ≡ seen_row row ++ h.0 ∷ []
@@ -75,11 +75,6 @@ pairs_end row made next total le so_far =
 
 -- ---- up to the root
 
-paired_shorter : (hashes : List (List ℕ)) → length (paired_row hashes) ≤ length hashes
-paired_shorter [] = omega arith
-paired_shorter (hash ∷ []) = omega arith
-paired_shorter (left ∷ right ∷ hashes) = omega (arith, paired_shorter hashes)
-
 -- the row above more than one hash
 pub record RowAbove (row above : List Hash32) : Type 0 where
   pub shorter : length above < length row
@@ -90,7 +85,7 @@ pub row_above_root : (row above : List Hash32) → 1 < length row → seen_row a
 row_above_root [] above more e = absurd (omega (arith, more))
 row_above_root (x ∷ []) above more e = absurd (omega (arith, more))
 row_above_root (x ∷ y ∷ row) above more e = record {
-  shorter = omega (arith, paired_shorter (seen_row row), ap length e, seen_length above, seen_length row);
+  shorter = omega (arith, row_shorter (seen_row row), ap length e, seen_length above, seen_length row);
   some = omega (arith, ap length e, seen_length above);
   root = ap merkle_root_of e ∙ sym (next_root x.0 y.0 (seen_row row));
 }

@@ -3,10 +3,11 @@ use Rattle.std.proofs.Common.{◌≡◌, ℕ, ◌⊎◌, ◌||◌, ◌↔◌, Bo
 use Rattle.std.specs.Option.{option_map}
 use Rattle.std.proofs.lemmas.Bool.{eqb-true}
 use Rattle.block_grammar.specs.Fields.{◌>>=◌}
-use Rattle.block_grammar.proofs.Readers.{IsBytes, bind_some, some_is}
+use Rattle.block_grammar.proofs.Readers.{IsBytes, IsBytes-rest, bind_some, some_is}
 use Rattle.name_script.specs.NameScript.{NameOperation, name_new, name_firstupdate, name_update, opcode_of, pushed_by, IsPushThen, ArePushes, IsDrop, op_drop, op_2drop, op_nop, IsNameScript}
 use Rattle.name_script.specs.Reading.{push_at, begins_with_drop, dropped_at, new_at, firstupdate_at, update_at, name_op}
-use Rattle.name_script.proofs.Pushes.{chosen, IsBytes-rest, TookPush, push_takes, push_again}
+use Rattle.block_grammar.proofs.TruthLemmas.{chosen}
+use Rattle.name_script.proofs.Pushes.{TookPush, push_takes, push_again}
 
 none_some : {A : Type 0} (z : A) → None ≡ Some z → ⊥
 none_some z e = cc

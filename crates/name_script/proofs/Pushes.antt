@@ -1,19 +1,12 @@
 -- Pushes are read as they are spelled, and nothing else is.
-use Rattle.std.proofs.Common.{◌≡◌, ℕ, suc, ◌%◌, ◌<◌, ◌≤◌, ◌^◌, ◌⊎◌, Bool, true, false, cond, leb, eqb, List, [], ◌∷◌, ◌++◌, length, get_or, Some, None, refl, sym, ap, ◌∙◌, append_assoc, arith, inl, inr}
+use Rattle.std.proofs.Common.{◌≡◌, ℕ, ◌%◌, ◌<◌, ◌≤◌, ◌^◌, cond, leb, eqb, List, [], ◌∷◌, ◌++◌, length, get_or, Some, None, refl, sym, ap, ◌∙◌, append_assoc, arith, inl, inr}
 use Rattle.std.specs.Int.{Width, w8, w16, w32, from_le_bytes, to_le_bytes}
 use Rattle.std.proofs.lemmas.Bool.{leb-true, le-leb, eqb-true}
+use Rattle.block_grammar.proofs.TruthLemmas.{chosen}
 use Rattle.block_grammar.specs.Fields.{number_at, piece_at}
-use Rattle.block_grammar.proofs.Readers.{IsBytes, Reads, IsWide, bind_some, number_reads, wide16, wide32, piece_reads}
+use Rattle.block_grammar.proofs.Readers.{IsBytes, Reads, IsWide, bind_some, number_reads, wide16, wide32, piece_reads, IsBytes-rest}
 use Rattle.name_script.specs.NameScript.{IsPush, op_0, direct, pushdata1, pushdata2, pushdata4}
 use Rattle.name_script.specs.Reading.{data_at, push_at}
-
--- which way a test went
-pub chosen : {A : Type 0} (b : Bool) (x y z : A) → cond b x y ≡ z → ((b ≡ true) × (x ≡ z)) ⊎ ((b ≡ false) × (y ≡ z))
-chosen true x y z e = inl (refl, e)
-chosen false x y z e = inr (refl, e)
-
-pub IsBytes-rest : (b : ℕ) (bytes : List ℕ) → IsBytes (b ∷ bytes) → IsBytes bytes
-IsBytes-rest b bytes h i = h (suc i)
 
 -- ---- bytes behind their number
 

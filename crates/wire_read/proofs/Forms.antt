@@ -1,11 +1,12 @@
 -- How long a compact size is by its first byte, and what stands at the front where none is read.
-use Rattle.std.proofs.Common.{◌≡◌, ℕ, suc, ◌+◌, ◌-◌, ◌<◌, ◌≤◌, ◌^◌, ◌⊎◌, Bool, true, false, cond, ltb, eqb, List, [], ◌∷◌, ◌++◌, length, take, drop, Some, None, refl, sym, ap, subst, ◌∙◌, arith, inl, inr}
+use Rattle.std.proofs.Common.{◌≡◌, ℕ, ◌+◌, ◌-◌, ◌<◌, ◌≤◌, ◌^◌, true, false, cond, ltb, eqb, List, [], ◌∷◌, ◌++◌, length, take, drop, Some, None, refl, sym, ap, subst, ◌∙◌, arith, inl, inr}
 use Rattle.std.specs.Int.{Width, w16, w32, w64, byte_len, from_le_bytes, to_le_bytes}
 use Rattle.std.proofs.lemmas.Bool.{cases_lt, ltb-true, ltb-false, lt-ltb, le-ltb, eqb-true, eqb-false, ne_eqb}
 use Rattle.std.proofs.lemmas.List.{take-append-drop, length-take, length-drop, drop_at, drop-drop}
+use Rattle.block_grammar.proofs.TruthLemmas.{chosen}
 use Rattle.block_grammar.specs.CompactSize.{compact_size}
 use Rattle.block_grammar.specs.Fields.{number_at, at_least, compact_size_at}
-use Rattle.block_grammar.proofs.Readers.{IsBytes, IsBytes-take, IsWide, wide16, wide32, wide64}
+use Rattle.block_grammar.proofs.Readers.{IsBytes, IsBytes-take, IsWide, wide16, wide32, wide64, IsBytes-rest}
 use Rattle.block_grammar.proofs.Sizes.{size_reads}
 use Rattle.wire_read.specs.Position.{Position, left}
 use Rattle.wire_read.specs.SizeForm.{form_length, HoldsLess, IsLongForm, three_bytes, five_bytes, nine_bytes}
@@ -59,10 +60,6 @@ behind bytes at len = sym (drop-drop len at bytes)
 
 -- ---- where none is read though the form is there, it is a longer one
 
-chosen : {A : Type 0} (b : Bool) (x y z : A) → cond b x y ≡ z → ((b ≡ true) × (x ≡ z)) ⊎ ((b ≡ false) × (y ≡ z))
-chosen true x y z e = inl (refl, e)
-chosen false x y z e = inr (refl, e)
-
 some_none : {A : Type 0} (x : A) → Some x ≡ None → ⊥
 some_none x e = cc
 
@@ -72,9 +69,6 @@ unread least n rest e =
       | inl w ↦ ltb-true n least w.0
       | inr w ↦ absurd (some_none (n, rest) w.1)
     ]
-
-IsBytes-rest : (b : ℕ) (bytes : List ℕ) → IsBytes (b ∷ bytes) → IsBytes bytes
-IsBytes-rest b bytes h i = h (suc i)
 
 holds_less : (w : Width) (limit : ℕ) (wide : IsWide w limit) (mark least : ℕ) (rest : List ℕ) → IsBytes rest → byte_len w ≤ length rest → at_least least (number_at w rest) ≡ None
     → HoldsLess mark w least (mark ∷ rest)
