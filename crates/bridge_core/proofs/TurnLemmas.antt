@@ -12,7 +12,7 @@ use Rattle.chain_steps.specs.Stages.{IsFullFor, IsStagedFor, IsRefusedFor, Lacks
 use Rattle.chain_steps.specs.StagesBack.{IsFullBack, IsStagedBackFor, IsRefusedBackFor, LacksMemoryBackFor}
 use Rattle.chain_steps.proofs.ChainTips.{index_tip}
 use Rattle.machine.specs.Chain.{Chain, height_of}
-use Rattle.machine.specs.Event.{Event, Connect, Disconnect}
+use Rattle.machine.specs.Event.{Command, Connect, Disconnect, Do}
 use Rattle.machine.specs.RunState.{RunState, chain_of, accepted, record_length}
 use Rattle.machine.specs.Reply.{accepted_reply, no_memory_reply}
 use Rattle.machine.specs.Refusals.{accepts, declines, lacks_memory}
@@ -32,15 +32,15 @@ stays : (old new : Bridged) (run : RunState) → StandsFor old run → chains.St
 stays old new run s index area = record { index = index; area = area ∙ s.area }
 
 -- the state with one command more
-joins : (old new : Bridged) (run : RunState) (event : Event) → StandsFor old run → chains.StandsFor new.index (chain_of (accepted run event)) → new.area ≡ old.area + record_length event
-    → StandsFor new (accepted run event)
-joins old new run event s index area = record { index = index; area = omega (arith, area, s.area) }
+joins : (old new : Bridged) (run : RunState) (command : Command) → StandsFor old run → chains.StandsFor new.index (chain_of (accepted run command)) → new.area ≡ old.area + record_length command
+    → StandsFor new (accepted run command)
+joins old new run command s index area = record { index = index; area = omega (arith, area, s.area) }
 
 -- ---- a connect
 
 module _ (old new : Bridged) (bytes : List ℕ) (reply : Reply) where
   pub connect_accepted : (staged : StagedIndex) → ((chain : Chain) → chains.StandsFor old.index chain → IsStagedFor old.area (2 ^ 42) chain bytes staged) → IsConnected staged new.index
-      → new.area ≡ old.area + record_length (Connect bytes) → reply ≡ told new.index.tip.height new.index.tip.hash.0 → Turns old (Connect bytes) reply new
+      → new.area ≡ old.area + record_length (Connect bytes) → reply ≡ told new.index.tip.height new.index.tip.hash.0 → Turns old (Do (Connect bytes)) reply new
   connect_accepted staged staging connected area reply-is = λ run s.
       let on = staging (chain_of run) s.index in
       let now : chains.StandsFor new.index (chain_of (accepted run (Connect bytes))) = on.commits new.index connected in
@@ -51,7 +51,7 @@ module _ (old new : Bridged) (bytes : List ℕ) (reply : Reply) where
       }
 
   pub connect_declined : (refusal : Refusal) → ((chain : Chain) → chains.StandsFor old.index chain → IsRefusedFor old.area (2 ^ 42) chain bytes refusal new.index)
-      → new.area ≡ old.area → reply ≡ refusal_reply (refusal_of refusal) → Turns old (Connect bytes) reply new
+      → new.area ≡ old.area → reply ≡ refusal_reply (refusal_of refusal) → Turns old (Do (Connect bytes)) reply new
   connect_declined refusal staging area reply-is = λ run s.
       let on = staging (chain_of run) s.index in
       record {
@@ -61,7 +61,7 @@ module _ (old new : Bridged) (bytes : List ℕ) (reply : Reply) where
       }
 
   pub connect_lacking : ((chain : Chain) → chains.StandsFor old.index chain → LacksMemoryFor old.area (2 ^ 42) chain bytes new.index)
-      → new.area ≡ old.area → reply ≡ no_memory_reply → Turns old (Connect bytes) reply new
+      → new.area ≡ old.area → reply ≡ no_memory_reply → Turns old (Do (Connect bytes)) reply new
   connect_lacking staging area reply-is = λ run s.
       let on = staging (chain_of run) s.index in
       record {
@@ -74,7 +74,7 @@ module _ (old new : Bridged) (bytes : List ℕ) (reply : Reply) where
 
 module _ (old new : Bridged) (hash : List ℕ) (reply : Reply) where
   pub disconnect_accepted : (staged : Indexed) → ((chain : Chain) → chains.StandsFor old.index chain → IsStagedBackFor old.area (2 ^ 42) chain hash staged) → IsDisconnected staged new.index
-      → new.area ≡ old.area + record_length (Disconnect hash) → reply ≡ told new.index.tip.height new.index.tip.hash.0 → Turns old (Disconnect hash) reply new
+      → new.area ≡ old.area + record_length (Disconnect hash) → reply ≡ told new.index.tip.height new.index.tip.hash.0 → Turns old (Do (Disconnect hash)) reply new
   disconnect_accepted staged staging gone area reply-is = λ run s.
       let on = staging (chain_of run) s.index in
       let now : chains.StandsFor new.index (chain_of (accepted run (Disconnect hash))) = on.commits new.index gone in
@@ -85,7 +85,7 @@ module _ (old new : Bridged) (hash : List ℕ) (reply : Reply) where
       }
 
   pub disconnect_declined : (refusal : BackRefusal) → ((chain : Chain) → chains.StandsFor old.index chain → IsRefusedBackFor old.area (2 ^ 42) chain hash refusal new.index)
-      → new.area ≡ old.area → reply ≡ back_reply (back_refusal_of refusal) → Turns old (Disconnect hash) reply new
+      → new.area ≡ old.area → reply ≡ back_reply (back_refusal_of refusal) → Turns old (Do (Disconnect hash)) reply new
   disconnect_declined refusal staging area reply-is = λ run s.
       let on = staging (chain_of run) s.index in
       record {
@@ -95,7 +95,7 @@ module _ (old new : Bridged) (hash : List ℕ) (reply : Reply) where
       }
 
   pub disconnect_lacking : ((chain : Chain) → chains.StandsFor old.index chain → LacksMemoryBackFor old.area (2 ^ 42) chain hash new.index)
-      → new.area ≡ old.area → reply ≡ no_memory_reply → Turns old (Disconnect hash) reply new
+      → new.area ≡ old.area → reply ≡ no_memory_reply → Turns old (Do (Disconnect hash)) reply new
   disconnect_lacking staging area reply-is = λ run s.
       let on = staging (chain_of run) s.index in
       record {

@@ -4,7 +4,7 @@ use Rattle.feed_frames.specs.Replies.{Reply}
 use Rattle.chain_state.specs.Chain.{Indexed}
 use Rattle.chain_steps.specs.Standing as chains
 use Rattle.chain_steps.specs.Costs.{IsCheap}
-use Rattle.machine.specs.Event.{Event}
+use Rattle.machine.specs.Event.{Event, Do}
 use Rattle.machine.specs.RunState.{RunState, chain_of, area_of}
 use Rattle.machine.specs.Step.{Step}
 
@@ -29,4 +29,4 @@ Turns old event reply new = (run : RunState) → StandsFor old run → Moves run
 
 -- where the command is accepted
 abbrev pub IsCheapTurn : Bridged → Event → Reply → Bridged → ℕ → ℕ → Type 0
-IsCheapTurn old event reply new before after = reply.code ≡ 0 → IsCheap old.index event new.index before after
+IsCheapTurn old (Do command) reply new before after = reply.code ≡ 0 → IsCheap old.index command new.index before after

@@ -6,8 +6,8 @@ use Rattle.bridge_core.specs.declared.event.Event.{Event}
 use Rattle.bridge_core.specs.declared.event.Event.TheVariants.{Connect, Disconnect}
 
 abbrev pub event_of : Event → machine.Event
-event_of (Connect block) = machine.Connect block.now
-event_of (Disconnect hash) = machine.Disconnect hash.0
+event_of (Connect block) = machine.Do (machine.Connect block.now)
+event_of (Disconnect hash) = machine.Do (machine.Disconnect hash.0)
 
 -- the payload has a length that its frame may have
 abbrev pub IsWithinLimits : Event → Type 0

@@ -4,7 +4,7 @@ ghost use Rattle.nmc_base.specs.declared.limits.TheConstants.{LONGEST_BLOCK};
 ghost use Rattle.chain_state.specs.Chain.{IsConnected};
 ghost use Rattle.chain_state.specs.Stage.{commit_steps};
 ghost use Rattle.chain_state.specs.StageBack.{IsDisconnected, back_commit_steps};
-ghost use Rattle.machine.specs.Event.{Connect, Disconnect};
+ghost use Rattle.machine.specs.Event.{Connect, Disconnect, Do};
 ghost use Rattle.machine.specs.RunState.{first_state};
 ghost use Rattle.bridge_core.specs.Bridge.{StandsFor, Turns, IsCheapTurn};
 ghost use Rattle.bridge_core.specs.Views.{event_of, IsWithinLimits};
@@ -92,8 +92,8 @@ impl Bridge {
         steps: &mut Steps<L>,
     ) -> Bridge
         requires { length bytes.now ≤ LONGEST_BLOCK }
-        ensures turns { Turns self (Connect bytes.now) reply.new result }
-        ensures cost { IsCheapTurn self (Connect bytes.now) reply.new result steps.old steps.new }
+        ensures turns { Turns self (Do (Connect bytes.now)) reply.new result }
+        ensures cost { IsCheapTurn self (Do (Connect bytes.now)) reply.new result steps.old steps.new }
     {
         let Bridge { chain, area } = self;
         match stage_bytes(alloc, chain, bytes, area, LONGEST_AREA, steps) {
@@ -122,8 +122,8 @@ impl Bridge {
         reply: &mut ReplyBuf,
         steps: &mut Steps<L>,
     ) -> Bridge
-        ensures turns { Turns self (Disconnect hash.0) reply.new result }
-        ensures cost { IsCheapTurn self (Disconnect hash.0) reply.new result steps.old steps.new }
+        ensures turns { Turns self (Do (Disconnect hash.0)) reply.new result }
+        ensures cost { IsCheapTurn self (Do (Disconnect hash.0)) reply.new result steps.old steps.new }
     {
         let Bridge { chain, area } = self;
         match stage_hash(alloc, chain, hash, area, LONGEST_AREA, steps) {

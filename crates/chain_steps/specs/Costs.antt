@@ -8,7 +8,7 @@ use Rattle.chain_state.specs.Stage.{commit_steps}
 use Rattle.chain_state.specs.StageBack.{newest_work}
 use Rattle.chain_state.specs.declared.stage.StageOutcome.{StageOutcome}
 use Rattle.chain_state.specs.declared.stage.StageOutcome.TheVariants.{Staged, Refused, NoMemory}
-use Rattle.machine.specs.Event.{Event, Connect, Disconnect}
+use Rattle.machine.specs.Event.{Command, Connect, Disconnect}
 
 -- a block takes eight steps, with its commit, for each input and each output behind its coinbase and for each coin that
 -- expires with it, and eight
@@ -31,6 +31,6 @@ IsCheapConnect bytes new before after = (block : Block) → IsBlock bytes block 
 abbrev pub IsCheapDisconnect : Indexed → ℕ → ℕ → Type 0
 IsCheapDisconnect old before after = after ≤ before + 12 * newest_work old.undos + 8
 
-abbrev pub IsCheap : Indexed → Event → Indexed → ℕ → ℕ → Type 0
+abbrev pub IsCheap : Indexed → Command → Indexed → ℕ → ℕ → Type 0
 IsCheap old (Connect bytes) new before after = IsCheapConnect bytes new before after
 IsCheap old (Disconnect hash) new before after = IsCheapDisconnect old before after

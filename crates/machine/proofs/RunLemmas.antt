@@ -3,15 +3,15 @@ use Rattle.std.proofs.Common.{◌≡◌, true, false, eqb, ℕ, List, [], ◌∷
 use Rattle.std.proofs.lemmas.Bool.{ne_eqb}
 use Rattle.block_grammar.specs.Block.{block_hash}
 use Rattle.machine.specs.Chain.{Chain, with_block}
-use Rattle.machine.specs.Event.{Event, Connect, Disconnect}
-use Rattle.machine.specs.RunState.{RunState, chain_of, IsFull, accepted, all_accepted, after_event}
+use Rattle.machine.specs.Event.{Command, Connect, Disconnect, Event, Do}
+use Rattle.machine.specs.RunState.{RunState, chain_of, IsFull, accepted, all_accepted, after_command}
 use Rattle.feed_frames.specs.Replies.{Reply}
 use Rattle.machine.specs.Refusals.{accepts, declines, lacks_memory}
 use Rattle.machine.specs.Connecting.{IsValid, Holds, order_of, connects}
 use Rattle.machine.specs.Disconnecting as back
 use Rattle.machine.specs.Disconnecting.{BackRefusal, AtBase, NotTip, HoldsBack, back_order, disconnects}
 use Rattle.machine.specs.Step.{Step, Run}
-use Rattle.machine.specs.Surviving.{is_done, stays, SurvivesEvent, Surviving, accepted_of}
+use Rattle.machine.specs.Surviving.{is_done, stays, SurvivesCommand, Surviving, accepted_of}
 use Rattle.machine.proofs.RefusalLemmas.{decided, survives_once, fewer_none}
 use Rattle.machine.proofs.CommandLemmas.{without_journal, placed, coded, without_journal_back, placed_back, coded_back}
 
@@ -23,29 +23,29 @@ run_push old (e ∷ events) [] mid event reply new run step = absurd run
 run_push old (e ∷ events) (r ∷ replies) mid event reply new run step = (run.0, run.1, run_push run.0 events replies mid event reply new run.2 step)
 
 pub decided_step : (old new other : RunState) (event : Event) (reply answer : Reply) → Step old event reply new → Step old event answer other → reply.code ≡ answer.code → new ≡ other
-decided_step old new other (Connect block) reply answer first second e =
+decided_step old new other (Do (Connect block)) reply answer first second e =
     decided connects (Holds (IsFull old (Connect block)) (chain_of old) block) old (accepted old (Connect block)) new other coded reply answer first second e
-decided_step old new other (Disconnect hash) reply answer first second e =
+decided_step old new other (Do (Disconnect hash)) reply answer first second e =
     decided disconnects (HoldsBack (IsFull old (Disconnect hash)) (chain_of old) hash) old (accepted old (Disconnect hash)) new other coded_back reply answer first second e
 
 -- ---- the surviving chain
 
-event_survives_once : (old new other : Chain) (event : Event) → SurvivesEvent old event new → SurvivesEvent old event other → new ≡ other
-event_survives_once old new other (Connect block) first second = survives_once connects (Holds ⊥ old block) old (after_event old (Connect block)) new other placed first second
-event_survives_once old new other (Disconnect hash) first second = survives_once disconnects (HoldsBack ⊥ old hash) old (after_event old (Disconnect hash)) new other placed_back first second
+command_survives_once : (old new other : Chain) (command : Command) → SurvivesCommand old command new → SurvivesCommand old command other → new ≡ other
+command_survives_once old new other (Connect block) first second = survives_once connects (Holds ⊥ old block) old (after_command old (Connect block)) new other placed first second
+command_survives_once old new other (Disconnect hash) first second = survives_once disconnects (HoldsBack ⊥ old hash) old (after_command old (Disconnect hash)) new other placed_back first second
 
-pub one_surviving : (old new other : Chain) (events : List Event) → Surviving old events new → Surviving old events other → new ≡ other
+pub one_surviving : (old new other : Chain) (commands : List Command) → Surviving old commands new → Surviving old commands other → new ≡ other
 one_surviving old new other [] first second = first ∙ sym second
-one_surviving old new other (event ∷ events) (mid, one, more) (end, two, others) =
-    let same = event_survives_once old mid end event one two in
-    one_surviving end new other events (subst (λ (c : Chain). Surviving c events new) same more) others
+one_surviving old new other (command ∷ commands) (mid, one, more) (end, two, others) =
+    let same = command_survives_once old mid end command one two in
+    one_surviving end new other commands (subst (λ (c : Chain). Surviving c commands new) same more) others
 
 -- ---- what a step leaves
 
 -- it was accepted and joins the state, or the state stays
-data Leaves (old : RunState) (event : Event) (reply : Reply) (new : RunState) : Type 0 where
-  joins : eqb reply.code 0 ≡ true → new ≡ accepted old event → SurvivesEvent (chain_of old) event (chain_of new) → Leaves old event reply new
-  remains : eqb reply.code 0 ≡ false → new ≡ old → Leaves old event reply new
+data Leaves (old : RunState) (command : Command) (reply : Reply) (new : RunState) : Type 0 where
+  joins : eqb reply.code 0 ≡ true → new ≡ accepted old command → SurvivesCommand (chain_of old) command (chain_of new) → Leaves old command reply new
+  remains : eqb reply.code 0 ≡ false → new ≡ old → Leaves old command reply new
 
 accepted_code : (a b : Reply) → a ≡ b → b.code ≡ 0 → eqb a.code 0 ≡ true
 accepted_code a b e zero = ap (λ (r : Reply). eqb r.code 0) e ∙ ap (λ (n : ℕ). eqb n 0) zero
@@ -53,53 +53,53 @@ accepted_code a b e zero = ap (λ (r : Reply). eqb r.code 0) e ∙ ap (λ (n : �
 other_code : (a b : Reply) → a ≡ b → (b.code ≡ 0 → ⊥) → eqb a.code 0 ≡ false
 other_code a b e other = ap (λ (r : Reply). eqb r.code 0) e ∙ ne_eqb b.code 0 other
 
-connect_leaves : (old new : RunState) (block : List ℕ) (reply : Reply) → Step old (Connect block) reply new → Leaves old (Connect block) reply new
+connect_leaves : (old new : RunState) (block : List ℕ) (reply : Reply) → Step old (Do (Connect block)) reply new → Leaves old (Connect block) reply new
 connect_leaves old new block reply (accepts valid new-is reply-is) =
     joins (accepted_code _ _ reply-is refl) new-is
     (is_done (fewer_none (Holds ⊥ (chain_of old) block) (Holds (IsFull old (Connect block)) (chain_of old) block) order_of 6 (without_journal (IsFull old (Connect block)) (chain_of old) block) valid) (ap chain_of new-is))
 connect_leaves old new block reply (declines refusal first new-is reply-is) = remains (other_code _ _ reply-is (coded refusal)) new-is
 connect_leaves old new block reply (lacks_memory none new-is reply-is) = remains (ap (λ (r : Reply). eqb r.code 0) reply-is) new-is
 
-disconnect_leaves : (old new : RunState) (hash : List ℕ) (reply : Reply) → Step old (Disconnect hash) reply new → Leaves old (Disconnect hash) reply new
+disconnect_leaves : (old new : RunState) (hash : List ℕ) (reply : Reply) → Step old (Do (Disconnect hash)) reply new → Leaves old (Disconnect hash) reply new
 disconnect_leaves old new hash reply (accepts valid new-is reply-is) =
     joins (accepted_code _ _ reply-is refl) new-is
     (is_done (fewer_none (HoldsBack ⊥ (chain_of old) hash) (HoldsBack (IsFull old (Disconnect hash)) (chain_of old) hash) back_order 3 (without_journal_back (IsFull old (Disconnect hash)) (chain_of old) hash) valid) (ap chain_of new-is))
 disconnect_leaves old new hash reply (declines refusal first new-is reply-is) = remains (other_code _ _ reply-is (coded_back refusal)) new-is
 disconnect_leaves old new hash reply (lacks_memory none new-is reply-is) = remains (ap (λ (r : Reply). eqb r.code 0) reply-is) new-is
 
-step_leaves : (old new : RunState) (event : Event) (reply : Reply) → Step old event reply new → Leaves old event reply new
+step_leaves : (old new : RunState) (command : Command) (reply : Reply) → Step old (Do command) reply new → Leaves old command reply new
 step_leaves old new (Connect block) reply step = connect_leaves old new block reply step
 step_leaves old new (Disconnect hash) reply step = disconnect_leaves old new hash reply step
 
-state_after : (old mid new : RunState) (event : Event) (reply : Reply) (events : List Event) (replies : List Reply) → Leaves old event reply mid
-    → new ≡ all_accepted mid (accepted_of events replies) → new ≡ all_accepted old (accepted_of (event ∷ events) (reply ∷ replies))
-state_after old mid new event reply events replies (joins code mid-is survives) more = rw code (more ∙ ap (λ (r : RunState). all_accepted r (accepted_of events replies)) mid-is)
-state_after old mid new event reply events replies (remains code mid-is) more = rw code (more ∙ ap (λ (r : RunState). all_accepted r (accepted_of events replies)) mid-is)
+state_after : (old mid new : RunState) (command : Command) (reply : Reply) (events : List Event) (replies : List Reply) → Leaves old command reply mid
+    → new ≡ all_accepted mid (accepted_of events replies) → new ≡ all_accepted old (accepted_of (Do command ∷ events) (reply ∷ replies))
+state_after old mid new command reply events replies (joins code mid-is survives) more = rw code (more ∙ ap (λ (r : RunState). all_accepted r (accepted_of events replies)) mid-is)
+state_after old mid new command reply events replies (remains code mid-is) more = rw code (more ∙ ap (λ (r : RunState). all_accepted r (accepted_of events replies)) mid-is)
 
 pub run_state : (old new : RunState) (events : List Event) (replies : List Reply) → Run old events replies new → new ≡ all_accepted old (accepted_of events replies)
 run_state old new [] [] run = run
 run_state old new [] (r ∷ replies) run = absurd run
 run_state old new (e ∷ events) [] run = absurd run
-run_state old new (e ∷ events) (r ∷ replies) (mid, step, more) =
-    state_after old mid new e r events replies (step_leaves old mid e r step) (run_state mid new events replies more)
+run_state old new (Do command ∷ events) (r ∷ replies) (mid, step, more) =
+    state_after old mid new command r events replies (step_leaves old mid command r step) (run_state mid new events replies more)
 
-chain_after : (old mid new : RunState) (event : Event) (reply : Reply) (events : List Event) (replies : List Reply) → Leaves old event reply mid
-    → Surviving (chain_of mid) (accepted_of events replies) (chain_of new) → Surviving (chain_of old) (accepted_of (event ∷ events) (reply ∷ replies)) (chain_of new)
-chain_after old mid new event reply events replies (joins code mid-is survives) more = rw code (chain_of mid, survives, more)
-chain_after old mid new event reply events replies (remains code mid-is) more =
+chain_after : (old mid new : RunState) (command : Command) (reply : Reply) (events : List Event) (replies : List Reply) → Leaves old command reply mid
+    → Surviving (chain_of mid) (accepted_of events replies) (chain_of new) → Surviving (chain_of old) (accepted_of (Do command ∷ events) (reply ∷ replies)) (chain_of new)
+chain_after old mid new command reply events replies (joins code mid-is survives) more = rw code (chain_of mid, survives, more)
+chain_after old mid new command reply events replies (remains code mid-is) more =
     rw code (subst (λ (r : RunState). Surviving (chain_of r) (accepted_of events replies) (chain_of new)) mid-is more)
 
 pub run_survives : (old new : RunState) (events : List Event) (replies : List Reply) → Run old events replies new → Surviving (chain_of old) (accepted_of events replies) (chain_of new)
 run_survives old new [] [] run = ap chain_of run
 run_survives old new [] (r ∷ replies) run = absurd run
 run_survives old new (e ∷ events) [] run = absurd run
-run_survives old new (e ∷ events) (r ∷ replies) (mid, step, more) =
-    chain_after old mid new e r events replies (step_leaves old mid e r step) (run_survives mid new events replies more)
+run_survives old new (Do command ∷ events) (r ∷ replies) (mid, step, more) =
+    chain_after old mid new command r events replies (step_leaves old mid command r step) (run_survives mid new events replies more)
 
 -- ---- disconnecting is forgetting
 
 -- a valid connect joins its block
-joined : (old mid : Chain) (block : List ℕ) → IsValid ⊥ old block → SurvivesEvent old (Connect block) mid → mid ≡ with_block old block
+joined : (old mid : Chain) (block : List ℕ) → IsValid ⊥ old block → SurvivesCommand old (Connect block) mid → mid ≡ with_block old block
 joined old mid block valid (is_done none same) = same
 joined old mid block valid (stays refusal h same) = absurd (valid.none refusal (placed refusal) h.holds)
 
@@ -112,13 +112,13 @@ never_refused old block AtBase h = some_block block old.blocks h
 never_refused old block (NotTip tip) h = h.0 refl
 never_refused old block back.JournalFull h = h
 
-dropped : (old mid : Chain) (block : List ℕ) → SurvivesEvent (with_block old block) (Disconnect (block_hash block)) mid → mid ≡ old
+dropped : (old mid : Chain) (block : List ℕ) → SurvivesCommand (with_block old block) (Disconnect (block_hash block)) mid → mid ≡ old
 dropped old mid block (is_done none same) = same
 dropped old mid block (stays refusal h same) = absurd (never_refused old block refusal h.holds)
 
-pub forgets : (old new : Chain) (block : List ℕ) (events : List Event) → IsValid ⊥ old block
-    → Surviving old (Connect block ∷ (Disconnect (block_hash block) ∷ events)) new → Surviving old events new
-forgets old new block events valid (mid, first, (last, second, more)) =
+pub forgets : (old new : Chain) (block : List ℕ) (commands : List Command) → IsValid ⊥ old block
+    → Surviving old (Connect block ∷ (Disconnect (block_hash block) ∷ commands)) new → Surviving old commands new
+forgets old new block commands valid (mid, first, (last, second, more)) =
     let same = joined old mid block valid first in
-    let gone = dropped old last block (subst (λ (c : Chain). SurvivesEvent c (Disconnect (block_hash block)) last) same second) in
-    subst (λ (c : Chain). Surviving c events new) gone more
+    let gone = dropped old last block (subst (λ (c : Chain). SurvivesCommand c (Disconnect (block_hash block)) last) same second) in
+    subst (λ (c : Chain). Surviving c commands new) gone more

@@ -2,13 +2,17 @@
 use Rattle.std.specs.Prelude.{List, ℕ}
 use Rattle.feed_frames.specs.Frames.{Frame}
 
-pub data Event : Type 0 where
+-- what changes the chain, where it is accepted
+pub data Command : Type 0 where
   -- the bytes of a block that is to join the chain
-  Connect : List ℕ → Event
+  Connect : List ℕ → Command
   -- the hash of the newest block, which is to leave the chain
-  Disconnect : List ℕ → Event
+  Disconnect : List ℕ → Command
+
+pub data Event : Type 0 where
+  Do : Command → Event
 
 -- each kind of frame is one kind of event
 abbrev pub frame_of : Event → Frame
-frame_of (Connect block) = record { kind = 1; payload = block }
-frame_of (Disconnect hash) = record { kind = 2; payload = hash }
+frame_of (Do (Connect block)) = record { kind = 1; payload = block }
+frame_of (Do (Disconnect hash)) = record { kind = 2; payload = hash }

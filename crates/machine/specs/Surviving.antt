@@ -1,8 +1,8 @@
 -- The chain that commands leave, whoever answered them.
 use Rattle.std.specs.Prelude.{◌≡◌, List, [], ◌∷◌, ◌==◌, if◌then◌else◌}
 use Rattle.machine.specs.Chain.{Chain}
-use Rattle.machine.specs.Event.{Event, Connect, Disconnect}
-use Rattle.machine.specs.RunState.{after_event}
+use Rattle.machine.specs.Event.{Command, Connect, Disconnect, Event, Do}
+use Rattle.machine.specs.RunState.{after_command}
 use Rattle.feed_frames.specs.Replies.{Reply}
 use Rattle.machine.specs.Refusals.{Refusals, IsFirst, HasNoneBelow}
 use Rattle.machine.specs.Connecting.{connects, Holds}
@@ -14,18 +14,18 @@ pub data Survives {R : Type 0} (refusals : Refusals R) (Holds : R → Type 0) (o
   stays : (refusal : R) → IsFirst Holds refusals.order refusal → new ≡ old → Survives refusals Holds old done new
 
 -- no journal is full here
-abbrev pub SurvivesEvent : Chain → Event → Chain → Type 0
-SurvivesEvent old (Connect block) new = Survives connects (Holds ⊥ old block) old (after_event old (Connect block)) new
-SurvivesEvent old (Disconnect hash) new = Survives disconnects (HoldsBack ⊥ old hash) old (after_event old (Disconnect hash)) new
+abbrev pub SurvivesCommand : Chain → Command → Chain → Type 0
+SurvivesCommand old (Connect block) new = Survives connects (Holds ⊥ old block) old (after_command old (Connect block)) new
+SurvivesCommand old (Disconnect hash) new = Survives disconnects (HoldsBack ⊥ old hash) old (after_command old (Disconnect hash)) new
 
 -- the chain that these commands leave, of old: the surviving chain
-abbrev pub Surviving : Chain → List Event → Chain → Type 0
+abbrev pub Surviving : Chain → List Command → Chain → Type 0
 Surviving old [] new = new ≡ old
-Surviving old (event ∷ events) new = (mid : Chain) × SurvivesEvent old event mid × Surviving mid events new
+Surviving old (command ∷ commands) new = (mid : Chain) × SurvivesCommand old command mid × Surviving mid commands new
 
 -- the commands whose reply has code 0
-abbrev pub accepted_of : List Event → List Reply → List Event
+abbrev pub accepted_of : List Event → List Reply → List Command
 accepted_of [] replies = []
 accepted_of (event ∷ events) [] = []
-accepted_of (event ∷ events) (reply ∷ replies) =
-    if reply.code == 0 then event ∷ accepted_of events replies else accepted_of events replies
+accepted_of (Do command ∷ events) (reply ∷ replies) =
+    if reply.code == 0 then command ∷ accepted_of events replies else accepted_of events replies

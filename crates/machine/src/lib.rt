@@ -5,7 +5,7 @@ ghost use Rattle.std.specs.Prelude.{◌≡◌, List, ◌∷◌, ℕ};
 ghost use Rattle.block_grammar.specs.Block.{block_hash};
 ghost use Rattle.feed_frames.specs.Frames.{Frame, IsFramed};
 ghost use Rattle.machine.specs.Chain.{Chain};
-ghost use Rattle.machine.specs.Event.{Event, Connect, Disconnect, frame_of};
+ghost use Rattle.machine.specs.Event.{Command, Connect, Disconnect, Event, frame_of};
 ghost use Rattle.machine.specs.RunState.{RunState, chain_of, all_accepted, IsFull};
 ghost use Rattle.feed_frames.specs.Replies.{Reply};
 ghost use Rattle.machine.specs.Connecting.{Refusal, Refuses, IsValid};
@@ -35,7 +35,7 @@ pub fn decided_step()
 
 /// Commands leave one surviving chain.
 pub fn one_surviving()
-    ensures { (old new other : Chain) (events : List Event) → Surviving old events new → Surviving old events other → new ≡ other }
+    ensures { (old new other : Chain) (commands : List Command) → Surviving old commands new → Surviving old commands other → new ≡ other }
 {}
 
 /// What a run leaves is the state with the accepted commands, and its chain is their surviving chain.
@@ -49,6 +49,6 @@ pub fn surviving_chain()
 /// Disconnecting is forgetting: a block that joined and is disconnected at once leaves the chain as though neither
 /// command had come.
 pub fn disconnecting_forgets()
-    ensures { (old new : Chain) (block : List ℕ) (events : List Event) → IsValid ⊥ old block
-        → Surviving old (Connect block ∷ (Disconnect (block_hash block) ∷ events)) new → Surviving old events new }
+    ensures { (old new : Chain) (block : List ℕ) (commands : List Command) → IsValid ⊥ old block
+        → Surviving old (Connect block ∷ (Disconnect (block_hash block) ∷ commands)) new → Surviving old commands new }
 {}

@@ -1,11 +1,11 @@
 use Rattle.std.proofs.Common.{◌≡◌, refl, ap, arith, inl, inr}
 use Rattle.feed_frames.specs.Frames.{Frame, IsFramed}
-use Rattle.machine.specs.Event.{Event, Connect, Disconnect, frame_of}
+use Rattle.machine.specs.Event.{Event, Connect, Disconnect, Do, frame_of}
 use Rattle.machine.proofs.one_event.Goals as goal
 
 some_event : (frame : Frame) → IsFramed frame → (event : Event) × (frame_of event ≡ frame)
-some_event frame (inl h) = (Connect frame.payload, rw h.of_kind refl)
-some_event frame (inr (inl h)) = (Disconnect frame.payload, rw h.of_kind refl)
+some_event frame (inl h) = (Do (Connect frame.payload), rw h.of_kind refl)
+some_event frame (inr (inl h)) = (Do (Disconnect frame.payload), rw h.of_kind refl)
 some_event frame (inr (inr h)) = absurd h
 
 payload_of : (a b : Frame) → a ≡ b → a.payload ≡ b.payload
@@ -15,10 +15,10 @@ kind_of : (a b : Frame) → a ≡ b → a.kind ≡ b.kind
 kind_of a b e = ap (λ (f : Frame). f.kind) e
 
 same_event : (a b : Event) → frame_of a ≡ frame_of b → a ≡ b
-same_event (Connect a) (Connect b) e = ap Connect (payload_of _ _ e)
-same_event (Disconnect a) (Disconnect b) e = ap Disconnect (payload_of _ _ e)
-same_event (Connect a) (Disconnect b) e = let kinds = kind_of _ _ e in absurd (omega (arith, kinds))
-same_event (Disconnect a) (Connect b) e = let kinds = kind_of _ _ e in absurd (omega (arith, kinds))
+same_event (Do (Connect a)) (Do (Connect b)) e = ap (λ block. Do (Connect block)) (payload_of _ _ e)
+same_event (Do (Disconnect a)) (Do (Disconnect b)) e = ap (λ hash. Do (Disconnect hash)) (payload_of _ _ e)
+same_event (Do (Connect a)) (Do (Disconnect b)) e = let kinds = kind_of _ _ e in absurd (omega (arith, kinds))
+same_event (Do (Disconnect a)) (Do (Connect b)) e = let kinds = kind_of _ _ e in absurd (omega (arith, kinds))
 
 pub returns-clause-some : goal.returns-clause-some
 returns-clause-some c = some_event
