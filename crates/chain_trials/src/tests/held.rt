@@ -17,7 +17,7 @@ pub type Answer = (u8, u32);
 /// The answer where there was no memory to connect a block.
 pub const NO_MEMORY: Answer = (0xFE, 0);
 
-/// The most bytes of an area, and those of one without commands.
+/// The bytes of an area without commands, and the most of one.
 const AREA: (u64, u64) = (9, 1 << 42);
 
 /// The chain, or none where it was lost.

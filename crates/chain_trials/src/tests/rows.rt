@@ -34,10 +34,18 @@ pub const SERVED: [&str; 3] = [
 = d/x:two
 72 ok
 = d/x",
-    // The last one of a block.
+    // The last one of a block with several, which goes and comes again.
     "\
 1 ok @a <0 new:d/x:s
+# d/x 0
 13 ok @b <a first:d/x:s:one | @c <b update:d/x:two | @d <c update:d/x:three
+# d/x 3
+= d/x:three
+back
+# d/x 0
+= d/x
+13 ok @b <a first:d/x:s:one | @c <b update:d/x:two | @d <c update:d/x:three
+# d/x 3
 = d/x:three
 14 18:2 @e <d update:d/x:four | <d update:d/x:five
 = d/x:three",

@@ -3,12 +3,12 @@
 //! A line of a trial is a block: its height, `ok` or its refusal, and its transactions between bars. Blocks without names
 //! stand below it up to its height. A refusal is its number and the index of the transaction, as `24:1`. Or it is `back`,
 //! the disconnect of the newest block; or it tells the value that is served for a name, as `= name:value`, or as `= name`
-//! where none is.
+//! where none is; or how many values it was given that stand, as `# name count`.
 
 use super::blocks::block_of;
 use super::held::{Answer, Held, NO_MEMORY};
 use super::labels::Labels;
-use super::served::is_served;
+use super::served::{has_history, is_served};
 use super::stop::Stop;
 use nmc_base::{Base, Hash32, Profile, Steps, Tip};
 use std::alloc::Global;
@@ -143,6 +143,9 @@ fn line<L: Ledger>(
     if let Some(text) = line.strip_prefix("= ") {
         is_served(rt, held.chain()?, text);
         return Ok(());
+    }
+    if let Some(text) = line.strip_prefix("# ") {
+        return has_history(rt, held.chain()?, text, steps);
     }
     match line {
         "back" => back(rt, alloc, held, lacking, steps),
