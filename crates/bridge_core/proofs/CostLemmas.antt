@@ -9,10 +9,8 @@ use Rattle.machine.specs.Reply.{no_memory_reply}
 use Rattle.machine.specs.Connecting.{refusal_reply}
 use Rattle.machine.specs.Disconnecting.{back_reply}
 use Rattle.machine.proofs.CommandLemmas.{coded, coded_back}
+use Rattle.machine.proofs.RefusalLemmas.{code_of}
 use Rattle.bridge_core.specs.Bridge.{Bridged, IsCheapTurn}
-
-code_of : (a b : Reply) → a ≡ b → a.code ≡ b.code
-code_of a b e = ap (λ (r : Reply). r.code) e
 
 lacking : no_memory_reply.code ≡ 0 → ⊥
 lacking e = omega (arith, e)

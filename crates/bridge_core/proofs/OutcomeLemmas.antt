@@ -12,6 +12,7 @@ use Rattle.fault_counts.specs.Faults.{NeverFell}
 use Rattle.frame_loop.specs.Transcript.{Streams, Ends, Transcript}
 use Rattle.frame_loop.specs.declared.following.Ending.{Ending}
 use Rattle.frame_loop.specs.declared.following.Ending.TheVariants as endings
+use Rattle.frame_loop.proofs.OutcomeLemmas.{read_front, read_all, same_as_read}
 use Rattle.machine.specs.RunState.{first_state}
 use Rattle.bridge_core.specs.Bridge.{Bridged}
 use Rattle.bridge_core.specs.Outcome.{NothingFailed, IsDetermined, IsComplete, Outcome, EndsWell}
@@ -19,44 +20,6 @@ use Rattle.bridge_core.specs.Replaying as replaying
 use Rattle.bridge_core.specs.Replaying.{BridgeReached, BridgeBroken, Tells, EndsSo, Replays}
 use Rattle.bridge_core.specs.declared.status.Status.{Status}
 use Rattle.bridge_core.specs.declared.status.Status.TheVariants.{Done, Words, BadFrame, CutFrame, SourceFault, SinkFault, NoMemory, InputLimit}
-
-none_is_not : (bytes : List ℕ) → None ≡ Some bytes → ⊥
-none_is_not bytes e = cc
-
--- the bytes read are the first of those that were there
-record ReadFront (limit : ℕ) (bytes read : List ℕ) (after : Option (List ℕ)) : Type 0 where
-  left : List ℕ
-  after_is : after ≡ Some left
-  bytes_are : bytes ≡ read ++ left
-  front_is : take limit bytes ≡ read ++ take (limit - length read) left
-
-read_front : (limit : ℕ) (before after : Option (List ℕ)) (bytes read : List ℕ) → before ≡ Some bytes → Consumes before after read → length read ≤ limit → ReadFront limit bytes read after
-read_front limit None after bytes read e given within = absurd (none_is_not bytes e)
-read_front limit (Some before) None bytes read e given within = absurd given
-read_front limit (Some before) (Some left) bytes read e given within =
-    let same : before ≡ bytes = cc in
-    let whole : bytes ≡ read ++ left = sym same ∙ given in
-    let k : limit ≡ length read + (limit - length read) = omega arith in
-    record {
-      left = left;
-      after_is = refl;
-      bytes_are = whole;
-      front_is = ap (take limit) whole ∙ ap (λ (n : ℕ). take n (read ++ left)) k ∙ take-append-add read left (limit - length read);
-    }
-
--- all that there was, was read
-read_all : (before after : Option (List ℕ)) (bytes read : List ℕ) → before ≡ Some bytes → Consumes before after read → IsAtEnd after → bytes ≡ read
-read_all None after bytes read e given end = absurd (none_is_not bytes e)
-read_all (Some before) None bytes read e given end = absurd given
-read_all (Some before) (Some left) bytes read e given end =
-    let same : before ≡ bytes = cc in
-    sym same ∙ given ∙ ap (λ (q : List ℕ). read ++ q) end ∙ append-nil read
-
--- the two splittings of the bytes up to the limit, where these were read
-same_as_read : {X : Type 0} {Reached : List Frame → List Reply → X → Type 0} {now : X} {written : List ℕ} (front read : List ℕ) (frames : List Frame) (rest left : List ℕ)
-    → (answered : SoFar Reached read left written now) → front ≡ read → IsRest left → Splits front frames rest → IsRest rest → SameSplitting frames rest answered.frames left
-same_as_read front read frames rest left answered same is_left split is_rest =
-    same_splitting frames rest answered.frames left split.framed answered.split.framed is_rest is_left (sym split.whole ∙ same ∙ answered.split.whole)
 
 no_cause : {old new : Streams} → SinkCause old.sink new.sink → NothingFailed old new → ⊥
 no_cause (failing f rose) well = well.sink rose

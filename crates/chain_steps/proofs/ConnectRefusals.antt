@@ -1,5 +1,6 @@
 -- When a block has a refusal on a chain, and when it has none.
 use Rattle.std.proofs.Common.{◌≡◌, ◌≢◌, ℕ, ◌<◌, ◌≤◌, List, Some, None, sym, ap, ◌∙◌, arith}
+use Rattle.std.proofs.lemmas.Option.{none-some}
 use Rattle.block_grammar.specs.Block.{Block, IsBlock}
 use Rattle.block_grammar.specs.Merkle.{block_root}
 use Rattle.block_grammar.specs.Fault.{IsFaultPlace}
@@ -8,7 +9,7 @@ use Rattle.chain_names.specs.Changes.{Refused}
 use Rattle.nmc_base.specs.Heights.{highest}
 use Rattle.machine.specs.Chain.{Chain, tip_hash, height_of}
 use Rattle.machine.specs.Connecting.{Refusal, BadBlock, NotOnTip, HeightLimit, MerkleMismatch, Rule, JournalFull, IsOffTip, HasOtherRoot, BreaksRule, refused_on, Holds, order_of, Refuses, IsValid, TakesMemory}
-use Rattle.machine.proofs.CommandLemmas.{one_block}
+use Rattle.block_grammar.proofs.Statements.{same_block}
 
 -- what is known of a block, as far as it was looked at
 pub record IsOn (chain : Chain) (bytes : List ℕ) (block : Block) : Type 0 where
@@ -20,9 +21,6 @@ pub record IsOn (chain : Chain) (bytes : List ℕ) (block : Block) : Type 0 wher
 pub record IsRooted (chain : Chain) (bytes : List ℕ) (block : Block) : Type 0 where
   pub on : IsOn chain bytes block
   pub root : block.header.fields.root ≡ block_root block
-
-some_is_not_none : (r : Refused) → Some r ≡ None → ⊥
-some_is_not_none r e = cc
 
 module _ (full : Type 0) (chain : Chain) (bytes : List ℕ) where
   pub no_block_refused : (place : ℕ) → IsFaultPlace bytes place → Refuses full chain bytes (BadBlock place)
@@ -44,7 +42,7 @@ module _ (full : Type 0) (chain : Chain) (bytes : List ℕ) where
     }
 
     not_off : b.header.fields.previous ≡ tip_hash chain → IsOffTip (tip_hash chain) bytes → ⊥
-    not_off on h = h.off (ap (λ (x : Block). x.header.fields.previous) (one_block bytes h.block b h.is_block is) ∙ on)
+    not_off on h = h.off (ap (λ (x : Block). x.header.fields.previous) (same_block bytes h.block b h.is_block is) ∙ on)
 
     before_height : b.header.fields.previous ≡ tip_hash chain → (other : Refusal) → order_of other < 2 → Holds full chain bytes other → ⊥
     before_height on (BadBlock place) lt h = h.no_block b is
@@ -78,7 +76,7 @@ module _ (full : Type 0) (chain : Chain) (bytes : List ℕ) where
   module _ (b : Block) (r : IsRooted chain bytes b) where
     no_other_root : (computed : List ℕ) → HasOtherRoot bytes computed → ⊥
     no_other_root computed h =
-        let e = one_block bytes b h.block r.on.is_block h.is_block in
+        let e = same_block bytes b h.block r.on.is_block h.is_block in
         h.other (ap (λ (x : Block). x.header.fields.root) (sym e) ∙ r.root ∙ ap block_root e)
 
     before_names : (other : Refusal) → order_of other < 4 → Holds full chain bytes other → ⊥
@@ -98,7 +96,7 @@ module _ (full : Type 0) (chain : Chain) (bytes : List ℕ) where
     module _ (none : refused_on chain b ≡ None) where
       none_broken : (index : ℕ) (refusal : RuleRefusal) → BreaksRule chain bytes index refusal → ⊥
       none_broken index refusal h =
-          some_is_not_none (index, refusal) (sym h.refused ∙ ap (refused_on chain) (one_block bytes h.block b h.is_block r.on.is_block) ∙ none)
+          none-some (index, refusal) (sym none ∙ ap (refused_on chain) (same_block bytes b h.block r.on.is_block h.is_block) ∙ h.refused)
 
       before_journal : (other : Refusal) → order_of other < 5 → Holds full chain bytes other → ⊥
       before_journal (BadBlock place) lt h = h.no_block b r.on.is_block
