@@ -27,7 +27,7 @@ use Rattle.undo_laws.specs.Expired.{IsGone, IsDue}
 use Rattle.undo_laws.specs.Fits.{IsJustExpired, with_restored, IsMadeName, FitsOp, FitsOps, FitsState}
 use Rattle.undo_laws.proofs.PointLemmas.{apart}
 use Rattle.undo_laws.proofs.StandLemmas.{Stands}
-use Rattle.undo_laws.proofs.BlockLemmas.{no_refusal, live_left}
+use Rattle.undo_laws.proofs.BlockLemmas.{live_left}
 use Rattle.undo_laws.proofs.RestoreLemmas.{due_restored}
 
 -- ---- lists of operations
