@@ -17,10 +17,10 @@ lacking e = omega (arith, e)
 
 module _ (old : Bridged) (command : Command) (reply : Reply) (new : Bridged) (before after : ℕ) where
   pub refused_cheap : (refusal : Refusal) → reply ≡ refusal_reply (refusal_of refusal) → IsCheapTurn old (Do command) reply new before after
-  refused_cheap refusal told accepted = absurd (coded (refusal_of refusal) (sym (code_of _ _ told) ∙ accepted))
+  refused_cheap refusal told = λ accepted. absurd (coded (refusal_of refusal) (sym (code_of _ _ told) ∙ accepted))
 
   pub refused_back_cheap : (refusal : BackRefusal) → reply ≡ back_reply (back_refusal_of refusal) → IsCheapTurn old (Do command) reply new before after
-  refused_back_cheap refusal told accepted = absurd (coded_back (back_refusal_of refusal) (sym (code_of _ _ told) ∙ accepted))
+  refused_back_cheap refusal told = λ accepted. absurd (coded_back (back_refusal_of refusal) (sym (code_of _ _ told) ∙ accepted))
 
   pub lacking_cheap : reply ≡ no_memory_reply → IsCheapTurn old (Do command) reply new before after
-  lacking_cheap told accepted = absurd (lacking (sym (code_of _ _ told) ∙ accepted))
+  lacking_cheap told = λ accepted. absurd (lacking (sym (code_of _ _ told) ∙ accepted))
