@@ -19,15 +19,13 @@ use Rattle.chain_names.proofs.QueueLemmas.{queue_of-still}
 use Rattle.chain_names.proofs.Shown.{true_is_not_false}
 use Rattle.undo_laws.specs.Fits.{IsMadeUnnamed, IsMadeNamed, IsUndoable, AreUndoable}
 use Rattle.chain_state.specs.Tables.{maps_by}
-use Rattle.chain_state.specs.Work.{spends, spends_at, HasSpentPlace, HasSpentRow, may_be_empty, may_be_empty_at, IsWork}
+use Rattle.name_tables.specs.Places.{spends, spends_at}
+use Rattle.chain_state.specs.Work.{HasSpentPlace, HasSpentRow, may_be_empty, may_be_empty_at, IsWork}
 use Rattle.chain_state.specs.declared.work.Work.{Work}
-use Rattle.chain_state.proofs.WorkLemmas.{list_any-more, fits-less, or_left, or_right, or_both}
+use Rattle.name_tables.proofs.ListLemmas.{or_left, or_right, or_both, all-less}
+use Rattle.chain_state.proofs.WorkLemmas.{list_any-more, fits-less}
 
 -- ---- lists with one item fewer
-
-pub all-less : {A : Type 0} (P : A → Type 0) (xs : List A) (x : A) → AllByRecursion P (xs ++ x ∷ []) → AllByRecursion P xs
-all-less P [] x all = tt
-all-less P (y ∷ ys) x all = (all.0, all-less P ys x all.1)
 
 pub same_point-swap : (a b : OutPoint) → same_point a b ≡ false → same_point b a ≡ false
 same_point-swap a b e = swapped (same_point b a) refl

@@ -34,20 +34,21 @@ use Rattle.nmc_base.specs.declared.hashes.Hash32.{Hash32}
 use Rattle.chain_names.specs.Log.{behind_coinbase}
 use Rattle.chain_names.specs.Changes.{Refused as RefusedBy, without_expired, back_ops, undo_ops, after_all, after_block, first_refused}
 use Rattle.chain_names.specs.Tables.{AreCoinsFilled, AreNamesFilled, IsQueueFilled, coins_in, coin_places, names_in, queued_in, queue_places, queue_of, FilledBut}
-use Rattle.chain_state.specs.Tables.{maps_by, IsBelow, IsStanding, AreFilled}
+use Rattle.name_tables.specs.Tables.{AreFilled}
+use Rattle.chain_state.specs.Tables.{maps_by, IsBelow, IsStanding}
 use Rattle.chain_state.specs.Work.{HasSpentPlace, HasSpentRow, may_be_empty, may_be_empty_at, IsWork}
 use Rattle.chain_state.specs.Block.{IsReady, HasFewOutputs, AppliedAll}
 use Rattle.chain_state.specs.Stage.{Begins, StagesWell, StagesNames, Stages}
 use Rattle.chain_state.specs.declared.stage.Refusal.TheVariants.{BadBlock, NotOnTip, HeightLimit, MerkleMismatch, Rule, JournalFull}
 use Rattle.chain_state.specs.declared.stage.StageOutcome.{StageOutcome}
 use Rattle.chain_state.specs.declared.stage.StageOutcome.TheVariants.{Staged, Refused, NoMemory}
-use Rattle.chain_state.proofs.WorkLemmas.{all-weaker}
+use Rattle.name_tables.proofs.ListLemmas.{all-weaker}
 use Rattle.chain_state.specs.Worked.{HandsBack}
 use Rattle.chain_state.proofs.WorkedLemmas.{applied_back}
 use Rattle.chain_state.specs.Whole.{Finishes, Commits, maps_before_block}
 use Rattle.nmc_base.specs.Heights.{highest}
 use Rattle.chain_state.specs.Chain.{rule_refused, Indexed, IsIndexed, SameIndex, IsStagedIndex, index_of, staged_of, staged_undo, newest_first, newest_hash}
-use Rattle.chain_state.specs.declared.tables.Tables.{Tables}
+use Rattle.name_tables.specs.declared.tables.Tables.{Tables}
 use Rattle.chain_state.specs.declared.whole.Committed.{Committed}
 use Rattle.chain_state.specs.declared.whole.Whole.{Whole}
 use Rattle.chain_state.specs.declared.work.Work.{Work}

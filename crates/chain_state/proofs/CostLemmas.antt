@@ -19,18 +19,19 @@ use Rattle.chain_names.specs.Tables.{row_points, row_at, queued_in, queue_places
 use Rattle.chain_names.specs.declared.coin.Coin.{Coin}
 use Rattle.chain_names.specs.Changes.{with_spent}
 use Rattle.chain_state.specs.Cost.{touched, all_touched, owed_for, spent_points}
-use Rattle.chain_state.specs.Work.{spends_at, may_be_empty_at}
+use Rattle.name_tables.specs.Places.{spends_at}
+use Rattle.chain_state.specs.Work.{may_be_empty_at}
 use Rattle.chain_state.specs.Block.{IsReady}
-use Rattle.chain_state.specs.Expiring.{Expires}
+use Rattle.name_tables.specs.Expiring.{Expires}
 use Rattle.undo_laws.specs.Expired.{is_held_at, points_of}
 use Rattle.block_grammar.specs.Block.{Block}
 use Rattle.chain_names.specs.Log.{behind_coinbase}
 use Rattle.chain_state.specs.Cost.{touched_by}
 use Rattle.chain_state.specs.declared.whole.Whole.{Whole}
 use Rattle.chain_state.specs.declared.work.Work.{Work}
-use Rattle.chain_state.specs.declared.tables.Tables.{Tables}
-use Rattle.chain_state.proofs.ExpiryLemmas.{any_key}
-use Rattle.chain_state.proofs.OrderLemmas.{same_point-IsEquivalence, same_point-flips}
+use Rattle.name_tables.specs.declared.tables.Tables.{Tables}
+use Rattle.name_tables.proofs.ExpiryLemmas.{any_key}
+use Rattle.name_tables.proofs.OrderLemmas.{same_point-IsEquivalence, same_point-flips}
 
 -- ---- one transaction
 

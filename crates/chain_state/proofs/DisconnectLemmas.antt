@@ -24,12 +24,13 @@ use Rattle.undo_laws.specs.Sound.{IsSound}
 use Rattle.undo_laws.proofs.UndoableLemmas.{fit_allows, expired-row, expired-none}
 use Rattle.undo_records.specs.Seen.{seen_undo}
 use Rattle.undo_records.specs.declared.undo.Undo.{Undo}
-use Rattle.chain_state.specs.Tables.{maps_by, HoldSame, AreFilled}
-use Rattle.chain_state.specs.Work.{spends, spends_at, HasSpentPlace, HasSpentRow}
-use Rattle.chain_state.specs.Whole.{is_queued_at, IsWhole, maps_before_block}
-use Rattle.chain_state.specs.Expiring.{CanReturn}
-use Rattle.chain_state.specs.Clearing.{IsClearing}
-use Rattle.chain_state.specs.Placing.{IsPlaced}
+use Rattle.name_tables.specs.Tables.{HoldSame, AreFilled}
+use Rattle.chain_state.specs.Tables.{maps_by}
+use Rattle.name_tables.specs.Places.{spends, spends_at, is_queued_at}
+use Rattle.chain_state.specs.Work.{HasSpentPlace, HasSpentRow}
+use Rattle.chain_state.specs.Whole.{IsWhole, maps_before_block}
+use Rattle.name_tables.specs.Expiring.{CanReturn}
+use Rattle.name_tables.specs.Room.{IsPlaced, HasRoom}
 use Rattle.chain_state.specs.Chain.{Indexed, IsIndexed, SameIndex, index_of, newest_first, newest_hash}
 use Rattle.undo_records.specs.Writable.{IsWritable}
 use Rattle.chain_state.specs.Measure.{AreMeasured}
@@ -37,8 +38,8 @@ use Rattle.chain_state.proofs.MeasureLemmas.{undone_measured}
 use Rattle.chain_state.specs.Back.{block_work, IsStagedBack}
 use Rattle.chain_state.specs.StageBack.{IsBackRefusal, IsDisconnected, back_commit_steps}
 use Rattle.chain_state.specs.declared.back.BackRefusal.TheVariants.{NotTip}
-use Rattle.chain_state.specs.declared.tables.Tables.{Tables}
-use Rattle.chain_state.proofs.WorkLemmas.{all-weaker, or_left, or_right, or_both}
+use Rattle.name_tables.specs.declared.tables.Tables.{Tables}
+use Rattle.name_tables.proofs.ListLemmas.{all-weaker, or_left, or_right, or_both}
 use Rattle.chain_state.proofs.ChainLemmas.{newest_more, returned_index}
 
 -- ---- the newest of the records
@@ -101,15 +102,20 @@ is_the_tip a b same = let bytes : a.0 ≡ b.0 = bytes_eq-true a.0 b.0 (equal _ s
 
 -- ---- a disconnect is staged
 
+-- the tables and lists that were handed over are those of the index and of the record
+pub room_for : {before : Tables} {ops now : List UndoOp} {expired helds : List HeldCoin} (given after : Tables) (empty : Roomy OutPoint) → given ≡ before → now ≡ ops → helds ≡ expired
+    → HasRoom given after now helds empty → HasRoom before after ops expired empty
+room_for {before = before} {ops = ops} {now = now} {expired = expired} {helds = helds} given after empty same same_ops same_helds has =
+    subst (λ es. HasRoom before after ops es empty) same_helds
+    (subst (λ os. HasRoom before after os helds empty) same_ops (subst (λ (t : Tables). HasRoom t after now helds empty) same has))
+
 module _ (c : Indexed) (indexed : IsIndexed c) (undo : UndoRecord) (below : List UndoRecord) (undos_are : c.undos ≡ undo ∷ below)
-    (tables : Tables) (clearing : IsClearing c.tables tables undo.ops undo.expired)
-    (spent : AllByRecursion (IsPlaced spends spends_at tables) undo.ops) (held : AllByRecursion (IsPlaced is_held_at is_queued_at tables) undo.expired)
-    (empty : Roomy OutPoint) (none : empty.items ≡ []) (room : length undo.ops + 1 ≤ empty.spare) where
+    (tables : Tables) (empty : Roomy OutPoint) (has : HasRoom c.tables tables undo.ops undo.expired empty) where
   abbrev profile : Profile
   profile = c.base.profile
 
   maps_same : maps_by tables ≡ maps_by c.tables
-  maps_same = λ i. record { coins = clearing.same.coins i; names = clearing.same.names i }
+  maps_same = λ i. record { coins = has.same.coins i; names = has.same.names i }
 
   sound_here : IsSound profile c.base.height c.tip.height (maps_by c.tables) (undo ∷ below)
   sound_here = subst (IsSound profile c.base.height c.tip.height (maps_by c.tables)) undos_are indexed.sound
@@ -123,7 +129,7 @@ module _ (c : Indexed) (indexed : IsIndexed c) (undo : UndoRecord) (below : List
           of_row = named;
           place = placed.0.coin first.at (same_point-self first.at);
           row_place = placed.0.rows row first.at (ap (λ b. b && is_named_at row (Some first.coin)) (same_point-self first.at) ∙ named);
-          free = λ other apart. ap (is_named_at other) (ap (λ f. f first.at) clearing.same.coins ∙ expired.0.free);
+          free = λ other apart. ap (is_named_at other) (ap (λ f. f first.at) has.same.coins ∙ expired.0.free);
         },
         can_return row due helds expired.1 placed.1,
       )
@@ -142,18 +148,18 @@ module _ (c : Indexed) (indexed : IsIndexed c) (undo : UndoRecord) (below : List
   work_back : (ops : Roomy UndoOp) (expired : Roomy HeldCoin)
       → IsWhole (block_work tables (record { items = undo.ops; spare = ops.spare }) (record { items = undo.expired; spare = expired.spare }) empty c.tip.height)
   work_back ops expired = record {
-    queue = clearing.same.queue ∙ indexed.queue ∙ ap queue_of (sym clearing.same.coins);
+    queue = has.same.queue ∙ indexed.queue ∙ ap queue_of (sym has.same.coins);
     fits = subst (λ m. AreUndoable c.tip.height undo.ops (with_restored undo.expired m)) (sym maps_same)
         (fit_allows profile c.tip.height undo (maps_by c.tables) sound_here.1.fits);
-    spent_placed = all-weaker (IsPlaced spends spends_at tables) (HasSpentPlace tables) undo.ops (λ op placed. placed.coin) spent;
-    spent_rows = all-weaker (IsPlaced spends spends_at tables) (HasSpentRow tables) undo.ops (λ op placed. placed.rows) spent;
-    coins_filled = λ point here free. clearing.coins_filled point here
+    spent_placed = all-weaker (IsPlaced spends spends_at tables) (HasSpentPlace tables) undo.ops (λ op placed. placed.coin) has.spent;
+    spent_rows = all-weaker (IsPlaced spends spends_at tables) (HasSpentRow tables) undo.ops (λ op placed. placed.rows) has.spent;
+    coins_filled = λ point here free. has.filled.coins point here
         (or_both _ _ (or_left _ _ (or_left _ _ free)) (or_right (list_any (spends point) undo.ops || list_any (same_point point) empty.items) _ free));
-    queue_filled = λ height point here free. clearing.queue_filled height point here
+    queue_filled = λ height point here free. has.filled.queue height point here
         (or_both _ _ (or_left _ _ (or_left _ _ free)) (or_right _ (list_any (is_queued_at height point) undo.expired) free));
-    names_filled = clearing.names_filled;
-    none_empty = none;
-    room = room;
+    names_filled = has.filled.names;
+    none_empty = has.none;
+    room = has.room;
     row = returning.0;
     returns = returning.1;
   }

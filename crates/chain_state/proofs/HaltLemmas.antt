@@ -12,11 +12,14 @@ use Rattle.chain_names.specs.Coins.{entry_of}
 use Rattle.chain_names.specs.Tables.{coins_in, coin_places, queued_in, queue_places, queue_of, FilledBut}
 use Rattle.chain_names.proofs.Shown.{true_is_not_false}
 use Rattle.undo_laws.specs.Fits.{AreUndoable}
-use Rattle.chain_state.specs.Tables.{maps_by, HoldSame, MayHavePlaces}
-use Rattle.chain_state.specs.Work.{spends, HasSpentPlace, HasSpentRow, may_be_empty, may_be_empty_at, IsWork, Halts}
-use Rattle.chain_state.specs.declared.tables.Tables.{Tables}
+use Rattle.name_tables.specs.Tables.{HoldSame}
+use Rattle.name_tables.specs.Moving.{MayHavePlaces}
+use Rattle.chain_state.specs.Tables.{maps_by}
+use Rattle.name_tables.specs.Places.{spends}
+use Rattle.chain_state.specs.Work.{HasSpentPlace, HasSpentRow, may_be_empty, may_be_empty_at, IsWork, Halts}
+use Rattle.name_tables.specs.declared.tables.Tables.{Tables}
 use Rattle.chain_state.specs.declared.work.Work.{Work}
-use Rattle.chain_state.proofs.WorkLemmas.{all-weaker, or_left, or_right, or_both}
+use Rattle.name_tables.proofs.ListLemmas.{all-weaker, or_left, or_right, or_both}
 use Rattle.chain_state.proofs.BackLemmas.{any_point-more, row_empty-less}
 
 -- where two functions agree but for one key, and that is another one

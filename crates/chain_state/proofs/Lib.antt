@@ -1,7 +1,6 @@
 pub mod WorkLemmas
 pub mod MoveLemmas
 pub mod BackLemmas
-pub mod TableLemmas
 pub mod HaltLemmas
 pub mod NameLemmas
 pub mod UndoneLemmas
@@ -9,13 +8,9 @@ pub mod StandLemmas
 pub mod VerdictLemmas
 pub mod TransactionLemmas
 pub mod PlaceLemmas
-pub mod OrderLemmas
-pub mod ExpiryLemmas
 pub mod CostLemmas
-pub mod RestoreLemmas
 pub mod WholeLemmas
 pub mod ClearLemmas
-pub mod RoomLemmas
 pub mod MeasureLemmas
 pub mod WorkedLemmas
 pub mod ChainLemmas

@@ -23,25 +23,14 @@ use Rattle.chain_names.proofs.Shown.{true_is_not_false}
 use Rattle.chain_names.proofs.UndoLemmas.{moved_and_back}
 use Rattle.undo_laws.specs.Fits.{IsMadeNamed, IsUndoable, AreUndoable}
 use Rattle.chain_state.specs.Tables.{maps_by}
-use Rattle.chain_state.specs.Work.{spends, spends_at, HasSpentPlace, HasSpentRow, may_be_empty, may_be_empty_at, IsWork, Advances}
+use Rattle.name_tables.specs.Places.{spends, spends_at}
+use Rattle.chain_state.specs.Work.{HasSpentPlace, HasSpentRow, may_be_empty, may_be_empty_at, IsWork, Advances}
 use Rattle.chain_state.specs.declared.work.Work.{Work}
-use Rattle.chain_state.proofs.WorkLemmas.{list_any-more, all-more, all-weaker, fits-more, or_left, or_right, empty-weaker, empty_at-weaker, filled-made, place-kept}
+use Rattle.name_tables.proofs.ListLemmas.{all-more, all-weaker, or_left, or_right}
+use Rattle.name_tables.proofs.PlaceLemmas.{place-kept, coin-placed, queued-placed, rows-kept}
+use Rattle.chain_state.proofs.WorkLemmas.{list_any-more, fits-more, empty-weaker, empty_at-weaker, filled-made}
 
 -- ---- what is held has a place
-
-held_placed : (slot : Option (Option Coin)) (coin : Coin) → filled_by slot ≡ Some coin → is_some slot ≡ true
-held_placed None coin e = absurd cc
-held_placed (Some value) coin e = refl
-
-pub coin-placed : (slots : CoinSlots) (point : OutPoint) (coin : Coin) → coins_in slots point ≡ Some coin → coin_places slots point ≡ true
-coin-placed slots point coin e = held_placed (lookup (same_point point) slots) coin e
-
-filled_placed : (slot : Option Bool) → is_filled slot ≡ true → is_some slot ≡ true
-filled_placed None e = absurd (true_is_not_false (sym e))
-filled_placed (Some value) e = refl
-
-pub queued-placed : (slots : QueueSlots) (height : ℕ) (point : OutPoint) → queued_in slots height point ≡ true → queue_places slots height point ≡ true
-queued-placed slots height point e = filled_placed (lookup (same_point point) (row_at slots height)) e
 
 -- ---- histories
 
@@ -68,17 +57,6 @@ points_apart coins a b coin none some true is =
     let none_is_some : None ≡ Some coin = sym none ∙ ap coins ((same_point-Decides a b).0 is) ∙ some in
     absurd cc
 points_apart coins a b coin none some false is = refl
-
-pub rows-kept : (rows : ℕ → OutPoint → Bool) (u v : ℕ) (k q : OutPoint) → rows v q ≡ true → changed nat_eq rows u (changed same_point (rows u) k true) v q ≡ true
-rows-kept rows u v k q e = by_row (u == v) refl
-  where
-    in_row : (b : Bool) → rows u q ≡ true → cond b true (rows u q) ≡ true
-    in_row true here = refl
-    in_row false here = here
-
-    by_row : (b : Bool) → (u == v) ≡ b → cond {A = OutPoint → Bool} b (changed same_point (rows u) k true) (rows v) q ≡ true
-    by_row true is = in_row (same_point k q) (ap (λ n. rows n q) ((unsigned_Decides u v).0 is) ∙ e)
-    by_row false is = e
 
 -- ---- a row of the queue after a move
 

@@ -14,8 +14,9 @@ use Rattle.chain_names.specs.Changes.{moved, moved_back, back_op, with_spent}
 use Rattle.chain_names.specs.Tables.{coins_in, names_in, is_named_at}
 use Rattle.undo_laws.specs.Fits.{IsMadeNamed, IsUndoable}
 use Rattle.chain_state.specs.Tables.{maps_by}
-use Rattle.chain_state.specs.Work.{spends, spends_at, IsWork, Advances, ShiftsOnly, undo_of_opening, undo_of_update}
-use Rattle.chain_state.specs.declared.tables.Shift.{Shift}
+use Rattle.name_tables.specs.Places.{spends, spends_at}
+use Rattle.chain_state.specs.Work.{IsWork, Advances, ShiftsOnly, undo_of_opening, undo_of_update}
+use Rattle.name_tables.specs.declared.moving.Shift.{Shift}
 use Rattle.chain_state.specs.declared.work.Work.{Work}
 use Rattle.chain_state.proofs.MoveLemmas.{move_advances}
 

@@ -12,34 +12,15 @@ use Rattle.chain_names.specs.Tables.{CoinSlots, QueueSlots, coins_in, coin_place
 use Rattle.chain_names.proofs.Points.{same_point-Decides}
 use Rattle.chain_names.proofs.Filled.{filled-unplaced, filled-weaker}
 use Rattle.chain_names.proofs.Shown.{true_is_not_false}
-use Rattle.chain_state.specs.Tables.{HoldSame, AreFilled}
+use Rattle.name_tables.specs.Tables.{HoldSame, AreFilled}
 use Rattle.chain_state.specs.Work.{may_be_empty, may_be_empty_at, IsWork}
 use Rattle.chain_state.specs.declared.work.Work.{Work}
-use Rattle.chain_state.proofs.WorkLemmas.{list_any-more, or_both}
-use Rattle.chain_state.proofs.MoveLemmas.{coin-placed, queued-placed}
+use Rattle.name_tables.proofs.ListLemmas.{or_both}
+use Rattle.chain_state.proofs.WorkLemmas.{list_any-more}
+use Rattle.name_tables.proofs.PlaceLemmas.{coin-placed, queued-placed, coins_all_filled, rows_all_filled}
 use Rattle.chain_state.proofs.BackLemmas.{same_point-swap}
 
 -- ---- all places are filled
-
-both_ways : (a b : Bool) → (a ≡ true → b ≡ true) → (b ≡ true → a ≡ true) → a ≡ b
-both_ways true b f g = sym (f refl)
-both_ways false true f g = g refl
-both_ways false false f g = refl
-
-some_coin : (coin : Option Coin) (P : Type 0) → is_some coin ≡ true → ((c : Coin) → coin ≡ Some c → P) → P
-some_coin None P e f = absurd (true_is_not_false (sym e))
-some_coin (Some c) P e f = f c refl
-
-pub coins_all_filled : (slots : CoinSlots) (touched : OutPoint → Bool) → ((point : OutPoint) → touched point ≡ false)
-    → FilledBut touched (coin_places slots) (λ point. is_some (coins_in slots point)) → AreCoinsFilled slots
-coins_all_filled slots touched none filled point =
-    both_ways _ _ (λ here. filled point here (none point))
-    (λ held. some_coin (coins_in slots point) (coin_places slots point ≡ true) held (λ c e. coin-placed slots point c e))
-
-pub rows_all_filled : (slots : QueueSlots) (touched : ℕ → OutPoint → Bool) → ((height : ℕ) (point : OutPoint) → touched height point ≡ false)
-    → ((height : ℕ) → FilledBut (touched height) (queue_places slots height) (queued_in slots height)) → IsQueueFilled slots
-rows_all_filled slots touched none filled height point =
-    both_ways _ _ (λ here. filled height point here (none height point)) (λ held. queued-placed slots height point held)
 
 -- ---- one place fewer that may be empty
 

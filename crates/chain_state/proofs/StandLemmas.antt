@@ -15,7 +15,7 @@ use Rattle.chain_names.specs.Changes.{moved, after_verdict}
 use Rattle.chain_names.proofs.Changed.{changed_mapped}
 use Rattle.chain_names.proofs.LogLemmas.{fresh_stands}
 use Rattle.chain_state.specs.Tables.{IsBelow, IsStanding}
-use Rattle.chain_state.proofs.WorkLemmas.{all-more}
+use Rattle.name_tables.proofs.ListLemmas.{all-more}
 
 -- an entry is no higher than its history
 pub entry_below : (next : ℕ) (items : List Item) (item : Item) → AllByRecursion (IsBelow next) items → entry_of items ≡ Some item → item.height < next

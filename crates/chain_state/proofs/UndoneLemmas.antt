@@ -17,10 +17,7 @@ use Rattle.chain_state.specs.Tables.{maps_by}
 use Rattle.chain_state.specs.Work.{HasSpentPlace, HasSpentRow, may_be_empty, may_be_empty_at, IsWork, Undoes, GoesBack, with_op}
 use Rattle.chain_state.specs.declared.work.Work.{Work}
 use Rattle.chain_state.proofs.WorkLemmas.{fits-less}
-
-pub all-last : {A : Type 0} (P : A → Type 0) (xs : List A) (x : A) → AllByRecursion P (xs ++ x ∷ []) → P x
-all-last P [] x all = all.0
-all-last P (y ∷ ys) x all = all-last P ys x all.1
+use Rattle.name_tables.proofs.ListLemmas.{all-last}
 
 and_true : (b : Bool) → b ≡ true → (b && true) ≡ true
 and_true b e = ap (λ x. x && true) e

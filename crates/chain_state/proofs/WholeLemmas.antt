@@ -22,16 +22,17 @@ use Rattle.chain_names.proofs.Shown.{true_is_not_false}
 use Rattle.undo_laws.specs.Fits.{AreUndoable}
 use Rattle.chain_state.specs.Tables.{maps_by}
 use Rattle.chain_state.specs.Block.{IsReady}
-use Rattle.chain_state.specs.Work.{spends, spends_at, may_be_empty, may_be_empty_at, IsWork}
-use Rattle.chain_state.specs.Expiring.{IsDueCoin, Expires, CanReturn, Restores}
+use Rattle.name_tables.specs.Places.{spends, spends_at, is_queued_at}
+use Rattle.chain_state.specs.Work.{may_be_empty, may_be_empty_at, IsWork}
+use Rattle.name_tables.specs.Expiring.{IsDueCoin, Expires, CanReturn, Restores}
 use Rattle.undo_laws.specs.Expired.{is_held_at, IsGone, IsSortedByPoint}
-use Rattle.chain_state.specs.Whole.{is_queued_at, maps_returned, IsWhole, Finishes}
-use Rattle.chain_state.specs.declared.tables.Tables.{Tables}
+use Rattle.chain_state.specs.Whole.{maps_returned, IsWhole, Finishes}
+use Rattle.name_tables.specs.declared.tables.Tables.{Tables}
 use Rattle.chain_state.specs.declared.work.Work.{Work}
 use Rattle.chain_state.specs.declared.whole.Whole.{Whole}
-use Rattle.chain_state.proofs.ExpiryLemmas.{restored_other}
-use Rattle.chain_state.proofs.WorkLemmas.{or_left, or_right, or_both}
-use Rattle.chain_state.proofs.MoveLemmas.{coin-placed, queued-placed}
+use Rattle.name_tables.proofs.ExpiryLemmas.{restored_other}
+use Rattle.name_tables.proofs.ListLemmas.{or_left, or_right, or_both}
+use Rattle.name_tables.proofs.PlaceLemmas.{coin-placed, queued-placed}
 
 -- ---- what is restored at an outpoint
 

@@ -22,22 +22,17 @@ use Rattle.chain_names.proofs.Shown.{true_is_not_false}
 use Rattle.chain_names.proofs.UndoLemmas.{back_ops-append}
 use Rattle.undo_laws.specs.Fits.{IsUndoable, AreUndoable}
 use Rattle.chain_state.specs.Tables.{maps_by}
-use Rattle.chain_state.specs.Work.{spends, spends_at, HasSpentPlace, HasSpentRow, may_be_empty, may_be_empty_at, IsWork, Advances, with_commitment}
+use Rattle.name_tables.specs.Places.{spends, spends_at}
+use Rattle.chain_state.specs.Work.{HasSpentPlace, HasSpentRow, may_be_empty, may_be_empty_at, IsWork, Advances, with_commitment}
 use Rattle.chain_state.specs.declared.work.Work.{Work}
+use Rattle.name_tables.proofs.ListLemmas.{all-more, all-weaker, or_both, or_left, or_right}
+use Rattle.name_tables.proofs.PlaceLemmas.{place-kept}
 
 -- ---- lists with one item more
 
 pub list_any-more : {A : Type 0} (test : A → Bool) (xs : List A) (x : A) → list_any test (xs ++ x ∷ []) ≡ (list_any test xs || test x)
 list_any-more test [] x = grind (arith, common_steps)
 list_any-more test (y ∷ ys) x = grind (arith, common_steps, list_any-more test ys x)
-
-pub all-more : {A : Type 0} (P : A → Type 0) (xs : List A) (x : A) → AllByRecursion P xs → P x → AllByRecursion P (xs ++ x ∷ [])
-all-more P [] x all here = (here, tt)
-all-more P (y ∷ ys) x all here = (all.0, all-more P ys x all.1 here)
-
-pub all-weaker : {A : Type 0} (P Q : A → Type 0) (xs : List A) → ((x : A) → P x → Q x) → AllByRecursion P xs → AllByRecursion Q xs
-all-weaker P Q [] f all = tt
-all-weaker P Q (y ∷ ys) f all = (f y all.0, all-weaker P Q ys f all.1)
 
 pub fits-more : (height : ℕ) (ops : List UndoOp) (op : UndoOp) (maps : Maps) → AreUndoable height ops (back_op op maps) → IsUndoable height op maps → AreUndoable height (ops ++ op ∷ []) maps
 fits-more height [] op maps fits here = (tt, here)
@@ -52,17 +47,6 @@ fits-less height (first ∷ ops) op maps fits =
     ((rest.0, subst (IsUndoable height first) (back_ops-append ops (op ∷ []) maps) fits.1), rest.1)
 
 -- ---- booleans
-
-pub or_left : (a b : Bool) → (a || b) ≡ false → a ≡ false
-or_left true b e = e
-or_left false b e = refl
-
-pub or_right : (a b : Bool) → (a || b) ≡ false → b ≡ false
-or_right true b e = absurd (true_is_not_false e)
-or_right false b e = e
-
-pub or_both : (a b : Bool) → a ≡ false → b ≡ false → (a || b) ≡ false
-or_both a b e f = rw e f
 
 -- ---- places that may be empty
 
@@ -91,14 +75,6 @@ filled-made touched places held k filled q = made_at_filled touched places held 
 
 none_queued : (u : ℕ) → is_named_at u None ≡ false
 none_queued u = refl
-
--- what has a place keeps it where one more is made
-pub place-kept : (places : OutPoint → Bool) (k q : OutPoint) → places q ≡ true → changed same_point places k true q ≡ true
-place-kept places k q e = kept (same_point k q)
-  where
-    kept : (b : Bool) → cond b true (places q) ≡ true
-    kept true = refl
-    kept false = e
 
 module _ (w : Work) (made : OutPoint) (hash : Hash20) (coins : CoinSlots) (ops : Roomy UndoOp) (empty : Roomy OutPoint)
     (work : IsWork w) (fresh : coins_in w.tables.coins made ≡ None)

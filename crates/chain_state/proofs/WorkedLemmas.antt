@@ -7,12 +7,13 @@ use Rattle.chain_names.specs.declared.undo.UndoOp.{UndoOp}
 use Rattle.chain_names.specs.Changes.{undo_ops, back_ops}
 use Rattle.chain_names.specs.Tables.{coins_in, queued_in, queue_of}
 use Rattle.chain_names.proofs.BlockLemmas.{all_back}
-use Rattle.chain_state.specs.Tables.{maps_by, AreFilled}
+use Rattle.name_tables.specs.Tables.{AreFilled}
+use Rattle.chain_state.specs.Tables.{maps_by}
 use Rattle.chain_state.specs.Block.{AppliedAll, Stopped}
 use Rattle.chain_state.specs.Cost.{owed_for, all_touched}
 use Rattle.chain_state.specs.Work.{maps_before}
 use Rattle.chain_state.specs.Worked.{HandsBack}
-use Rattle.chain_state.specs.declared.tables.Tables.{Tables}
+use Rattle.name_tables.specs.declared.tables.Tables.{Tables}
 use Rattle.chain_state.specs.declared.whole.Whole.{Whole}
 use Rattle.chain_state.specs.declared.work.Work.{Work}
 

@@ -15,7 +15,7 @@ use Rattle.chain_state.specs.Measure.{AreMeasured}
 use Rattle.chain_state.specs.Tables.{maps_by}
 use Rattle.chain_state.specs.Whole.{IsWhole}
 use Rattle.chain_state.specs.Chain.{index_of, newest_hash}
-use Rattle.chain_state.specs.declared.tables.Tables.{Tables}
+use Rattle.name_tables.specs.declared.tables.Tables.{Tables}
 use Rattle.chain_state.specs.declared.whole.Whole.{Whole}
 
 -- the block's work as it stands in the tables, with what undoes it

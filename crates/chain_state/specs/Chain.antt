@@ -21,9 +21,10 @@ use Rattle.undo_records.specs.declared.parts.Parts.{Parts}
 use Rattle.undo_records.specs.declared.undo.Undo.{Undo}
 use Rattle.undo_records.specs.Writable.{IsWritable}
 use Rattle.chain_state.specs.Measure.{AreMeasured}
-use Rattle.chain_state.specs.Tables.{maps_by, AreFilled}
+use Rattle.name_tables.specs.Tables.{AreFilled}
+use Rattle.chain_state.specs.Tables.{maps_by}
 use Rattle.chain_state.specs.Whole.{IsWhole, maps_before_block}
-use Rattle.chain_state.specs.declared.tables.Tables.{Tables}
+use Rattle.name_tables.specs.declared.tables.Tables.{Tables}
 use Rattle.chain_state.specs.declared.whole.Whole.{Whole}
 
 pub record Indexed : Type 0 where

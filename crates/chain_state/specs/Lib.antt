@@ -2,13 +2,10 @@ pub mod Tables
 pub mod Work
 pub mod Cost
 pub mod Block
-pub mod Expiring
 pub mod Whole
 pub mod Worked
-pub mod Clearing
 pub mod Measure
 pub mod Chain
 pub mod Stage
-pub mod Placing
 pub mod Back
 pub mod StageBack

@@ -8,7 +8,7 @@ use Rattle.nmc_base.specs.Heights.{highest}
 use Rattle.nmc_base.specs.declared.hashes.Hash32.{Hash32}
 use Rattle.chain_state.specs.Chain.{Indexed, SameIndex, StagedIndex, rule_refused, IsStagedOn}
 use Rattle.chain_state.specs.Cost.{touched_by}
-use Rattle.chain_state.specs.declared.tables.Tables.{Tables}
+use Rattle.name_tables.specs.declared.tables.Tables.{Tables}
 use Rattle.chain_state.specs.declared.work.Work.{Work}
 use Rattle.chain_state.specs.declared.stage.Refusal.{Refusal}
 use Rattle.chain_state.specs.declared.stage.Refusal.TheVariants.{BadBlock, NotOnTip, HeightLimit, MerkleMismatch, Rule, JournalFull}

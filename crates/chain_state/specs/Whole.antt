@@ -11,18 +11,15 @@ use Rattle.chain_names.specs.Coins.{Maps}
 use Rattle.chain_names.specs.Changes.{restored, back_ops, without_expired}
 use Rattle.chain_names.specs.Tables.{coins_in, coin_places, names_in, queued_in, queue_places, queue_of, is_named_at, FilledBut, AreNamesFilled}
 use Rattle.undo_laws.specs.Fits.{AreUndoable}
-use Rattle.chain_state.specs.Tables.{maps_by, AreFilled}
+use Rattle.name_tables.specs.Tables.{AreFilled}
+use Rattle.chain_state.specs.Tables.{maps_by}
 use Rattle.chain_state.specs.Work.{HasSpentPlace, HasSpentRow, may_be_empty, may_be_empty_at}
-use Rattle.chain_state.specs.Expiring.{CanReturn}
+use Rattle.name_tables.specs.Expiring.{CanReturn}
 use Rattle.undo_laws.specs.Expired.{is_held_at, IsDue, IsSortedByPoint}
-use Rattle.chain_state.specs.declared.tables.Tables.{Tables}
+use Rattle.name_tables.specs.declared.tables.Tables.{Tables}
 use Rattle.chain_state.specs.declared.work.Work.{Work}
 use Rattle.chain_state.specs.declared.whole.Whole.{Whole}
 use Rattle.chain_state.specs.declared.whole.Committed.{Committed}
-
--- the coin expired at this outpoint, and was a name's of this height
-abbrev pub is_queued_at : ℕ → OutPoint → HeldCoin → Bool
-is_queued_at height point held = same_point held.at point && is_named_at height (Some held.coin)
 
 -- the maps with the coins back that expired
 abbrev pub maps_returned : Tables → List HeldCoin → Maps

@@ -13,22 +13,11 @@ use Rattle.chain_names.specs.Coins.{Maps, entry_of}
 use Rattle.chain_names.specs.Changes.{back_op, back_ops, with_spent, moved_back}
 use Rattle.chain_names.specs.Tables.{coins_in, coin_places, queued_in, queue_places, queue_of, is_named_at, FilledBut, AreNamesFilled}
 use Rattle.undo_laws.specs.Fits.{IsMadeNamed, IsUndoable, AreUndoable}
-use Rattle.chain_state.specs.declared.tables.Tables.{Tables}
-use Rattle.chain_state.specs.declared.tables.Shift.{Shift}
+use Rattle.name_tables.specs.declared.tables.Tables.{Tables}
+use Rattle.name_tables.specs.declared.moving.Shift.{Shift}
 use Rattle.chain_state.specs.declared.work.Work.{Work}
-use Rattle.chain_state.specs.Tables.{maps_by, Shifts}
-
--- the operation spent the outpoint
-abbrev pub spends : OutPoint → UndoOp → Bool
-spends point (undo_new made) = false
-spends point (undo_first made spent coin name before) = same_point spent point
-spends point (undo_update made spent coin name before) = same_point spent point
-
--- and the coin there was a name's, of this height
-abbrev pub spends_at : ℕ → OutPoint → UndoOp → Bool
-spends_at height point (undo_new made) = false
-spends_at height point (undo_first made spent coin name before) = is_named_at height (Some coin) && same_point spent point
-spends_at height point (undo_update made spent coin name before) = is_named_at height (Some coin) && same_point spent point
+use Rattle.name_tables.specs.Moving.{Shifts}
+use Rattle.chain_state.specs.Tables.{maps_by}
 
 -- ---- places
 

@@ -4,11 +4,12 @@ use Rattle.block_grammar.specs.Transaction.{Transaction}
 use Rattle.nmc_base.specs.declared.chain_ends.Profile.{Profile}
 use Rattle.chain_names.specs.Changes.{first_refused}
 use Rattle.chain_names.specs.Tables.{coins_in, queued_in, queue_of}
-use Rattle.chain_state.specs.Tables.{maps_by, AreFilled}
+use Rattle.name_tables.specs.Tables.{AreFilled}
+use Rattle.chain_state.specs.Tables.{maps_by}
 use Rattle.chain_state.specs.Block.{AppliedAll}
 use Rattle.chain_state.specs.Cost.{all_touched}
 use Rattle.chain_state.specs.Whole.{Finishes}
-use Rattle.chain_state.specs.declared.tables.Tables.{Tables}
+use Rattle.name_tables.specs.declared.tables.Tables.{Tables}
 use Rattle.chain_state.specs.declared.work.Work.{Work}
 use Rattle.chain_state.specs.declared.whole.Whole.{Whole as BlockWork}
 use Rattle.chain_state.specs.declared.worked.Worked.{Worked}

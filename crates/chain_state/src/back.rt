@@ -5,9 +5,9 @@ ghost use Rattle.chain_state.specs.Chain as index;
 
 use crate::chain::Chain;
 use crate::stage::split;
-use crate::tables::Tables;
 use crate::whole::Whole;
 use crate::work::Work;
+use name_tables::Tables;
 use nmc_base::{Base, Hash32, OutPoint, RoomyList, Steps, Tip};
 use std::alloc::Global;
 use std::marker::Model;
@@ -94,7 +94,7 @@ impl Chain {
         let Some(undo) = undos.as_slice().last() else {
             unreachable!()
         };
-        match tables.make_room(alloc, undo, steps) {
+        match tables.make_room(alloc, undo.ops.as_slice(), undo.expired.as_slice(), steps) {
             Ok(empty) => BackOutcome::StagedBack(StagedBack {
                 base,
                 tip,
@@ -154,8 +154,7 @@ impl StagedBack {
         let Some(undo) = undos.as_slice().last() else {
             unreachable!()
         };
-        tables.clear_spent(undo.ops.as_slice(), steps);
-        tables.clear_expired(undo.expired.as_slice(), steps);
+        tables.clear(undo.ops.as_slice(), undo.expired.as_slice(), steps);
         Chain::joined(base, tip, tables, undos)
     }
 }

@@ -1,11 +1,11 @@
 ghost use Rattle.std.specs.Prelude.{◌≡◌, ◌+◌, ◌≤◌, IfOk};
 ghost use Rattle.nmc_base.specs.declared.limits.TheConstants.{HIGHEST_HEIGHT};
-ghost use Rattle.chain_state.specs.Tables.{AreFilled};
+ghost use Rattle.name_tables.specs.Tables.{AreFilled};
 ghost use Rattle.chain_state.specs.Chain.{IsAtBase, IsIndexed, IsConnected, IsAbandoned, ArePartsOf, index_of, tables_of};
 ghost use Rattle.chain_state.specs.Stage.{commit_steps};
 
-use crate::tables::Tables;
 use crate::whole::Whole;
+use name_tables::Tables;
 use nmc_base::{Base, Hash32, NoMemory, RoomyList, Steps, Tip};
 use std::alloc::Global;
 use std::marker::Model;

@@ -4,12 +4,8 @@
 mod back;
 mod block;
 mod chain;
-mod clearing;
-mod expiry;
 mod live;
-mod placing;
 mod stage;
-mod tables;
 mod view;
 mod whole;
 mod work;
@@ -17,5 +13,5 @@ mod worked;
 
 pub use back::{BackOutcome, BackRefusal, StagedBack};
 pub use chain::{Chain, StagedChain};
+pub use name_tables::Tables;
 pub use stage::{Refusal, StageOutcome};
-pub use tables::Tables;

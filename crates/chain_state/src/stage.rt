@@ -7,11 +7,11 @@ ghost use Rattle.chain_state.specs.Stage.{Begins, HasIdsAndRoot, StagesNames, St
 
 use crate::block::{behind_coinbase, ids_behind};
 use crate::chain::{Chain, StagedChain};
-use crate::tables::Tables;
 use crate::work::Work;
 use crate::worked::Worked;
 use block_reader::{Block, root_of, txids};
 use name_rules::RuleRefusal;
+use name_tables::Tables;
 use nmc_base::{HIGHEST_HEIGHT, Hash32, NoMemory, RoomyList, Steps};
 use std::alloc::Global;
 use std::sync::ledger::Ledger;

@@ -5,9 +5,9 @@ ghost use Rattle.chain_names.specs.Tables.{names_in};
 ghost use Rattle.nmc_base.specs.Heights.{highest};
 ghost use Rattle.chain_state.specs.Tables.{maps_by};
 
-use crate::tables::Tables;
 use chain_names::Coin;
 use name_rules::{CoinRef, NameView};
+use name_tables::Tables;
 use nmc_base::{OutPoint, Steps};
 use std::sync::ledger::Ledger;
 

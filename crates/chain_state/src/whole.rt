@@ -1,13 +1,15 @@
-ghost use Rattle.std.specs.Prelude.{◌≡◌, ◌+◌, ◌*◌, ◌≤◌, length, IfOk, IfErr};
+ghost use Rattle.std.specs.Prelude.{◌≡◌, ◌+◌, ◌*◌, ◌<◌, ◌≤◌, suc, length, IfSome, IfNone, IfOk, IfErr};
+ghost use Rattle.nmc_base.specs.Expiry.{expiry_depth};
+ghost use Rattle.nmc_base.specs.Heights.{highest};
 ghost use Rattle.chain_names.specs.Tables.{coins_in, queued_in, queue_of};
 ghost use Rattle.chain_state.specs.Block.{IsReady};
-ghost use Rattle.chain_state.specs.Tables.{maps_by, AreFilled};
+ghost use Rattle.name_tables.specs.Tables.{AreFilled};
+ghost use Rattle.chain_state.specs.Tables.{maps_by};
 ghost use Rattle.chain_state.specs.Whole.{IsWhole, Finishes, Commits, maps_before_block};
 
-use crate::expiry::due_row;
-use crate::tables::Tables;
 use crate::work::Work;
 use chain_names::{HeldCoin, UndoOp};
+use name_tables::Tables;
 use nmc_base::{Profile, RoomyList, Steps};
 use std::alloc::Global;
 use std::sync::ledger::Ledger;
@@ -25,6 +27,17 @@ pub(crate) struct Committed {
     pub(crate) tables: Tables,
     pub(crate) ops: RoomyList<UndoOp>,
     pub(crate) expired: RoomyList<HeldCoin>,
+}
+
+/// The height at which the names were given their values whose coins are due after a block at this height, or None where
+/// there is no such height.
+pub(crate) fn due_row(profile: Profile, height: u32) -> Option<u32>
+    requires { height ≤ highest }
+    ensures some { IfSome result (λ row. row + expiry_depth profile (suc height) ≡ suc height) }
+    ensures none { IfNone result (suc height < expiry_depth profile (suc height)) }
+{
+    let next = height + 1;
+    next.checked_sub(profile.depth(next))
 }
 
 impl Work {
@@ -76,8 +89,8 @@ impl Whole {
     {
         let mut work = self.work;
         let expired = self.expired;
-        work.tables.clear_spent(work.ops.as_slice(), steps);
-        work.tables.clear_expired(expired.as_slice(), steps);
+        work.tables
+            .clear(work.ops.as_slice(), expired.as_slice(), steps);
         Committed {
             tables: work.tables,
             ops: work.ops,

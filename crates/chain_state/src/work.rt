@@ -3,11 +3,12 @@ ghost use Rattle.chain_names.specs.declared.undo.UndoOp.TheVariants.{New as undo
 ghost use Rattle.chain_names.specs.declared.coin.Coin.{Coin};
 ghost use Rattle.chain_names.specs.Tables.{coins_in, queued_in, queue_of};
 ghost use Rattle.chain_names.specs.Changes.{back_op, back_ops, moved, moved_back};
-ghost use Rattle.chain_state.specs.Tables.{maps_by, HoldSame, AreFilled};
+ghost use Rattle.name_tables.specs.Tables.{HoldSame, AreFilled};
+ghost use Rattle.chain_state.specs.Tables.{maps_by};
 ghost use Rattle.chain_state.specs.Work.{IsWork, Advances, Halts, ShiftsOnly, GoesBack, Undoes, maps_before, with_commitment, with_op, undo_of_opening, undo_of_update};
 
-use crate::tables::{Shift, Tables};
 use chain_names::{Coin, UndoOp};
+use name_tables::{Shift, Tables};
 use nmc_base::{Hash20, NoMemory, OutPoint, RoomyList, Steps};
 use std::alloc::Global;
 use std::sync::ledger::Ledger;

@@ -5,11 +5,11 @@ ghost use Rattle.block_reader.specs.Rows.{seen_row};
 ghost use Rattle.chain_state.specs.Block.{IsReady};
 ghost use Rattle.chain_state.specs.Worked.{WorksOn, IsPaid};
 
-use crate::tables::Tables;
 use crate::whole::Whole;
 use crate::work::Work;
 use block_reader::Txs;
 use chain_names::RuleRefusal;
+use name_tables::Tables;
 use nmc_base::{Hash32, Profile, Steps};
 use std::alloc::Global;
 use std::sync::ledger::Ledger;

@@ -1,14 +1,13 @@
-use Rattle.std.proofs.Common.{◌≡◌, ◌-◌, List, [], length, refl, sym, ap, subst, ◌∙◌}
+use Rattle.std.proofs.Common.{◌≡◌, ◌-◌, List, length, refl, sym, ap, subst, ◌∙◌}
 use Rattle.std.specs.Prelude.{Some, slice_get}
 use Rattle.undo_records.specs.declared.undo.Undo.{Undo}
 use Rattle.chain_names.specs.Coins.{Maps}
 use Rattle.chain_names.specs.Tables.{queue_of}
 use Rattle.chain_state.specs.Back.{block_work}
 use Rattle.chain_state.specs.Chain.{Indexed, SameIndex, index_of}
-use Rattle.chain_state.specs.Clearing.{IsClearing}
 use Rattle.chain_state.specs.Whole.{IsWhole}
 use Rattle.chain_state.specs.declared.whole.Whole.{Whole}
-use Rattle.chain_state.proofs.ClearLemmas.{whole_clearing, committed}
+use Rattle.chain_state.proofs.ClearLemmas.{cleared, whole_filled, committed}
 use Rattle.chain_state.proofs.DisconnectLemmas.{EndsIn, ends_in, none_last, never_none, whole_back, abandoned_back}
 use Rattle.chain_state.proofs.back.StagedBack.abandon.Goals as goal
 
@@ -25,10 +24,10 @@ joined-requires g c =
     let ends : EndsIn s.undos.items undo = ends_in s.undos.items undo (subst (λ (l : List Undo). slice_get l (length l - 1) ≡ Some undo) c.as_slice.ensures (sym c.in-Some.ensures.value)) in
     let work : Whole = block_work s.tables undo.ops undo.expired s.empty s.tip.height in
     let whole : IsWhole work = whole_back s.base s.tip s.tables s.undos s.empty c.self.invariant undo ends.front ends.is in
-    let spent = c.clear_spent.ensures.clearing s.tables undo.expired.items (subst (λ ops. IsClearing s.tables s.tables ops undo.expired.items) (sym c.as_slice-2.ensures) (whole_clearing work whole)) in
-    let cleared = c.clear_expired.ensures.clearing s.tables (subst (λ held. IsClearing s.tables c.clear_spent.new.self [] held) (sym c.as_slice-3.ensures) spent) in
-    let commits = committed work c.clear_expired.new.self whole cleared in
-    abandoned_back s.base s.tip s.tables s.undos s.empty c.self.invariant c.clear_expired.new.self commits.maps commits.queue commits.filled
+    let filled = cleared s.tables c.clear.new.self undo.ops.items c.as_slice-2.result.now undo.expired.items c.as_slice-3.result.now c.as_slice-2.ensures c.as_slice-3.ensures
+    c.clear.ensures.filled (whole_filled work whole) in
+    let commits = committed work c.clear.new.self whole c.clear.ensures.same filled in
+    abandoned_back s.base s.tip s.tables s.undos s.empty c.self.invariant c.clear.new.self commits.maps commits.queue commits.filled
 
 pub returns : goal.returns
 returns g c =
@@ -37,10 +36,10 @@ returns g c =
     let ends : EndsIn s.undos.items undo = ends_in s.undos.items undo (subst (λ (l : List Undo). slice_get l (length l - 1) ≡ Some undo) c.as_slice.ensures (sym c.in-Some.ensures.value)) in
     let work : Whole = block_work s.tables undo.ops undo.expired s.empty s.tip.height in
     let whole : IsWhole work = whole_back s.base s.tip s.tables s.undos s.empty c.self.invariant undo ends.front ends.is in
-    let spent = c.clear_spent.ensures.clearing s.tables undo.expired.items (subst (λ ops. IsClearing s.tables s.tables ops undo.expired.items) (sym c.as_slice-2.ensures) (whole_clearing work whole)) in
-    let cleared = c.clear_expired.ensures.clearing s.tables (subst (λ held. IsClearing s.tables c.clear_spent.new.self [] held) (sym c.as_slice-3.ensures) spent) in
-    let commits = committed work c.clear_expired.new.self whole cleared in
-    let same : SameIndex (index_of s.base s.tip c.clear_expired.new.self s.undos) (index_of s.base s.tip s.tables s.undos) =
+    let filled = cleared s.tables c.clear.new.self undo.ops.items c.as_slice-2.result.now undo.expired.items c.as_slice-3.result.now c.as_slice-2.ensures c.as_slice-3.ensures
+    c.clear.ensures.filled (whole_filled work whole) in
+    let commits = committed work c.clear.new.self whole c.clear.ensures.same filled in
+    let same : SameIndex (index_of s.base s.tip c.clear.new.self s.undos) (index_of s.base s.tip s.tables s.undos) =
     record { base = refl; tip = refl; maps = commits.maps; queue = commits.queue ∙ ap (λ (m : Maps). queue_of m.coins) commits.maps ∙ sym whole.queue; undos = refl } in
     subst (λ (x : Indexed). SameIndex c.joined.result x) c.self.view_is
     (subst (λ (x : Indexed). SameIndex x (index_of s.base s.tip s.tables s.undos)) (sym c.joined.ensures) same)

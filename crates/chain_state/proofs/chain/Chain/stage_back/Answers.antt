@@ -4,11 +4,10 @@ use Rattle.nmc_base.specs.Roomy.{Roomy}
 use Rattle.undo_records.specs.declared.undo.Undo.{Undo}
 use Rattle.undo_records.specs.Seen.{seen_undo}
 use Rattle.chain_state.specs.Chain.{Indexed, SameIndex, indexed_of, index_of, newest_first}
-use Rattle.chain_state.specs.Clearing.{IsClearing}
 use Rattle.chain_state.specs.StageBack.{IsBackRefusal, IsStagedBackOn}
-use Rattle.chain_state.specs.declared.tables.Tables.{Tables}
+use Rattle.name_tables.specs.declared.tables.Tables.{Tables}
 use Rattle.chain_state.specs.declared.back.BackRefusal.TheVariants.{NotTip}
-use Rattle.chain_state.proofs.DisconnectLemmas.{EndsIn, ends_in, newest_is, not_the_tip, staged_back, stage_again, same_again, newest_none, is_the_tip}
+use Rattle.chain_state.proofs.DisconnectLemmas.{EndsIn, ends_in, newest_is, not_the_tip, staged_back, stage_again, same_again, newest_none, is_the_tip, room_for}
 use Rattle.chain_state.proofs.chain.Chain.stage_back.Goals as goal
 
 pub returns-then-ne-clause-stages : goal.returns-then-ne-clause-stages
@@ -24,10 +23,10 @@ invariant_of-result g c =
     let undos = c.split-tables.result.1 in
     let ends : EndsIn undos.items undo = ends_in undos.items undo (subst (λ (l : List Undo). slice_get l (length l - 1) ≡ Some undo) c.as_slice.ensures (sym c.in-Some.ensures.value)) in
     let same : newest_first undos.items ≡ newest_first s.parts.undos.items = ap (λ (l : Roomy Undo). newest_first l.items) c.split-tables.ensures.undos in
-    let placed = c.in-Ok.ensures.ok in
+    let from : c.split-tables.result.0 ≡ (indexed_of s.base s.tip s.parts).tables = c.split-tables.ensures.tables in
     staged_back (indexed_of s.base s.tip s.parts) c.self.invariant (seen_undo undo) (newest_first ends.front) (sym same ∙ newest_is undos.items undo ends)
-    c.make_room.new.self (subst (λ (t : Tables). IsClearing t c.make_room.new.self undo.ops.items undo.expired.items) c.split-tables.ensures.tables placed.2)
-    placed.3 placed.4 c.in-Ok.empty placed.0 placed.1 undos same
+    c.make_room.new.self c.in-Ok.empty
+    (room_for c.split-tables.result.0 c.make_room.new.self c.in-Ok.empty from c.as_slice-2.ensures c.as_slice-3.ensures c.in-Ok.ensures.ok) undos same
 
 pub joined-requires : goal.joined-requires
 joined-requires g c =
@@ -62,5 +61,5 @@ returns-in-Ok-clause-stages g c =
     (record {
       above = some;
       hash_is = is_the_tip c.args.hash s.tip.hash c.if-ne.ensures;
-      same = same_again whole c.split-tables.result.0 from c.make_room.new.self undos (ap (λ (l : Roomy Undo). newest_first l.items) c.split-tables.ensures.undos) c.in-Ok.ensures.ok.2.same;
+      same = same_again whole c.split-tables.result.0 from c.make_room.new.self undos (ap (λ (l : Roomy Undo). newest_first l.items) c.split-tables.ensures.undos) c.in-Ok.ensures.ok.same;
     })

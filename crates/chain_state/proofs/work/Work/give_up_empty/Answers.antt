@@ -1,6 +1,6 @@
 use Rattle.std.proofs.Common.{◌∷◌, [], length, ap, arith, length-append}
 use Rattle.std.proofs.lemmas.Grind.{common_steps}
-use Rattle.chain_state.proofs.ExpiryLemmas.{one_more}
+use Rattle.name_tables.proofs.ListLemmas.{one_more}
 use Rattle.chain_state.proofs.PlaceLemmas.{gives_up, gave_up, given_up}
 use Rattle.chain_state.proofs.work.Work.give_up_empty.Goals as goal
 

@@ -1,6 +1,6 @@
 use Rattle.std.proofs.Common.{◌∷◌, [], length, refl, ap, arith, length-append}
 use Rattle.std.proofs.lemmas.Grind.{common_steps}
-use Rattle.chain_state.proofs.ExpiryLemmas.{one_more}
+use Rattle.name_tables.proofs.ListLemmas.{one_more}
 use Rattle.chain_state.proofs.UndoneLemmas.{popped_work, went_back, gone_back}
 use Rattle.chain_state.proofs.work.Work.undo_all.Goals as goal
 

@@ -3,7 +3,7 @@ use Rattle.chain_names.specs.declared.undo.UndoOp.TheVariants.{New as undo_new}
 use Rattle.chain_names.specs.Tables.{names_in}
 use Rattle.chain_state.specs.Work.{with_op}
 use Rattle.chain_state.proofs.BackLemmas.{uncommitted_work}
-use Rattle.chain_state.proofs.ExpiryLemmas.{one_more}
+use Rattle.name_tables.proofs.ListLemmas.{one_more}
 use Rattle.chain_state.proofs.work.Work.undo_commitment.Goals as goal
 
 pub returns-clause-back : goal.returns-clause-back

@@ -2,7 +2,7 @@ use Rattle.std.proofs.Common.{refl, arith}
 use Rattle.chain_state.specs.Work.{with_op}
 use Rattle.chain_state.proofs.BackLemmas.{unmoved_work}
 use Rattle.chain_state.proofs.UndoneLemmas.{spent_free, spent_place, spent_row}
-use Rattle.chain_state.proofs.ExpiryLemmas.{one_more}
+use Rattle.name_tables.proofs.ListLemmas.{one_more}
 use Rattle.chain_state.proofs.work.Work.undo_shift.Goals as goal
 
 pub shift_back-requires-clause-free : goal.shift_back-requires-clause-free

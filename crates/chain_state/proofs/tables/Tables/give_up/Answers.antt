@@ -1,7 +1,0 @@
-use Rattle.chain_state.proofs.ClearLemmas.{up_named}
-use Rattle.chain_state.proofs.tables.Tables.give_up.Goals as goal
-
-pub returns-in-Named-clause-up : goal.returns-in-Named-clause-up
-returns-in-Named-clause-up g c =
-    up_named c.args.self.now c.unplace.new.self c.unplace-in-Named.new.self c.args.at.now c.args.coin.now _ _ c.in-Named.is
-    c.unplace.ensures.coins c.unplace.ensures.places c.unplace-in-Named.ensures.queued c.unplace-in-Named.ensures.places

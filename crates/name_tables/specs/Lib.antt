@@ -1,0 +1,10 @@
+pub mod Tables
+pub mod Queueing
+pub mod Moving
+pub mod MovingSteps
+pub mod Expiring
+pub mod Taking
+pub mod Places
+pub mod Room
+pub mod Placing
+pub mod Clearing
