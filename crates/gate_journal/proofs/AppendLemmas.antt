@@ -12,7 +12,7 @@ use Rattle.disk_model.proofs.MomentLemmas.{weaken, join, last_moment}
 use Rattle.disk_model.proofs.ImageLemmas.{IsSettled-image}
 use Rattle.gate_journal.specs.Gate.{IsClosed, ClosedAfter, behind_gate, record_text}
 use Rattle.gate_journal.specs.Stand.{Stand, gate_of, text_before, IsAtGate}
-use Rattle.gate_journal.specs.Writes.{KeepsBelow, IsSettledBut, OpensGate, IsBeforeOrAfter}
+use Rattle.gate_journal.specs.Writes.{KeepsBelow, IsSettledBut, OpensGate, IsBeforeOrAfter, IsOpenedOrClosed, HoldsGate}
 use Rattle.gate_journal.proofs.WriteLemmas.{KeepsBelow-sync, KeepsBelow-refl, changes_then, length-put}
 
 -- a text, a closed gate, and anything
@@ -51,10 +51,10 @@ but_image gate bytes file image but is p low differ = is.kept p (but.settled p l
 but_size : (gate : ℕ) (bytes : List ℕ) (file : FileState) (image : List ℕ) → IsSettledBut gate bytes file → IsFileImage file image → length image ≡ length bytes
 but_size gate bytes file image but is = omega (arith, but.no_shorter, but.no_longer, is.no_shorter, is.no_longer)
 
--- with an open gate
-opened_is : (gate : ℕ) (bytes image : List ℕ) → gate < length bytes → length image ≡ length bytes → ((p : ℕ) → p < length bytes → p ≢ gate → slice_index image p ≡ slice_index bytes p)
-    → slice_index image gate ≡ 1 → image ≡ put bytes gate (1 ∷ [])
-opened_is gate bytes image inside size same is_open =
+-- with some byte at the gate
+gate_alone : (gate : ℕ) (bytes image : List ℕ) → gate < length bytes → length image ≡ length bytes → ((p : ℕ) → p < length bytes → p ≢ gate → slice_index image p ≡ slice_index bytes p)
+    → image ≡ put bytes gate (slice_index image gate ∷ [])
+gate_alone gate bytes image inside size same =
     let low_gate : gate < length image = omega arith in
     let whole : image ≡ take gate image ++ (slice_index image gate ∷ drop (gate + 1) image) =
     sym (take-append-drop gate image) ∙ ap (λ (l : List ℕ). take gate image ++ l) (drop_more image gate 0 low_gate) in
@@ -65,7 +65,26 @@ opened_is gate bytes image inside size same is_open =
     (λ p low. let differ : gate + 1 + p ≢ gate = omega arith in
     let within : gate + 1 + p < length bytes = omega (arith, length-drop (gate + 1) image) in
     get_or-drop (gate + 1) image p 0 ∙ same (gate + 1 + p) within differ ∙ sym (get_or-drop (gate + 1) bytes p 0)) in
-    whole ∙ (λ i. front i ++ (is_open i ∷ back i))
+    whole ∙ (λ i. front i ++ (slice_index image gate ∷ back i))
+
+-- with an open gate
+opened_is : (gate : ℕ) (bytes image : List ℕ) → gate < length bytes → length image ≡ length bytes → ((p : ℕ) → p < length bytes → p ≢ gate → slice_index image p ≡ slice_index bytes p)
+    → slice_index image gate ≡ 1 → image ≡ put bytes gate (1 ∷ [])
+opened_is gate bytes image inside size same is_open = gate_alone gate bytes image inside size same ∙ ap (λ (byte : ℕ). put bytes gate (byte ∷ [])) is_open
+
+opened_or_closed : (gate : ℕ) (bytes image : List ℕ) → image ≡ put bytes gate (slice_index image gate ∷ []) → IsOpenedOrClosed gate bytes image
+opened_or_closed gate bytes image is = elim (cases_eq (slice_index image gate) 1) [
+  | inl is_open ↦ inl (is ∙ ap (λ (byte : ℕ). put bytes gate (byte ∷ [])) is_open)
+  | inr shut ↦ inr (slice_index image gate, shut, is)
+]
+
+-- where each byte but the gate's is settled, each image holds the gate open or closed
+pub holds_gate : (file gate : ℕ) (bytes : List ℕ) (old new : Moments) → gate < length bytes → EachMoment (Changes file (λ _ new. IsSettledBut gate bytes new) old.now) old new
+    → EachMoment (HoldsGate file gate bytes old.now) old new
+holds_gate file gate bytes old new inside each = weaken (HoldsGate file gate bytes old.now) (λ files so. record {
+  image = λ image is. opened_or_closed gate bytes image (gate_alone gate bytes image inside (but_size gate bytes (files file) image so.here is) (but_image gate bytes (files file) image so.here is));
+  others = so.others;
+}) each
 
 -- the file once the record is appended: the text, an open gate, what was written behind it but its last byte,
 -- and that closed gate

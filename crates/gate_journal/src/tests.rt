@@ -1,4 +1,5 @@
 ghost use Rattle.std.specs.Prelude.{◌≡◌, ◌<◌, true, length, IsTrue, IfSome};
+ghost use Rattle.disk_model.specs.DiskSeen.{file_in};
 ghost use Rattle.gate_journal.specs.Stand.{IsAtGate};
 
 use crate::{AppendFault, Journal, JournalFault};
@@ -25,7 +26,7 @@ const TWO: &[u8] = b"k0123456789abcdefg|again|";
 fn begun<D: Disk>(disk: &mut D, limit: u64) -> Option<Journal>
     requires { 8 < limit }
     ensures reached { IfSome result (λ journal. journal.reached ≡ true) }
-    ensures at_gate { IsTrue D.tells → IfSome result (λ journal. IsAtGate journal ((D.moments disk.new).now journal.file)) }
+    ensures at_gate { IsTrue D.tells → IfSome result (λ journal. IsAtGate journal (file_in (D.seen disk.new) journal.file)) }
 {
     match disk.write_at(1, 0, &[0; 8]) {
         Ok(()) => Journal::create(disk, 1, 8, limit).ok(),

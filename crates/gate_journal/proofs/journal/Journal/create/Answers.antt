@@ -3,8 +3,8 @@ use Rattle.gate_journal.proofs.journal.Journal.create.Goals as goal
 
 pub returns-in_err-sync-clause-any_moment : goal.returns-in_err-sync-clause-any_moment
 returns-in_err-sync-clause-any_moment g c = λ tells.
-    written_then_synced c.args.file c.args.at 1 (g.D.Disk.moments c.args.disk.now) (g.D.Disk.moments c.write_at.new.self) (g.D.Disk.moments c.sync.new.self) (c.write_at.ensures.time tells) (c.sync.ensures.time tells)
+    written_then_synced c.args.file c.args.at 1 (g.D.Disk.seen c.args.disk.now).moments (g.D.Disk.seen c.write_at.new.self).moments (g.D.Disk.seen c.sync.new.self).moments (c.write_at.ensures.time tells) (c.sync.ensures.time tells)
 
 pub returns-clause-any_moment : goal.returns-clause-any_moment
 returns-clause-any_moment g c = λ tells.
-    written_then_synced c.args.file c.args.at 1 (g.D.Disk.moments c.args.disk.now) (g.D.Disk.moments c.write_at.new.self) (g.D.Disk.moments c.sync.new.self) (c.write_at.ensures.time tells) (c.sync.ensures.time tells)
+    written_then_synced c.args.file c.args.at 1 (g.D.Disk.seen c.args.disk.now).moments (g.D.Disk.seen c.write_at.new.self).moments (g.D.Disk.seen c.sync.new.self).moments (c.write_at.ensures.time tells) (c.sync.ensures.time tells)

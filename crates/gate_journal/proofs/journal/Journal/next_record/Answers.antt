@@ -22,8 +22,8 @@ returns-clause-unchanged g c = λ tells. unchanged_then (c.record_size.ensures.u
 -- a telling disk reads the whole record
 pub returns-then-count-size-clause-answer : goal.returns-then-count-size-clause-answer
 returns-then-count-size-clause-answer g c = λ tells.
-    let old = g.D.Disk.moments c.args.disk.now in
-    let m1 = g.D.Disk.moments c.record_size.new.disk in
+    let old = (g.D.Disk.seen c.args.disk.now).moments in
+    let m1 = (g.D.Disk.seen c.record_size.new.disk).moments in
     let stand = c.args.self.now in
     let size = c.in-Some.size in
     let buf = c.read.new.buf in
@@ -43,8 +43,8 @@ returns-then-count-size-clause-answer g c = λ tells.
 
 pub returns-clause-answer : goal.returns-clause-answer
 returns-clause-answer g c = λ tells.
-    let old = g.D.Disk.moments c.args.disk.now in
-    let m1 = g.D.Disk.moments c.record_size.new.disk in
+    let old = (g.D.Disk.seen c.args.disk.now).moments in
+    let m1 = (g.D.Disk.seen c.record_size.new.disk).moments in
     let stand = c.args.self.now in
     let size = c.in-Some.size in
     let buf = c.read.new.buf in
@@ -73,8 +73,8 @@ returns-clause-answer g c = λ tells.
 
 pub returns-clause-readable : goal.returns-clause-readable
 returns-clause-readable g c = λ tells.
-    let old = g.D.Disk.moments c.args.disk.now in
-    let m1 = g.D.Disk.moments c.record_size.new.disk in
+    let old = (g.D.Disk.seen c.args.disk.now).moments in
+    let m1 = (g.D.Disk.seen c.record_size.new.disk).moments in
     let stand = c.args.self.now in
     let size = c.in-Some.size in
     let buf = c.read.new.buf in
@@ -95,7 +95,7 @@ returns-clause-readable g c = λ tells.
     let file_is = ap (λ (s : Stand). s.file) c.self.view_is in
     let length_is = ap (λ (s : Stand). s.length) c.self.view_is in
     let limit_is = ap (λ (s : Stand). s.limit) c.self.view_is in
-    let m2 = g.D.Disk.moments c.read.new.self in
+    let m2 = (g.D.Disk.seen c.read.new.self).moments in
     let now_is : m2.now ≡ old.now = last_moment (unchanged_then (c.record_size.ensures.unchanged tells) (c.read.ensures.time tells)) in
     let next = c.self.inside.length + (5 + size) in
     let settled = (c.requires.readable tells).settled in
@@ -106,8 +106,8 @@ returns-clause-readable g c = λ tells.
 
 pub returns-clause-text : goal.returns-clause-text
 returns-clause-text g c = λ tells more.
-    let old = g.D.Disk.moments c.args.disk.now in
-    let m1 = g.D.Disk.moments c.record_size.new.disk in
+    let old = (g.D.Disk.seen c.args.disk.now).moments in
+    let m1 = (g.D.Disk.seen c.record_size.new.disk).moments in
     let stand = c.args.self.now in
     let size = c.in-Some.size in
     let buf = c.read.new.buf in
@@ -128,7 +128,7 @@ returns-clause-text g c = λ tells more.
     let file_is = ap (λ (s : Stand). s.file) c.self.view_is in
     let length_is = ap (λ (s : Stand). s.length) c.self.view_is in
     let limit_is = ap (λ (s : Stand). s.limit) c.self.view_is in
-    let m2 = g.D.Disk.moments c.read.new.self in
+    let m2 = (g.D.Disk.seen c.read.new.self).moments in
     let now_is : m2.now ≡ old.now = last_moment (unchanged_then (c.record_size.ensures.unchanged tells) (c.read.ensures.time tells)) in
     let next = c.self.inside.length + (5 + size) in
     let place : next - 1 ≡ gate_of stand + length (record_text buf) = omega (arith, length_is, whole, some) in
