@@ -249,7 +249,7 @@ impl MemoryDisk {
 #[cfg(test)]
 impl MemoryDisk {
     /// As if the list of calls had found no memory.
-    pub fn fill_list(&mut self) {
+    pub(crate) fn fill_list(&mut self) {
         self.is_full = true;
     }
 }

@@ -1,6 +1,6 @@
 use Rattle.std.specs.Prelude.{IsTrue}
 use Rattle.gate_journal.specs.Stand.{IsReadable}
-use Rattle.gate_journal.proofs.tests.records.Given as goal
+use Rattle.gate_journal.proofs.tests.reads_four.Given as goal
 use Rattle.disk_model.specs.DiskSeen.{file_in}
 
 abbrev pub invariant-records : goal.invariant-records
