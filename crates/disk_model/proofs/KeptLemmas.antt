@@ -186,9 +186,8 @@ sync_settles old new file failed (Ok x) keeps =
     subst IsSettled (sym (seen_by old new file synced (files_listed old new (call_on file synced) keeps.first keeps.ok.kept))) (IsSettled-synced (seen (moments_of old) file))
 sync_settles old new file failed (Err e) keeps = tt
 
-pub sync_seen : {T E : Type 0} (old new : DiskLog) (file : ℕ) (result : Result T E) → KeepsCall (call_on file synced) (call_on file looked) old new result
-    → seen (moments_of new) file ≡ seen (moments_of old) file
-sync_seen old new file (Ok x) keeps =
+pub sync_seen : {T E : Type 0} (old new : DiskLog) (file : ℕ) (failed : DiskCall) (result : Result T E) → KeepsCall (call_on file synced) failed old new result
+    → OnOk result (seen (moments_of new) file ≡ seen (moments_of old) file)
+sync_seen old new file failed (Ok x) keeps =
     ap (λ (s : FileState). s.bytes) (seen_by old new file synced (files_listed old new (call_on file synced) keeps.first keeps.ok.kept))
-sync_seen old new file (Err e) keeps =
-    ap (λ (s : FileState). s.bytes) (seen_by old new file looked (files_failed old new (call_on file looked) keeps.first keeps.err.kept))
+sync_seen old new file failed (Err e) keeps = tt

@@ -2,6 +2,7 @@ pub mod FileState
 pub mod Moments
 pub mod Changes
 pub mod Reads
+pub mod DiskSeen
 pub mod Calls
 pub mod Touched
 pub mod MemoryLog

@@ -1,8 +1,9 @@
 -- A disk in memory as contracts see it: what its files held at first, and every call since.
 use Rattle.std.specs.Prelude.{◌≡◌, ◌⊎◌, ℕ, true, false, if◌then◌else◌, nat_lt, List, [], ◌∷◌, ◌++◌, length, take, slice_index_or, Option, None, Some, IsSome, Result, OnOk, OnErr}
-use Rattle.fault_counts.specs.Counts.{Counts, fresh_counts, is_next_listed, after_call as counted, after_refusal}
+use Rattle.fault_counts.specs.Counts.{Counts, faults_of, fresh_counts, is_next_listed, after_call as counted, after_refusal}
 use Rattle.disk_model.specs.FileState.{synced_file}
 use Rattle.disk_model.specs.Moments.{Files, Moments, instead}
+use Rattle.disk_model.specs.DiskSeen.{DiskSeen}
 use Rattle.disk_model.specs.Calls.{DiskCall, after_call, moments_from, last_sync}
 use Rattle.disk_model.specs.Touched.{Touched, touch_each}
 
@@ -33,6 +34,10 @@ moments_touched (Some touched) m = instead m (touch_each touched m.now)
 
 abbrev pub moments_of : DiskLog → Moments
 moments_of log = moments_touched log.together (moments_after log.first log.calls)
+
+-- the disk as contracts on any disk see it
+abbrev pub memory_seen : DiskLog → DiskSeen
+memory_seen log = record { moments = moments_of log; faults = faults_of log.counts }
 
 -- The files after so many of the calls. A number above those in the list means all calls, those that are kept
 -- together too.

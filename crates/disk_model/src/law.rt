@@ -1,7 +1,8 @@
 ghost use Rattle.std.specs.Prelude.{◌≡◌, ◌⊎◌, ℕ, ◌≤◌, List, IsTrue};
 ghost use Rattle.disk_model.specs.FileState.{IsFileImage, IsSettled};
 ghost use Rattle.disk_model.specs.Moments.{Files, Moments, EachMoment, IsImage, LeftSince, clock};
-ghost use Rattle.disk_model.specs.Reads.{seen};
+ghost use Rattle.disk_model.specs.Changes.{Changes, AfterSync};
+ghost use Rattle.disk_model.specs.DiskSeen.{file_in, bytes_in};
 
 use crate::disk::Disk;
 
@@ -27,10 +28,17 @@ pub fn images_of_moments<P: OfFiles>()
 /// The law of images. What reads give is one of the images that a crash now may leave, and of a file that
 /// is settled, as after a sync, it is the only one.
 pub fn images_of_a_disk<D: Disk>(disk: &D)
-    ensures reads { IsTrue D.tells → IsImage (D.moments disk.now).now (seen (D.moments disk.now)) }
+    ensures reads { IsTrue D.tells → IsImage (D.seen disk.now).moments.now (bytes_in (D.seen disk.now)) }
     ensures settled { (file : ℕ) (image : List ℕ)
-        → IsSettled ((D.moments disk.now).now file) → IsFileImage ((D.moments disk.now).now file) image
-        → image ≡ seen (D.moments disk.now) file }
+        → IsSettled (file_in (D.seen disk.now) file) → IsFileImage (file_in (D.seen disk.now) file) image
+        → image ≡ bytes_in (D.seen disk.now) file }
 {
     let _ = disk;
 }
+
+/// The law of syncs. A sync, done or failed, adds no image: what a crash may leave then, it may have left
+/// before.
+pub fn images_after_a_sync()
+    ensures { (file : ℕ) (old new : Files) (image : ℕ → List ℕ)
+        → Changes file AfterSync old new → IsImage new image → IsImage old image }
+{}

@@ -1,13 +1,12 @@
 ghost use Rattle.std.specs.Prelude.{◌≡◌, ◌⊎◌, ◌<◌, ◌≤◌, ◌∷◌, ◌&&◌, true, [], ℕ, nat_lt, length, take, map, slice_index_or, OnOk, OnErr, IfOk};
 ghost use Rattle.fault_counts.specs.Counts.{faults_of};
 ghost use Rattle.fault_counts.specs.Faults.{HasCause};
-ghost use Rattle.disk_model.specs.FileState.{IsSettled, put};
-ghost use Rattle.disk_model.specs.Moments.{EachMoment, IsImage};
-ghost use Rattle.disk_model.specs.Changes.{Changes, AfterWrite, AfterCut, AfterSync, Unchanged};
+ghost use Rattle.disk_model.specs.Moments.{IsImage};
 ghost use Rattle.disk_model.specs.Reads.{seen, IsRead};
+ghost use Rattle.disk_model.specs.DiskSeen.{bytes_in, Measures, ReadsAt, WritesAt, CutsTo, Syncs};
 ghost use Rattle.disk_model.specs.Calls.{call_on, after_call, looked, written, write_failed, cut_to, cut_failed, synced};
 ghost use Rattle.disk_model.specs.Kept.{failed_effect, EndsInRange};
-ghost use Rattle.disk_model.specs.MemoryLog.{fresh_log, moments_of, files_at, synced_at, KeepsCall, KeptInList, KeptTogether};
+ghost use Rattle.disk_model.specs.MemoryLog.{fresh_log, moments_of, memory_seen, files_at, synced_at, KeepsCall, KeptInList, KeptTogether};
 ghost use Rattle.disk_model.specs.Chosen.{IsChosen};
 
 use crate::choice::Choice;
@@ -250,7 +249,7 @@ impl MemoryDisk {
 #[cfg(test)]
 impl MemoryDisk {
     /// As if the list of calls had found no memory.
-    pub fn fill_list(&mut self) {
+    pub(crate) fn fill_list(&mut self) {
         self.is_full = true;
     }
 }
@@ -258,9 +257,7 @@ impl MemoryDisk {
 impl Disk for MemoryDisk {
     ghost tells = { true };
 
-    ghost moments = { moments_of };
-
-    ghost faults = { λ d. faults_of d.counts };
+    ghost seen = { memory_seen };
 
     ghost use Rattle.disk_model.specs.Sound.{shows_seen};
 
@@ -268,9 +265,7 @@ impl Disk for MemoryDisk {
 
     fn len(&mut self, file: u8) -> Result<u64, Failed>
         requires { file < 3 }
-        ensures length { IfOk result (λ n. n ≡ length (seen (moments_of self.old) file)) }
-        ensures time { EachMoment (Unchanged (moments_of self.old).now) (moments_of self.old) (moments_of self.new) }
-        ensures cause { HasCause (faults_of self.old.counts) (faults_of self.new.counts) result }
+        ensures measures { Measures true file (memory_seen self.old) (memory_seen self.new) result }
         ensures kept { KeepsCall (call_on file looked) (call_on file looked) self.old self.new result }
     {
         self.look(file)?;
@@ -279,10 +274,7 @@ impl Disk for MemoryDisk {
 
     fn read(&mut self, file: u8, at: u64, buf: &mut [u8]) -> Result<usize, Failed>
         requires { file < 3 }
-        ensures bound { IfOk result (λ n. n ≤ length buf.new) }
-        ensures bytes { IfOk result (λ n. IsRead (seen (moments_of self.old) file) at (length buf.old) n buf.new) }
-        ensures time { EachMoment (Unchanged (moments_of self.old).now) (moments_of self.old) (moments_of self.new) }
-        ensures cause { HasCause (faults_of self.old.counts) (faults_of self.new.counts) result }
+        ensures reads { ReadsAt true file at (length buf.old) buf.new (memory_seen self.old) (memory_seen self.new) result }
         ensures kept { KeepsCall (call_on file looked) (call_on file looked) self.old self.new result }
     {
         self.look(file)?;
@@ -291,10 +283,8 @@ impl Disk for MemoryDisk {
 
     fn write_at(&mut self, file: u8, at: u64, bytes: &[u8]) -> Result<(), Failed>
         requires file { file < 3 }
-        requires inside { at ≤ length (seen (moments_of self.old) file) }
-        ensures written { OnOk result (seen (moments_of self.new) file ≡ put (seen (moments_of self.old) file) at bytes.now) }
-        ensures time { EachMoment (Changes file (AfterWrite at (length bytes.now)) (moments_of self.old).now) (moments_of self.old) (moments_of self.new) }
-        ensures cause { HasCause (faults_of self.old.counts) (faults_of self.new.counts) result }
+        requires inside { at ≤ length (bytes_in (memory_seen self.old) file) }
+        ensures writes { WritesAt true file at bytes.now (memory_seen self.old) (memory_seen self.new) result }
         ensures kept { KeepsCall (call_on file (written at bytes.now)) (call_on file (write_failed at (length bytes.now))) self.old self.new result }
         ensures touched { OnErr result ((moments_of self.new).now ≡ after_call (call_on file (write_failed at (length bytes.now))) (moments_of self.old).now) }
     {
@@ -303,10 +293,8 @@ impl Disk for MemoryDisk {
 
     fn cut(&mut self, file: u8, len: u64) -> Result<(), Failed>
         requires file { file < 3 }
-        requires inside { len ≤ length (seen (moments_of self.old) file) }
-        ensures cut { OnOk result (seen (moments_of self.new) file ≡ take len (seen (moments_of self.old) file)) }
-        ensures time { EachMoment (Changes file (AfterCut len) (moments_of self.old).now) (moments_of self.old) (moments_of self.new) }
-        ensures cause { HasCause (faults_of self.old.counts) (faults_of self.new.counts) result }
+        requires inside { len ≤ length (bytes_in (memory_seen self.old) file) }
+        ensures cuts { CutsTo true file len (memory_seen self.old) (memory_seen self.new) result }
         ensures kept { KeepsCall (call_on file (cut_to len)) (call_on file (cut_failed len)) self.old self.new result }
         ensures touched { OnErr result ((moments_of self.new).now ≡ after_call (call_on file (cut_failed len)) (moments_of self.old).now) }
     {
@@ -315,10 +303,7 @@ impl Disk for MemoryDisk {
 
     fn sync(&mut self, file: u8) -> Result<(), Failed>
         requires { file < 3 }
-        ensures settled { OnOk result (IsSettled ((moments_of self.new).now file)) }
-        ensures seen { seen (moments_of self.new) file ≡ seen (moments_of self.old) file }
-        ensures time { EachMoment (Changes file AfterSync (moments_of self.old).now) (moments_of self.old) (moments_of self.new) }
-        ensures cause { HasCause (faults_of self.old.counts) (faults_of self.new.counts) result }
+        ensures syncs { Syncs true file (memory_seen self.old) (memory_seen self.new) result }
         ensures kept { KeepsCall (call_on file synced) (call_on file looked) self.old self.new result }
     {
         self.keep_sync(file)

@@ -58,18 +58,28 @@ fn leaves(
     holds(rt, &mut disk.image(alloc, calls, choice)?, file, bytes)
 }
 
+/// What is filled where this call of `written` was the first that failed.
+fn filled_at(failed: u64) -> &'static [u8] {
+    match failed {
+        1 | 2 => b".....",
+        3 => b"hell..",
+        _ => b"hel...",
+    }
+}
+
+/// Whether file 1 is filled so. None where there was no memory to say so.
+fn is_filled(alloc: Global, disk: &MemoryDisk, filled: &[u8]) -> Option<bool> {
+    let mut image = disk.image(alloc, 99, Choice::Fill(b'.')).ok()?;
+    shows(&mut image, 1, filled).ok()
+}
+
 /// Which of the calls of `written` failed, or 0, and whether each byte that they touched is filled then. None
 /// where there was no memory to say so.
 fn with_any_memory(alloc: Global) -> Option<(u64, bool)> {
     let mut disk = MemoryDisk::new(alloc, &[]).ok()?;
     let failed = first_failure(&mut disk);
-    let filled: &[u8] = match failed {
-        1 | 2 => b".....",
-        3 => b"hell..",
-        _ => b"hel...",
-    };
-    let mut image = disk.image(alloc, 99, Choice::Fill(b'.')).ok()?;
-    Some((failed, shows(&mut image, 1, filled).ok()?))
+    let is_right = is_filled(alloc, &disk, filled_at(failed))?;
+    Some((failed, is_right))
 }
 
 /// Reads from 2 on give one byte, and from 9 on none.
@@ -82,14 +92,17 @@ fn reads_two(rt: &impl Abort, disk: &mut MemoryDisk) {
     assert!(rt; count == Some(0));
 }
 
+fn reads_files(rt: &impl Abort, disk: &mut MemoryDisk) -> Result<(), Fail> {
+    holds(rt, disk, 0, b"")?;
+    holds(rt, disk, 1, b"hel")?;
+    reads_two(rt, disk);
+    Ok(())
+}
+
 #[test]
 fn reads_what_was_written(rt: HostRuntime) -> Result<(), Fail> {
-    let alloc = rt.alloc();
-    let mut disk = written(alloc, &[])?;
-    holds(&rt, &mut disk, 0, b"")?;
-    holds(&rt, &mut disk, 1, b"hel")?;
-    reads_two(&rt, &mut disk);
-    Ok(())
+    let mut disk = written(rt.alloc(), &[])?;
+    reads_files(&rt, &mut disk)
 }
 
 /// What file 1 of the disk shows after so many calls: what the last sync left, what reads give, and the rest filled with `.`.
@@ -118,13 +131,30 @@ static IMAGES: [[&[u8]; 3]; 6] = [
     [b"hello", b"hel", b"hel..."],
 ];
 
+fn shows_each_image(rt: &impl Abort, alloc: Global, disk: &MemoryDisk) -> Result<(), Fail> {
+    for (calls, rows) in IMAGES.iter().enumerate() {
+        shows_images(rt, alloc, disk, calls, rows)?;
+    }
+    Ok(())
+}
+
 #[test]
 fn images_after_each_call(rt: HostRuntime) -> Result<(), Fail> {
     let disk = written(rt.alloc(), &[])?;
-    for (calls, rows) in IMAGES.iter().enumerate() {
-        shows_images(&rt, rt.alloc(), &disk, calls, rows)?;
-    }
-    Ok(())
+    shows_each_image(&rt, rt.alloc(), &disk)
+}
+
+/// Reads of file 1 give `new`, and the fill is `fill`.
+fn leaves_both(
+    rt: &impl Abort,
+    alloc: Global,
+    disk: &mut MemoryDisk,
+    new: &[u8],
+    fill: &[u8],
+) -> Result<(), Fail> {
+    leaves(rt, alloc, disk, 9, Choice::New, 1, new)?;
+    leaves(rt, alloc, disk, 9, Choice::Fill(b'.'), 1, fill)?;
+    holds(rt, disk, 1, new)
 }
 
 /// Where this call of `written` fails, reads give `new` then, and the fill is `fill`.
@@ -136,9 +166,7 @@ fn fails_at(
     fill: &[u8],
 ) -> Result<(), Fail> {
     let mut disk = written(alloc, &[number])?;
-    leaves(rt, alloc, &disk, 9, Choice::New, 1, new)?;
-    leaves(rt, alloc, &disk, 9, Choice::Fill(b'.'), 1, fill)?;
-    holds(rt, &mut disk, 1, new)
+    leaves_both(rt, alloc, &mut disk, new, fill)
 }
 
 /// The number of the call that fails, how far the calls come, what reads give then, and the fill.
@@ -176,18 +204,22 @@ fn writes(rt: &impl Abort, disk: &mut MemoryDisk, bytes: &[u8], done: bool) {
     assert!(rt; is_done == done);
 }
 
+fn counts_calls(rt: &impl Abort, disk: &mut MemoryDisk) {
+    tells_len(rt, disk, 0, Some(0));
+    tells_len(rt, disk, 0, None);
+    let read = disk.read(0, 0, &mut [0; 1]).is_ok();
+    assert!(rt; !read);
+    syncs(rt, disk, 0, true);
+}
+
 #[test]
 fn each_kind_of_call_is_counted(rt: HostRuntime) -> Result<(), Fail> {
     let mut disk = MemoryDisk::new(rt.alloc(), &[2, 3])?;
-    tells_len(&rt, &mut disk, 0, Some(0));
-    tells_len(&rt, &mut disk, 0, None);
-    let read = disk.read(0, 0, &mut [0; 1]).is_ok();
-    assert!(rt; !read);
-    syncs(&rt, &mut disk, 0, true);
+    counts_calls(&rt, &mut disk);
     Ok(())
 }
 
-// `checks/failing_allocations_of_files` runs these two with each allocation failing in turn: the first passes
+// `checks/failing_allocations disk` runs these two with each allocation failing in turn: the first passes
 // whichever it is, and the second where there is none.
 #[test]
 fn a_call_without_memory_touched_what_it_named(rt: HostRuntime) {
@@ -226,12 +258,20 @@ fn keeps_what_was_synced(rt: &impl Abort, alloc: Global, disk: &MemoryDisk) -> R
     leaves(rt, alloc, disk, 2, Choice::Fill(b'.'), 1, b"hello")
 }
 
+fn fills_list(rt: &impl Abort, disk: &mut MemoryDisk) {
+    writes(rt, disk, b"hello", true);
+    syncs(rt, disk, 1, true);
+    disk.fill_list();
+}
+
+fn touches_and_keeps(rt: &impl Abort, alloc: Global, disk: &mut MemoryDisk) -> Result<(), Fail> {
+    touches_what_fails(rt, alloc, disk)?;
+    keeps_what_was_synced(rt, alloc, disk)
+}
+
 #[test]
 fn a_full_list_keeps_what_calls_touch(rt: HostRuntime) -> Result<(), Fail> {
     let mut disk = MemoryDisk::new(rt.alloc(), &[5])?;
-    writes(&rt, &mut disk, b"hello", true);
-    syncs(&rt, &mut disk, 1, true);
-    disk.fill_list();
-    touches_what_fails(&rt, rt.alloc(), &mut disk)?;
-    keeps_what_was_synced(&rt, rt.alloc(), &disk)
+    fills_list(&rt, &mut disk);
+    touches_and_keeps(&rt, rt.alloc(), &mut disk)
 }

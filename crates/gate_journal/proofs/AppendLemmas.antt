@@ -12,7 +12,7 @@ use Rattle.disk_model.proofs.MomentLemmas.{weaken, join, last_moment}
 use Rattle.disk_model.proofs.ImageLemmas.{IsSettled-image}
 use Rattle.gate_journal.specs.Gate.{IsClosed, ClosedAfter, behind_gate, record_text}
 use Rattle.gate_journal.specs.Stand.{Stand, gate_of, text_before, IsAtGate}
-use Rattle.gate_journal.specs.Writes.{KeepsBelow, IsSettledBut, OpensGate, IsBeforeOrAfter}
+use Rattle.gate_journal.specs.Writes.{KeepsBelow, IsSettledBut, OpensSettled, IsBeforeOrAfter, IsOpenedOrClosed, HoldsGate}
 use Rattle.gate_journal.proofs.WriteLemmas.{KeepsBelow-sync, KeepsBelow-refl, changes_then, length-put}
 
 -- a text, a closed gate, and anything
@@ -22,6 +22,18 @@ closed_front text rest gate shut = record {
   inside = omega (arith, length-append text (gate ∷ rest));
   closed = subst (λ n. n ≢ 1) (sym (get_or_at text gate rest 0 (length text) refl)) shut;
 }
+
+-- a closed gate put behind a text
+pub created : (at : ℕ) (old new : List ℕ) → at ≤ length old → new ≡ put old at (0 ∷ []) → (at + 1 ≤ length new) × IsClosed new (at + 1 - 1) × (take at new ≡ take at old)
+created at old new inside is =
+    let text = take at old in
+    let shut : ClosedAfter text new = subst (ClosedAfter text) (sym is) (closed_front text (drop (at + 1) old) 0 (omega arith)) in
+    let size : length text ≡ at = omega (arith, length-take at old) in
+    let place : length text ≡ at + 1 - 1 = omega (arith, size) in (
+      omega (arith, size, shut.inside),
+      subst (IsClosed new) place shut.closed,
+      ap (λ (n : ℕ). take n new) (sym size) ∙ shut.begins,
+    )
 
 -- the same bytes before a place
 same_front : (n : ℕ) (a b : List ℕ) → n ≤ length a → n ≤ length b → ((p : ℕ) → p < n → slice_index a p ≡ slice_index b p) → take n a ≡ take n b
@@ -51,10 +63,10 @@ but_image gate bytes file image but is p low differ = is.kept p (but.settled p l
 but_size : (gate : ℕ) (bytes : List ℕ) (file : FileState) (image : List ℕ) → IsSettledBut gate bytes file → IsFileImage file image → length image ≡ length bytes
 but_size gate bytes file image but is = omega (arith, but.no_shorter, but.no_longer, is.no_shorter, is.no_longer)
 
--- with an open gate
-opened_is : (gate : ℕ) (bytes image : List ℕ) → gate < length bytes → length image ≡ length bytes → ((p : ℕ) → p < length bytes → p ≢ gate → slice_index image p ≡ slice_index bytes p)
-    → slice_index image gate ≡ 1 → image ≡ put bytes gate (1 ∷ [])
-opened_is gate bytes image inside size same is_open =
+-- with some byte at the gate
+gate_alone : (gate : ℕ) (bytes image : List ℕ) → gate < length bytes → length image ≡ length bytes → ((p : ℕ) → p < length bytes → p ≢ gate → slice_index image p ≡ slice_index bytes p)
+    → image ≡ put bytes gate (slice_index image gate ∷ [])
+gate_alone gate bytes image inside size same =
     let low_gate : gate < length image = omega arith in
     let whole : image ≡ take gate image ++ (slice_index image gate ∷ drop (gate + 1) image) =
     sym (take-append-drop gate image) ∙ ap (λ (l : List ℕ). take gate image ++ l) (drop_more image gate 0 low_gate) in
@@ -65,7 +77,26 @@ opened_is gate bytes image inside size same is_open =
     (λ p low. let differ : gate + 1 + p ≢ gate = omega arith in
     let within : gate + 1 + p < length bytes = omega (arith, length-drop (gate + 1) image) in
     get_or-drop (gate + 1) image p 0 ∙ same (gate + 1 + p) within differ ∙ sym (get_or-drop (gate + 1) bytes p 0)) in
-    whole ∙ (λ i. front i ++ (is_open i ∷ back i))
+    whole ∙ (λ i. front i ++ (slice_index image gate ∷ back i))
+
+-- with an open gate
+opened_is : (gate : ℕ) (bytes image : List ℕ) → gate < length bytes → length image ≡ length bytes → ((p : ℕ) → p < length bytes → p ≢ gate → slice_index image p ≡ slice_index bytes p)
+    → slice_index image gate ≡ 1 → image ≡ put bytes gate (1 ∷ [])
+opened_is gate bytes image inside size same is_open = gate_alone gate bytes image inside size same ∙ ap (λ (byte : ℕ). put bytes gate (byte ∷ [])) is_open
+
+opened_or_closed : (gate : ℕ) (bytes image : List ℕ) → image ≡ put bytes gate (slice_index image gate ∷ []) → IsOpenedOrClosed gate bytes image
+opened_or_closed gate bytes image is = elim (cases_eq (slice_index image gate) 1) [
+  | inl is_open ↦ inl (is ∙ ap (λ (byte : ℕ). put bytes gate (byte ∷ [])) is_open)
+  | inr shut ↦ inr (slice_index image gate, shut, is)
+]
+
+-- where each byte but the gate's is settled, each image holds the gate open or closed
+pub holds_gate : (file gate : ℕ) (bytes : List ℕ) (old new : Moments) → gate < length bytes → EachMoment (Changes file (λ _ new. IsSettledBut gate bytes new) old.now) old new
+    → EachMoment (HoldsGate file gate bytes old.now) old new
+holds_gate file gate bytes old new inside each = weaken (HoldsGate file gate bytes old.now) (λ files so. record {
+  image = λ image is. opened_or_closed gate bytes image (gate_alone gate bytes image inside (but_size gate bytes (files file) image so.here is) (but_image gate bytes (files file) image so.here is));
+  others = so.others;
+}) each
 
 -- the file once the record is appended: the text, an open gate, what was written behind it but its last byte,
 -- and that closed gate
@@ -108,7 +139,7 @@ module _ (file gate : ℕ) (behind : List ℕ) (old m1 : Moments) (within : gate
   pub append_unmade : EachMoment (IsBeforeOrAfter file (take gate (seen old file)) (take gate (seen old file) ++ (1 ∷ behind)) old.now) old old
   append_unmade = start (staying old.now (record { here = KeepsBelow-refl (gate + 1) (old.now file); others = λ other differ. refl }))
 
-  module _ (m2 : Moments) (wrote : seen m1 file ≡ put (seen old file) (gate + 1) (behind ++ 0 ∷ [])) (opens : EachMoment (OpensGate file gate (seen m1 file) m1.now) m1 m2) where
+  module _ (m2 : Moments) (wrote : seen m1 file ≡ put (seen old file) (gate + 1) (behind ++ 0 ∷ [])) (opens : EachMoment (OpensSettled file gate (seen m1 file) m1.now) m1 m2) where
     abbrev rest : List ℕ
     rest = drop (gate + 1 + length (behind ++ 0 ∷ [])) (seen old file)
 
@@ -147,7 +178,7 @@ module _ (file gate : ℕ) (behind : List ℕ) (old m1 : Moments) (within : gate
               closed = subst (λ n. IsClosed image n) (sym long) shut;
             }
 
-    opening : (files : Files) → OpensGate file gate (seen m1 file) m1.now files → IsBeforeOrAfter file (take gate (seen old file)) (take gate (seen old file) ++ (1 ∷ behind)) old.now files
+    opening : (files : Files) → OpensSettled file gate (seen m1 file) m1.now files → IsBeforeOrAfter file (take gate (seen old file)) (take gate (seen old file) ++ (1 ∷ behind)) old.now files
     opening files (inl synced) = staying files (changes_then (KeepsBelow (gate + 1)) file old.now m1.now files (λ a b. KeepsBelow-sync (gate + 1) (old.now file) (m1.now file) (files file) a b) m1_files synced)
     opening files (inr but) = record {
       image = λ image is. either image (files file) but.here is;
@@ -183,7 +214,7 @@ module _ (stand : Stand) (head body : List ℕ) (old : Moments) (some : 0 < stan
     stand_staged = append_staged stand.file (gate_of stand) (behind_gate (head ++ body)) old m1 stand_within at.settled at.closed kept_gate
 
     module _ (m2 : Moments) (wrote : seen m1 stand.file ≡ put (seen old stand.file) stand.length ((to_le_bytes w32 (length head + length body) ++ head) ++ (body ++ 0 ∷ [])))
-        (opens : EachMoment (OpensGate stand.file (stand.length - 1) (seen m1 stand.file) m1.now) m1 m2) where
+        (opens : EachMoment (OpensSettled stand.file (stand.length - 1) (seen m1 stand.file) m1.now) m1 m2) where
       wrote_gate : seen m1 stand.file ≡ put (seen old stand.file) (gate_of stand + 1) (behind_gate (head ++ body) ++ 0 ∷ [])
       wrote_gate = wrote ∙ (λ i. put (seen old stand.file) (sym next_to i) (behind_is head body i))
 
@@ -196,6 +227,10 @@ module _ (stand : Stand) (head body : List ℕ) (old : Moments) (some : 0 < stan
 
         file_is : seen m2 stand.file ≡ (text_before stand (seen old stand.file) ++ record_text (head ++ body)) ++ 0 ∷ drop (gate_of stand + 1 + length (behind_gate (head ++ body) ++ 0 ∷ [])) (seen old stand.file)
         file_is = opened ∙ opened_file stand.file (gate_of stand) (behind_gate (head ++ body)) old m1 stand_within at.settled at.closed kept_gate m2 wrote_gate opens
+
+        -- byte for byte
+        pub stand_whole : seen m2 stand.file ≡ put (put (seen old stand.file) stand.length (behind_gate (head ++ body) ++ 0 ∷ [])) (gate_of stand) (1 ∷ [])
+        stand_whole = opened ∙ ap (λ (l : List ℕ). put l (gate_of stand) (1 ∷ [])) (wrote ∙ ap (λ (l : List ℕ). put (seen old stand.file) stand.length l) (behind_is head body))
 
         closed_now : ClosedAfter with_record (seen m2 stand.file)
         closed_now = subst (ClosedAfter with_record) (sym file_is) (closed_front with_record rest_of 0 (omega arith))

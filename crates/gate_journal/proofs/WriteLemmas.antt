@@ -1,5 +1,5 @@
 -- What the calls of an append leave.
-use Rattle.std.proofs.Common.{◌≡◌, ◌≢◌, inl, inr, ℕ, ◌+◌, ◌<◌, ◌≤◌, List, ◌++◌, length, take, drop, max, refl, sym, ◌∙◌, ap, arith, append_assoc, length-append, length-take, length-drop}
+use Rattle.std.proofs.Common.{◌≡◌, ◌≢◌, inl, inr, ℕ, ◌+◌, ◌<◌, ◌≤◌, List, ◌++◌, length, take, drop, max, refl, sym, ◌∙◌, ap, subst, arith, append_assoc, length-append, length-take, length-drop}
 use Rattle.std.specs.Prelude.{slice_index, Result, Ok, Err, OnOk}
 use Rattle.std.proofs.lemmas.Bool.{cases_lt}
 use Rattle.std.proofs.lemmas.List.{take_at, drop_at, drop-drop}
@@ -7,7 +7,7 @@ use Rattle.disk_model.specs.FileState.{FileState, IsSettled, put}
 use Rattle.disk_model.specs.Moments.{Files, Moments, EachMoment}
 use Rattle.disk_model.specs.Changes.{Changes, AfterWrite, AfterSync, StaysSettled}
 use Rattle.disk_model.proofs.MomentLemmas.{weaken, join, last_moment}
-use Rattle.gate_journal.specs.Writes.{KeepsBelow, IsSettledBut, OpensGate}
+use Rattle.gate_journal.specs.Writes.{KeepsBelow, IsSettledBut, OpensSettled}
 
 stays_trans : {old mid new : FileState} {p : ℕ} → StaysSettled old mid p → StaysSettled mid new p → StaysSettled old new p
 stays_trans a b = record { settled = b.settled; same = b.same ∙ a.same }
@@ -59,20 +59,34 @@ changes_then both file old mid new so a b = record {
   others = λ other differ. b.others other differ ∙ a.others other differ;
 }
 
+-- an open gate written over a byte of a settled file, and a sync
+module _ (file gate : ℕ) (old : Moments) (inside : gate < length (old.now file).bytes) (settled : IsSettled (old.now file)) (m1 : Moments)
+    (wrote : EachMoment (Changes file (AfterWrite gate 1) old.now) old m1) where
+  but_gate : (files : Files) → Changes file (AfterWrite gate 1) old.now files → Changes file (λ _ new. IsSettledBut gate (old.now file).bytes new) old.now files
+  but_gate files so = record {
+    here = IsSettledBut-write gate (old.now file).bytes (old.now file) (files file) inside settled refl so.here;
+    others = so.others;
+  }
+
+  pub gate_written : EachMoment (Changes file (λ _ new. IsSettledBut gate (old.now file).bytes new) old.now) old m1
+  gate_written = weaken (Changes file (λ _ new. IsSettledBut gate (old.now file).bytes new) old.now) but_gate wrote
+
+  pub gate_synced : (m2 : Moments) → EachMoment (Changes file AfterSync m1.now) m1 m2 → EachMoment (Changes file (λ _ new. IsSettledBut gate (old.now file).bytes new) old.now) old m2
+  gate_synced m2 synced = join gate_written (weaken (Changes file (λ _ new. IsSettledBut gate (old.now file).bytes new) old.now)
+      (λ files so. changes_then (λ _ new. IsSettledBut gate (old.now file).bytes new) file old.now m1.now files
+      (λ a b. IsSettledBut-sync gate (old.now file).bytes (m1.now file) (files file) a b) (last_moment gate_written) so) synced)
+
+-- a sync, and then that
 module _ (file gate : ℕ) (bytes : List ℕ) (old m1 : Moments) (synced : EachMoment (Changes file AfterSync old.now) old m1) where
-  pub opening_synced : EachMoment (OpensGate file gate bytes old.now) old m1
-  opening_synced = weaken (OpensGate file gate bytes old.now) (λ files so. inl so) synced
+  pub opening_synced : EachMoment (OpensSettled file gate bytes old.now) old m1
+  opening_synced = weaken (OpensSettled file gate bytes old.now) (λ files so. inl so) synced
 
-  module _ (m2 : Moments) (inside : gate < length bytes) (settled : IsSettled (m1.now file)) (are : (m1.now file).bytes ≡ bytes) (wrote : EachMoment (Changes file (AfterWrite gate 1) m1.now) m1 m2) where
-    but_gate : (files : Files) → Changes file (AfterWrite gate 1) m1.now files → Changes file (λ _ new. IsSettledBut gate bytes new) old.now files
-    but_gate files so = changes_then (λ _ new. IsSettledBut gate bytes new) file old.now m1.now files (λ a b. IsSettledBut-write gate bytes (m1.now file) (files file) inside settled are b) (last_moment synced) so
-
-    pub opening_written : EachMoment (OpensGate file gate bytes old.now) old m2
-    opening_written = join opening_synced (weaken (OpensGate file gate bytes old.now) (λ files so. inr (but_gate files so)) wrote)
-
-    pub opening_done : (m3 : Moments) → EachMoment (Changes file AfterSync m2.now) m2 m3 → EachMoment (OpensGate file gate bytes old.now) old m3
-    opening_done m3 again = join opening_written (weaken (OpensGate file gate bytes old.now)
-        (λ files so. inr (changes_then (λ _ new. IsSettledBut gate bytes new) file old.now m2.now files (λ a b. IsSettledBut-sync gate bytes (m2.now file) (files file) a b) (but_gate m2.now (last_moment wrote)) so)) again)
+  pub opening_done : (m2 : Moments) → (m1.now file).bytes ≡ bytes → EachMoment (Changes file (λ _ new. IsSettledBut gate (m1.now file).bytes new) m1.now) m1 m2
+      → EachMoment (OpensSettled file gate bytes old.now) old m2
+  opening_done m2 same opened = join opening_synced (weaken (OpensSettled file gate bytes old.now) (λ files so. inr (record {
+    here = subst (λ (l : List ℕ). IsSettledBut gate l (files file)) same so.here;
+    others = λ other differ. so.others other differ ∙ (last_moment synced).others other differ;
+  })) opened)
 
 -- one piece put behind another
 pub put-put : (s a b : List ℕ) (at next : ℕ) → at ≤ length s → next ≡ at + length a → put (put s at a) next b ≡ put s at (a ++ b)

@@ -1,6 +1,6 @@
 -- What the writes of a journal leave at each moment.
-use Rattle.std.specs.Prelude.{◌≡◌, ◌≢◌, ◌⊎◌, ℕ, ◌<◌, ◌≤◌, IsTrue, List, length, slice_index}
-use Rattle.disk_model.specs.FileState.{FileState, IsFileImage}
+use Rattle.std.specs.Prelude.{◌≡◌, ◌≢◌, ◌⊎◌, ℕ, ◌<◌, ◌≤◌, IsTrue, List, [], ◌∷◌, length, slice_index}
+use Rattle.disk_model.specs.FileState.{FileState, IsFileImage, put}
 use Rattle.disk_model.specs.Moments.{Files}
 use Rattle.disk_model.specs.Changes.{Changes, AfterSync, StaysSettled}
 use Rattle.gate_journal.specs.Gate.{ClosedAfter}
@@ -23,5 +23,15 @@ pub record IsBeforeOrAfter (file : ℕ) (before after : List ℕ) (old files : F
   pub others : (other : ℕ) → other ≢ file → files other ≡ old other
 
 -- While a gate is opened: nothing but a sync has come to the file, or each byte but the gate's is settled.
-abbrev pub OpensGate : ℕ → ℕ → List ℕ → Files → Files → Type 0
-OpensGate file gate bytes old files = Changes file AfterSync old files ⊎ Changes file (λ _ new. IsSettledBut gate bytes new) old files
+abbrev pub OpensSettled : ℕ → ℕ → List ℕ → Files → Files → Type 0
+OpensSettled file gate bytes old files = Changes file AfterSync old files ⊎ Changes file (λ _ new. IsSettledBut gate bytes new) old files
+
+-- the file with its gate open, or with another byte there: then the gate is closed
+abbrev pub IsOpenedOrClosed : ℕ → List ℕ → List ℕ → Type 0
+IsOpenedOrClosed gate bytes image = (image ≡ put bytes gate (1 ∷ [])) ⊎ ((byte : ℕ) × (byte ≢ 1) × (image ≡ put bytes gate (byte ∷ [])))
+
+-- A crash at this moment leaves the file with its gate open or closed, and no other byte changed; no other file
+-- has changed.
+pub record HoldsGate (file gate : ℕ) (bytes : List ℕ) (old files : Files) : Type 0 where
+  pub image : (image : List ℕ) → IsFileImage (files file) image → IsOpenedOrClosed gate bytes image
+  pub others : (other : ℕ) → other ≢ file → files other ≡ old other

@@ -1,17 +1,13 @@
-ghost use Rattle.std.specs.Prelude.{◌≡◌, ◌+◌, ◌-◌, ◌^◌, ◌<◌, ◌≤◌, ◌∷◌, ◌++◌, [], ℕ, List, true, false, length, take, IsTrue, OnOk, OnErr, IfOk, IsErrOf, IsFalse};
-ghost use Rattle.fault_counts.specs.Faults.{HasCause, NeverFell, Rose};
-ghost use Rattle.disk_model.specs.FileState.{IsFileImage, IsSettled, put};
-ghost use Rattle.disk_model.specs.Moments.{EachMoment};
-ghost use Rattle.disk_model.specs.Changes.{Changes, AfterWrite, Unchanged};
-ghost use Rattle.disk_model.specs.Reads.{seen};
-ghost use Rattle.gate_journal.specs.Gate.{ClosedAfter, record_text};
-ghost use Rattle.gate_journal.specs.Stand.{IsAtGate, IsReadable, text_before, with_record};
-ghost use Rattle.gate_journal.specs.Answers.{OpenAnswer, NextAnswer};
-ghost use Rattle.gate_journal.specs.Writes.{IsBeforeOrAfter};
+ghost use Rattle.std.specs.Prelude.{◌≡◌, ◌+◌, ◌^◌, ◌<◌, ◌≤◌, true, length, IsTrue, IsErrOf};
+ghost use Rattle.disk_model.specs.FileState.{IsSettled};
+ghost use Rattle.disk_model.specs.DiskSeen.{file_in, bytes_in};
+ghost use Rattle.gate_journal.specs.Stand.{IsAtGate, IsReadable};
+ghost use Rattle.gate_journal.specs.Calls.{Creates, Appends, Opens, ReadsNext};
 
 use crate::faults::{AppendFault, JournalFault};
 use crate::reading::record_size;
-use crate::staged::{CLOSED, open_gate, write_behind};
+use crate::gate::{CLOSED, open_behind};
+use crate::staged::write_behind;
 use disk_model::{Disk, Failed};
 use nmc_base::Bytes;
 use std::marker::Model;
@@ -67,13 +63,8 @@ impl Journal {
     pub fn create<D: Disk>(disk: &mut D, file: u8, at: u64, limit: u64) -> Result<Journal, Failed>
         requires file { file < 3 }
         requires within { at < limit }
-        requires inside { IsTrue D.tells → at ≤ length (seen (D.moments disk.old) file) }
-        ensures ok { IfOk result (λ journal. journal ≡ record { file = file; length = at + 1; limit = limit; reached = true }) }
-        ensures at_gate { IsTrue D.tells → IfOk result (λ journal. IsAtGate journal ((D.moments disk.new).now file)) }
-        ensures text { IsTrue D.tells → OnOk result (take at (seen (D.moments disk.new) file) ≡ take at (seen (D.moments disk.old) file)) }
-        ensures whole { IsTrue D.tells → OnOk result (seen (D.moments disk.new) file ≡ put (seen (D.moments disk.old) file) at (0 ∷ [])) }
-        ensures any_moment { IsTrue D.tells → EachMoment (Changes file (AfterWrite at 1) (D.moments disk.old).now) (D.moments disk.old) (D.moments disk.new) }
-        ensures cause { HasCause (D.faults disk.old) (D.faults disk.new) result }
+        requires inside { IsTrue D.tells → at ≤ length (bytes_in (D.seen disk.old) file) }
+        ensures { Creates D.tells file at limit (D.seen disk.old) (D.seen disk.new) result }
     {
         disk.write_at(file, at, &[CLOSED])?;
         disk.sync(file)?;
@@ -89,33 +80,18 @@ impl Journal {
         body: &[u8],
     ) -> Result<(), AppendFault>
         requires reached { IsTrue self.old.reached }
-        requires at_gate { IsTrue D.tells → IsAtGate self.old ((D.moments disk.old).now self.old.file) }
+        requires at_gate { IsTrue D.tells → IsAtGate self.old (file_in (D.seen disk.old) self.old.file) }
         requires short { length head.now ≤ 8 }
         requires fits { length head.now + length body.now < 2 ^ 32 }
-        ensures ok { OnOk result (self.new ≡ record self.old { length = self.old.length + 5 + length head.now + length body.now }) }
-        ensures err { OnErr result (self.new ≡ self.old) }
-        ensures at_gate { IsTrue D.tells → OnOk result (IsAtGate self.new ((D.moments disk.new).now self.new.file)) }
-        ensures text { IsTrue D.tells → OnOk result (text_before self.new (seen (D.moments disk.new) self.new.file)
-            ≡ text_before self.old (seen (D.moments disk.old) self.old.file) ++ record_text (head.now ++ body.now)) }
-        // the file is the old one, with the record and a closed gate put behind its gate, and its gate opened
-        ensures whole { IsTrue D.tells → OnOk result (seen (D.moments disk.new) self.old.file ≡ with_record self.old (head.now ++ body.now) (seen (D.moments disk.old) self.old.file)) }
-        ensures any_moment { IsTrue D.tells → (let before = text_before self.old (seen (D.moments disk.old) self.old.file) in
-            EachMoment (IsBeforeOrAfter self.old.file before (before ++ record_text (head.now ++ body.now)) (D.moments disk.old).now)
-            (D.moments disk.old) (D.moments disk.new)) }
-        ensures durable { IsTrue D.tells → OnOk result ((image : List ℕ) → IsFileImage ((D.moments disk.new).now self.old.file) image
-            → ClosedAfter (text_before self.old (seen (D.moments disk.old) self.old.file) ++ record_text (head.now ++ body.now)) image) }
-        ensures full { self.old.limit < self.old.length + 5 + length head.now + length body.now → IsErrOf result AppendFault.Full }
-        ensures only_full { IsErrOf result AppendFault.Full → self.old.limit < self.old.length + 5 + length head.now + length body.now }
+        ensures appends { Appends D.tells self.old self.new head.now body.now (D.seen disk.old) (D.seen disk.new) result }
         ensures untouched { IsErrOf result AppendFault.Full → disk.new ≡ disk.old }
-        ensures later { NeverFell (D.faults disk.old) (D.faults disk.new) }
-        ensures fault { IsErrOf result AppendFault.DiskFault → Rose (D.faults disk.old) (D.faults disk.new) }
     {
         let added = 5 + head.len() as u64 + body.len() as u64;
         if self.length > self.limit || self.limit - self.length < added {
             return Err(AppendFault::Full);
         }
         write_behind(disk, self.file, self.length, head, body)?;
-        open_gate(disk, self.file, self.length - 1)?;
+        open_behind(disk, self.file, self.length - 1)?;
         self.length += added;
         Ok(())
     }
@@ -130,14 +106,8 @@ impl Journal {
         limit: u64,
     ) -> Result<Journal, JournalFault>
         requires file { file < 3 }
-        requires settled { IsTrue D.tells → IsSettled ((D.moments disk.old).now file) }
-        ensures ok { IfOk result (λ journal. journal ≡ record { file = file; length = at + 1; limit = limit; reached = false }) }
-        ensures answer { IsTrue D.tells → OpenAnswer (seen (D.moments disk.old) file) at result }
-        ensures readable { IsTrue D.tells → IfOk result (λ journal. IsReadable journal ((D.moments disk.new).now file)) }
-        ensures memory { IsErrOf result JournalFault.NoMemory → ⊥ }
-        ensures unchanged { IsTrue D.tells → EachMoment (Unchanged (D.moments disk.old).now) (D.moments disk.old) (D.moments disk.new) }
-        ensures later { NeverFell (D.faults disk.old) (D.faults disk.new) }
-        ensures fault { IsErrOf result JournalFault.DiskFault → Rose (D.faults disk.old) (D.faults disk.new) }
+        requires settled { IsTrue D.tells → IsSettled (file_in (D.seen disk.old) file) }
+        ensures { Opens D.tells file at limit (D.seen disk.old) (D.seen disk.new) result }
     {
         if disk.len(file)? <= at {
             return Err(JournalFault::Damaged { at });
@@ -158,18 +128,8 @@ impl Journal {
         disk: &mut D,
         into: &mut Bytes,
     ) -> Result<bool, JournalFault>
-        requires readable { IsTrue D.tells → IsReadable self.old ((D.moments disk.old).now self.old.file) }
-        ensures answer { IsTrue D.tells → NextAnswer (seen (D.moments disk.old) self.old.file) self.old self.new into.new result }
-        ensures readable { IsTrue D.tells → OnOk result (IsReadable self.new ((D.moments disk.new).now self.new.file)) }
-        ensures reached { IsTrue D.tells → IfOk result (λ more. IsFalse more → IsAtGate self.new ((D.moments disk.new).now self.new.file)) }
-        ensures closed { IfOk result (λ more. IsFalse more → IsTrue self.new.reached) }
-        ensures text { IsTrue D.tells → IfOk result (λ more. IsTrue more → text_before self.new (seen (D.moments disk.new) self.new.file)
-            ≡ text_before self.old (seen (D.moments disk.old) self.old.file) ++ record_text into.new) }
-        ensures err { OnErr result (self.new ≡ self.old) }
-        ensures same { (self.new.file ≡ self.old.file) × (self.new.limit ≡ self.old.limit) }
-        ensures unchanged { IsTrue D.tells → EachMoment (Unchanged (D.moments disk.old).now) (D.moments disk.old) (D.moments disk.new) }
-        ensures later { NeverFell (D.faults disk.old) (D.faults disk.new) }
-        ensures fault { IsErrOf result JournalFault.DiskFault → Rose (D.faults disk.old) (D.faults disk.new) }
+        requires readable { IsTrue D.tells → IsReadable self.old (file_in (D.seen disk.old) self.old.file) }
+        ensures { ReadsNext D.tells self.old self.new into.new (D.seen disk.old) (D.seen disk.new) result }
     {
         let gate = self.length - 1;
         let Some(size) = record_size(disk, self.file, gate, self.limit)? else {

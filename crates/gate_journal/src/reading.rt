@@ -4,12 +4,12 @@ ghost use Rattle.std.specs.Int.{w32, from_le_bytes, to_le_bytes};
 ghost use Rattle.fault_counts.specs.Faults.{NeverFell, Rose};
 ghost use Rattle.disk_model.specs.Moments.{EachMoment};
 ghost use Rattle.disk_model.specs.Changes.{Unchanged};
-ghost use Rattle.disk_model.specs.Reads.{seen};
+ghost use Rattle.disk_model.specs.DiskSeen.{bytes_in};
 ghost use Rattle.gate_journal.specs.Gate.{field_of};
 ghost use Rattle.gate_journal.specs.Answers.{StartAnswer};
 
 use crate::faults::JournalFault;
-use crate::staged::OPEN;
+use crate::gate::OPEN;
 use disk_model::Disk;
 
 /// The size of the record behind the gate at this place, or None at a closed gate.
@@ -20,12 +20,12 @@ pub fn record_size<D: Disk>(
     limit: u64,
 ) -> Result<Option<u64>, JournalFault>
     requires file { file < 3 }
-    requires inside { IsTrue D.tells → gate < length (seen (D.moments disk.old) file) }
-    ensures answer { IsTrue D.tells → StartAnswer (seen (D.moments disk.old) file) gate limit result }
+    requires inside { IsTrue D.tells → gate < length (bytes_in (D.seen disk.old) file) }
+    ensures answer { IsTrue D.tells → StartAnswer (bytes_in (D.seen disk.old) file) gate limit result }
     ensures fits { IfOk result (λ found. IfSome found (λ size. (gate + 5 + size < limit) × (size < 2 ^ 32))) }
-    ensures unchanged { IsTrue D.tells → EachMoment (Unchanged (D.moments disk.old).now) (D.moments disk.old) (D.moments disk.new) }
-    ensures later { NeverFell (D.faults disk.old) (D.faults disk.new) }
-    ensures fault { IsErrOf result JournalFault.DiskFault → Rose (D.faults disk.old) (D.faults disk.new) }
+    ensures unchanged { IsTrue D.tells → EachMoment (Unchanged (D.seen disk.old).moments.now) (D.seen disk.old).moments (D.seen disk.new).moments }
+    ensures later { NeverFell (D.seen disk.old).faults (D.seen disk.new).faults }
+    ensures fault { IsErrOf result JournalFault.DiskFault → Rose (D.seen disk.old).faults (D.seen disk.new).faults }
 {
     let mut start = [0; 5];
     let count = disk.read(file, gate, &mut start)?;

@@ -1,39 +1,19 @@
-// The calls of a disk that an append makes: what is written behind the closed gate, and the gate's opening.
+// The writes of an append behind the closed gate.
 ghost use Rattle.std.specs.Prelude.{◌≡◌, ◌<◌, ◌≤◌, ◌+◌, ◌^◌, ◌∷◌, ◌++◌, [], length, take, IsTrue, OnOk};
 ghost use Rattle.std.specs.Int.{w32, to_le_bytes};
 ghost use Rattle.fault_counts.specs.Faults.{HasCause};
-ghost use Rattle.disk_model.specs.FileState.{IsSettled, put};
+ghost use Rattle.disk_model.specs.FileState.{put};
 ghost use Rattle.disk_model.specs.Moments.{EachMoment};
 ghost use Rattle.disk_model.specs.Changes.{Changes};
-ghost use Rattle.disk_model.specs.Reads.{seen};
+ghost use Rattle.disk_model.specs.DiskSeen.{bytes_in};
 ghost use Rattle.gate_journal.specs.Gate.{behind_gate};
-ghost use Rattle.gate_journal.specs.Writes.{KeepsBelow, OpensGate};
+ghost use Rattle.gate_journal.specs.Writes.{KeepsBelow};
 
+use crate::gate::CLOSED;
 use disk_model::{Disk, Failed};
 
-/// A closed gate.
-pub const CLOSED: u8 = 0;
-
-/// An open gate.
-pub const OPEN: u8 = 1;
-
 /// The longest body that goes out in one write with its length, its head and the gate behind it.
-const SMALL: usize = 115;
-
-/// Opens a closed gate: what stands behind it is on the disk first, and the open gate is before the end.
-pub fn open_gate<D: Disk>(disk: &mut D, file: u8, gate: u64) -> Result<(), Failed>
-    requires file { file < 3 }
-    requires inside { IsTrue D.tells → gate < length (seen (D.moments disk.old) file) }
-    ensures opened { IsTrue D.tells → OnOk result (seen (D.moments disk.new) file ≡ put (seen (D.moments disk.old) file) gate (1 ∷ [])) }
-    ensures settled { IsTrue D.tells → OnOk result (IsSettled ((D.moments disk.new).now file)) }
-    ensures any_moment { IsTrue D.tells → EachMoment
-        (OpensGate file gate (seen (D.moments disk.old) file) (D.moments disk.old).now) (D.moments disk.old) (D.moments disk.new) }
-    ensures cause { HasCause (D.faults disk.old) (D.faults disk.new) result }
-{
-    disk.sync(file)?;
-    disk.write_at(file, gate, &[OPEN])?;
-    disk.sync(file)
-}
+const SMALL: usize = 4096;
 
 /// Puts a piece into the array from a place on, and says where it ends.
 fn add(out: &mut [u8], at: usize, piece: &[u8]) -> usize
@@ -66,16 +46,16 @@ pub fn write_behind<D: Disk>(
     body: &[u8],
 ) -> Result<(), Failed>
     requires file { file < 3 }
-    requires inside { IsTrue D.tells → at ≤ length (seen (D.moments disk.old) file) }
+    requires inside { IsTrue D.tells → at ≤ length (bytes_in (D.seen disk.old) file) }
     requires short { length head.now ≤ 8 }
     requires fits { length head.now + length body.now < 2 ^ 32 }
     requires room { at + length head.now + length body.now + 5 < 2 ^ 64 }
-    ensures written { IsTrue D.tells → OnOk result (seen (D.moments disk.new) file
-        ≡ put (seen (D.moments disk.old) file) at (to_le_bytes w32 (length head.now + length body.now) ++ head.now ++ (body.now ++ 0 ∷ []))) }
-    ensures any_moment { IsTrue D.tells → EachMoment (Changes file (KeepsBelow at) (D.moments disk.old).now) (D.moments disk.old) (D.moments disk.new) }
-    ensures cause { HasCause (D.faults disk.old) (D.faults disk.new) result }
+    ensures written { IsTrue D.tells → OnOk result (bytes_in (D.seen disk.new) file
+        ≡ put (bytes_in (D.seen disk.old) file) at (to_le_bytes w32 (length head.now + length body.now) ++ head.now ++ (body.now ++ 0 ∷ []))) }
+    ensures any_moment { IsTrue D.tells → EachMoment (Changes file (KeepsBelow at) (D.seen disk.old).moments.now) (D.seen disk.old).moments (D.seen disk.new).moments }
+    ensures cause { HasCause (D.seen disk.old).faults (D.seen disk.new).faults result }
 {
-    let mut small = [0; 128];
+    let mut small = [0; 4112];
     let start = add_start(&mut small, (head.len() + body.len()) as u32, head);
     if body.len() > SMALL {
         return write_large(disk, file, at, &small[..start], body);
@@ -94,12 +74,12 @@ fn write_large<D: Disk>(
     body: &[u8],
 ) -> Result<(), Failed>
     requires file { file < 3 }
-    requires inside { IsTrue D.tells → at ≤ length (seen (D.moments disk.old) file) }
+    requires inside { IsTrue D.tells → at ≤ length (bytes_in (D.seen disk.old) file) }
     requires room { at + length start.now + length body.now < 2 ^ 64 }
-    ensures written { IsTrue D.tells → OnOk result (seen (D.moments disk.new) file
-        ≡ put (seen (D.moments disk.old) file) at (start.now ++ (body.now ++ 0 ∷ []))) }
-    ensures any_moment { IsTrue D.tells → EachMoment (Changes file (KeepsBelow at) (D.moments disk.old).now) (D.moments disk.old) (D.moments disk.new) }
-    ensures cause { HasCause (D.faults disk.old) (D.faults disk.new) result }
+    ensures written { IsTrue D.tells → OnOk result (bytes_in (D.seen disk.new) file
+        ≡ put (bytes_in (D.seen disk.old) file) at (start.now ++ (body.now ++ 0 ∷ []))) }
+    ensures any_moment { IsTrue D.tells → EachMoment (Changes file (KeepsBelow at) (D.seen disk.old).moments.now) (D.seen disk.old).moments (D.seen disk.new).moments }
+    ensures cause { HasCause (D.seen disk.old).faults (D.seen disk.new).faults result }
 {
     disk.write_at(file, at, start)?;
     let body_at = at + start.len() as u64;

@@ -1,8 +1,9 @@
-ghost use Rattle.std.specs.Prelude.{◌≡◌, ◌<◌, true, length, IsTrue, IfSome};
-ghost use Rattle.gate_journal.specs.Stand.{IsAtGate};
+ghost use Rattle.std.specs.Prelude.{◌≡◌, ◌<◌, true, length, IsTrue, IfSome, OnOk};
+ghost use Rattle.disk_model.specs.DiskSeen.{file_in};
+ghost use Rattle.gate_journal.specs.Stand.{IsAtGate, IsReadable};
 
-use crate::{AppendFault, Journal, JournalFault};
-use disk_model::{Choice, Disk, MemoryDisk};
+use crate::{AppendFault, Journal, JournalFault, open_gate};
+use disk_model::{Choice, Disk, Failed, MemoryDisk};
 use nmc_base::Bytes;
 use std::alloc::Global;
 use std::process::Abort;
@@ -25,7 +26,7 @@ const TWO: &[u8] = b"k0123456789abcdefg|again|";
 fn begun<D: Disk>(disk: &mut D, limit: u64) -> Option<Journal>
     requires { 8 < limit }
     ensures reached { IfSome result (λ journal. journal.reached ≡ true) }
-    ensures at_gate { IsTrue D.tells → IfSome result (λ journal. IsAtGate journal ((D.moments disk.new).now journal.file)) }
+    ensures at_gate { IsTrue D.tells → IfSome result (λ journal. IsAtGate journal (file_in (D.seen disk.new) journal.file)) }
 {
     match disk.write_at(1, 0, &[0; 8]) {
         Ok(()) => Journal::create(disk, 1, 8, limit).ok(),
@@ -60,12 +61,47 @@ fn filled<D: Disk>(disk: &mut D) -> Option<(u64, u64, Result<(), AppendFault>)> 
 
 /// Whether a record of this body was appended.
 fn has_appended<D: Disk>(disk: &mut D, body: &[u8]) -> bool
-    requires { length body.now < 1000 }
+    requires { length body.now < 10000 }
 {
-    match begun(disk, 2000) {
+    match begun(disk, 20000) {
         Some(mut journal) => journal.append(disk, b"12345678", body).is_ok(),
         None => false,
     }
+}
+
+/// Reads one record more into `all`, with a bar behind it. False at a closed gate.
+fn reads_one<D: Disk>(
+    disk: &mut D,
+    journal: &mut Journal,
+    found: &mut Bytes,
+    all: &mut Bytes,
+) -> Result<bool, JournalFault>
+    requires { IsTrue D.tells → IsReadable journal.old (file_in (D.seen disk.old) journal.old.file) }
+    ensures { IsTrue D.tells → OnOk result (IsReadable journal.new (file_in (D.seen disk.new) journal.new.file)) }
+{
+    if !journal.next_record(disk, found)? {
+        return Ok(false);
+    }
+    all.extend(found.as_slice())?;
+    all.extend(b"|")?;
+    Ok(true)
+}
+
+/// Reads at most four records.
+fn reads_four<D: Disk>(
+    disk: &mut D,
+    journal: &mut Journal,
+    found: &mut Bytes,
+    all: &mut Bytes,
+) -> Result<(), JournalFault>
+    requires { IsTrue D.tells → IsReadable journal.old (file_in (D.seen disk.old) journal.old.file) }
+{
+    'records: for _ in 0..4 {
+        if !reads_one(disk, journal, found, all)? {
+            break;
+        }
+    }
+    Ok(())
 }
 
 /// The records of the journal, with a bar behind each.
@@ -74,13 +110,7 @@ fn records<D: Disk>(alloc: Global, disk: &mut D, limit: u64) -> Result<Bytes, Jo
     let mut journal = Journal::open(disk, 1, 8, limit)?;
     let mut found = Bytes::new(alloc);
     let mut all = Bytes::new(alloc);
-    'records: for _ in 0..4 {
-        if !journal.next_record(disk, &mut found)? {
-            break;
-        }
-        all.extend(found.as_slice())?;
-        all.extend(b"|")?;
-    }
+    reads_four(disk, &mut journal, &mut found, &mut all)?;
     Ok(all)
 }
 
@@ -101,7 +131,17 @@ fn is_either(
     after: &[u8],
 ) -> Result<bool, Fail> {
     let mut image = disk.image(alloc, calls, choice)?;
-    let found = records(alloc, &mut image, 64)?;
+    Ok(reads_either(alloc, &mut image, before, after)?)
+}
+
+/// The disk holds the records `before`, or `after`.
+fn reads_either(
+    alloc: Global,
+    disk: &mut MemoryDisk,
+    before: &[u8],
+    after: &[u8],
+) -> Result<bool, JournalFault> {
+    let found = records(alloc, disk, 64)?;
     Ok(found.as_slice() == before || found.as_slice() == after)
 }
 
@@ -113,12 +153,15 @@ fn each_is_either(
     before: &[u8],
     after: &[u8],
 ) -> Result<bool, Fail> {
-    let mut all = is_either(alloc, disk, calls, Choice::Old, before, after)?
-        && is_either(alloc, disk, calls, Choice::New, before, after)?;
     for byte in 0..=255 {
-        all = all && is_either(alloc, disk, calls, Choice::Fill(byte), before, after)?;
+        if !is_either(alloc, disk, calls, Choice::Fill(byte), before, after)? {
+            return Ok(false);
+        }
     }
-    Ok(all)
+    if !is_either(alloc, disk, calls, Choice::Old, before, after)? {
+        return Ok(false);
+    }
+    is_either(alloc, disk, calls, Choice::New, before, after)
 }
 
 /// The image has no record, or its first gate is missing or opens on no record: a journal is not begun.
@@ -179,11 +222,15 @@ fn reads(
     Ok(())
 }
 
+fn fills_journal(rt: &impl Abort, disk: &mut MemoryDisk) {
+    let lengths = filled(disk);
+    assert!(rt; lengths == Some((9, 32, Err(AppendFault::Full))));
+}
+
 #[test]
 fn full_and_read_again(rt: HostRuntime) -> Result<(), Fail> {
     let mut disk = MemoryDisk::new(rt.alloc(), &[])?;
-    let lengths = filled(&mut disk);
-    assert!(rt; lengths == Some((9, 32, Err(AppendFault::Full))));
+    fills_journal(&rt, &mut disk);
     reads(&rt, rt.alloc(), &mut disk, 32, ONE)
 }
 
@@ -200,19 +247,37 @@ static ALLOWED: [(&[u8], &[u8]); 9] = [
     (TWO, TWO),
 ];
 
+/// The choices of the images before the journal is begun.
+static CHOICES: [Choice; 4] = [Choice::Old, Choice::New, Choice::Fill(0), Choice::Fill(1)];
+
+/// After so many calls each choice leaves no journal.
+fn leaves_no_journal(
+    rt: &impl Abort,
+    alloc: Global,
+    disk: &MemoryDisk,
+    calls: usize,
+) -> Result<(), Fail> {
+    for choice in &CHOICES {
+        leaves_none(rt, alloc, disk, calls, *choice)?;
+    }
+    Ok(())
+}
+
+fn leaves_allowed(rt: &impl Abort, alloc: Global, disk: &MemoryDisk) -> Result<(), Fail> {
+    for calls in 0..3 {
+        leaves_no_journal(rt, alloc, disk, calls)?;
+    }
+    for (more, step) in ALLOWED.iter().enumerate() {
+        leaves_either(rt, alloc, disk, 3 + more, *step)?;
+    }
+    Ok(())
+}
+
 #[test]
 fn each_stop_leaves_the_records_before_or_after(rt: HostRuntime) -> Result<(), Fail> {
     let mut disk = MemoryDisk::new(rt.alloc(), &[])?;
     acknowledges(&rt, &mut disk, Some(2));
-    for (more, step) in ALLOWED.iter().enumerate() {
-        leaves_either(&rt, rt.alloc(), &disk, 3 + more, *step)?;
-    }
-    for calls in 0..3 {
-        for choice in [Choice::Old, Choice::New, Choice::Fill(0), Choice::Fill(1)] {
-            leaves_none(&rt, rt.alloc(), &disk, calls, choice)?;
-        }
-    }
-    Ok(())
+    leaves_allowed(&rt, rt.alloc(), &disk)
 }
 
 /// This call fails: how many records were acknowledged then, and what may be there.
@@ -255,6 +320,13 @@ fn fails_to_read(rt: &impl Abort, alloc: Global, call: u64) -> Result<(), Fail> 
     Ok(())
 }
 
+/// The call that fails comes after the records were read.
+fn reads_all(rt: &impl Abort, alloc: Global, call: u64) -> Result<(), Fail> {
+    let mut disk = MemoryDisk::new(alloc, &[call])?;
+    acknowledges(rt, &mut disk, Some(2));
+    reads(rt, alloc, &mut disk, 64, TWO)
+}
+
 #[test]
 fn a_failing_call_is_a_fault_of_the_disk(rt: HostRuntime) -> Result<(), Fail> {
     for call in 1..4u64 {
@@ -264,10 +336,7 @@ fn a_failing_call_is_a_fault_of_the_disk(rt: HostRuntime) -> Result<(), Fail> {
     for call in 12..21u64 {
         fails_to_read(&rt, rt.alloc(), call)?;
     }
-    // There are no more.
-    let mut disk = MemoryDisk::new(rt.alloc(), &[21])?;
-    acknowledges(&rt, &mut disk, Some(2));
-    reads(&rt, rt.alloc(), &mut disk, 64, TWO)
+    reads_all(&rt, rt.alloc(), 21)
 }
 
 /// That file with one byte changed.
@@ -347,29 +416,119 @@ fn what_does_not_fit_is_damage(rt: HostRuntime) -> Result<(), Fail> {
     damaged_at(&rt, alloc, &[0; 8], 64, 8)
 }
 
+/// Whether a body of so many bytes is appended.
+fn appends_bytes(alloc: Global, disk: &mut MemoryDisk, size: usize) -> Result<bool, Fail>
+    requires { size < 10000 }
+{
+    let body = vec![in alloc; 7; size]?;
+    Ok(has_appended(disk, &body))
+}
+
 /// A body of this size takes so many calls to append, and is read again.
 fn appends_body(rt: &impl Abort, alloc: Global, size: usize, calls: u64) -> Result<(), Fail>
-    requires { calls < 10 }
+    requires calls { calls < 10 }
+    requires size { size < 10000 }
 {
-    let body = [7; 300];
     let mut disk = MemoryDisk::new(alloc, &[4 + calls])?;
-    let is_appended = has_appended(&mut disk, &body[..size % 301]);
-    let is_next = disk.len(1).is_err();
-    assert!(rt; is_appended && is_next);
-    let found = records(alloc, &mut disk, 2000)?;
-    let record = found.as_slice();
-    let is_whole = record.starts_with(b"12345678") && record.ends_with(b"\x07\x07|");
-    assert!(rt; is_whole && record.len() == 9 + size % 301);
+    let is_right = appends_and_reads(alloc, &mut disk, size)?;
+    assert!(rt; is_right);
     Ok(())
 }
 
+/// Whether such a body is appended, the next call fails, and the body is read again then.
+fn appends_and_reads(alloc: Global, disk: &mut MemoryDisk, size: usize) -> Result<bool, Fail>
+    requires { size < 10000 }
+{
+    let is_appended = appends_bytes(alloc, disk, size)?;
+    let is_next = disk.len(1).is_err();
+    let is_read = reads_body(alloc, disk, size)?;
+    Ok(is_appended && is_next && is_read)
+}
+
+/// Whether a head of eight digits and so many bytes 7 are the only record.
+fn reads_body(alloc: Global, disk: &mut MemoryDisk, size: usize) -> Result<bool, JournalFault>
+    requires { size < 10000 }
+{
+    let found = records(alloc, disk, 20000)?;
+    let record = found.as_slice();
+    let is_whole = record.starts_with(b"12345678") && record.ends_with(b"\x07\x07|");
+    Ok(is_whole && record.len() == 9 + size)
+}
+
 #[test]
-fn a_large_body_is_read_again(rt: HostRuntime) -> Result<(), Fail> {
-    // The size of a body, and the calls of its append: its writes, a sync, the gate and a sync.
-    for (size, calls) in [(114, 4), (115, 4), (116, 6), (300, 6)] {
-        appends_body(&rt, rt.alloc(), size, calls)?;
+fn a_body_of_4_kib_takes_two_writes_and_two_syncs(rt: HostRuntime) -> Result<(), Fail> {
+    appends_body(&rt, rt.alloc(), 2, 4)?;
+    appends_body(&rt, rt.alloc(), 4096, 4)?;
+    // A longer one goes out from where it lies: four writes and two syncs.
+    appends_body(&rt, rt.alloc(), 4097, 6)
+}
+
+/// Three bytes in file 0, synced; then the first is opened as a gate.
+fn opened(disk: &mut MemoryDisk) -> Result<(), Failed> {
+    disk.write_at(0, 0, b"\x00ab")?;
+    disk.sync(0)?;
+    open_gate(disk, 0, 0)
+}
+
+/// The image after so many calls of `opened` has this first byte in file 0, and the other two.
+fn shows_gate(
+    rt: &impl Abort,
+    alloc: Global,
+    disk: &MemoryDisk,
+    row: &(usize, u8, u8),
+) -> Result<(), Fail> {
+    let (calls, fill, gate) = *row;
+    let mut image = disk.image(alloc, calls, Choice::Fill(fill))?;
+    let mut buf = [9; 4];
+    let count = image.read(0, 0, &mut buf)?;
+    assert!(rt; count == 3);
+    assert!(rt; buf == [gate, b'a', b'b', 9]);
+    Ok(())
+}
+
+/// So many calls, what stands where nothing is settled, and the gate that is left.
+static GATES: [(usize, u8, u8); 5] = [(2, 7, 0), (3, 7, 7), (3, 1, 1), (4, 7, 1), (9, 7, 1)];
+
+#[test]
+fn a_gate_is_open_or_closed(rt: HostRuntime) -> Result<(), Fail> {
+    let mut disk = MemoryDisk::new(rt.alloc(), &[])?;
+    let is_open = opened(&mut disk).is_ok();
+    assert!(rt; is_open);
+    for row in &GATES {
+        shows_gate(&rt, rt.alloc(), &disk, row)?;
     }
     Ok(())
+}
+
+/// Each of its calls failing.
+#[test]
+fn a_failing_call_opens_no_gate(rt: HostRuntime) -> Result<(), Fail> {
+    for call in 1..5u64 {
+        let mut disk = MemoryDisk::new(rt.alloc(), &[call])?;
+        let is_open = opened(&mut disk).is_ok();
+        assert!(rt; !is_open);
+    }
+    Ok(())
+}
+
+/// The records that may be there where so many were acknowledged.
+fn allowed(acknowledged: u8) -> (&'static [u8], &'static [u8]) {
+    match acknowledged {
+        0 => (NONE, ONE),
+        1 => (ONE, TWO),
+        _ => (TWO, TWO),
+    }
+}
+
+/// Whether an image of the disk holds one of these. None where there was no memory to say so.
+fn is_in_image(alloc: Global, disk: &MemoryDisk, before: &[u8], after: &[u8]) -> Option<bool> {
+    let mut image = disk.image(alloc, 99, Choice::Fill(1)).ok()?;
+    is_in_files(alloc, &mut image, before, after)
+}
+
+/// Whether the files of the disk do.
+fn is_in_files(alloc: Global, disk: &mut MemoryDisk, before: &[u8], after: &[u8]) -> Option<bool> {
+    is_among(records(alloc, disk, 64), before, after)
 }
 
 /// How many records were acknowledged, and whether the files of the disk and an image of it hold these, or one
@@ -377,14 +536,9 @@ fn a_large_body_is_read_again(rt: HostRuntime) -> Result<(), Fail> {
 fn with_any_memory(alloc: Global) -> Option<(u8, bool)> {
     let mut disk = MemoryDisk::new(alloc, &[]).ok()?;
     let acknowledged = made(&mut disk)?;
-    let (before, after) = match acknowledged {
-        0 => (NONE, ONE),
-        1 => (ONE, TWO),
-        _ => (TWO, TWO),
-    };
-    let mut image = disk.image(alloc, 99, Choice::Fill(1)).ok()?;
-    let in_image = is_among(records(alloc, &mut image, 64), before, after)?;
-    let in_files = is_among(records(alloc, &mut disk, 64), before, after)?;
+    let (before, after) = allowed(acknowledged);
+    let in_image = is_in_image(alloc, &disk, before, after)?;
+    let in_files = is_in_files(alloc, &mut disk, before, after)?;
     Some((acknowledged, in_image && in_files))
 }
 
@@ -398,7 +552,7 @@ fn is_among(found: Result<Bytes, JournalFault>, before: &[u8], after: &[u8]) -> 
     }
 }
 
-// `checks/failing_allocations_of_files` runs these two with each allocation failing in turn: the first passes
+// `checks/failing_allocations journal` runs these two with each allocation failing in turn: the first passes
 // whichever it is, and the second where there is none.
 #[test]
 fn want_of_memory_is_no_damage(rt: HostRuntime) {

@@ -1,7 +1,7 @@
 use Rattle.std.proofs.Common.{◌≡◌, ◌⊎◌, inl, inr, ℕ, ◌+◌, ◌<◌, ◌≤◌, length, min, refl, ◌∙◌, ap, arith, rules}
 use Rattle.std.specs.Int.{w32, to_le_bytes}
 use Rattle.disk_model.specs.Moments.{Files}
-use Rattle.disk_model.specs.Reads.{seen}
+use Rattle.disk_model.specs.DiskSeen.{bytes_in}
 use Rattle.disk_model.proofs.MomentLemmas.{last_moment}
 use Rattle.gate_journal.proofs.ReadLemmas.{unchanged_then, gate_read, start_found, no_record}
 use Rattle.gate_journal.proofs.reading.record_size.Goals as goal
@@ -18,8 +18,8 @@ returns-clause-unchanged g c = λ tells. unchanged_then (c.read.ensures.time tel
 
 pub returns-then-count-lt5-clause-answer : goal.returns-then-count-lt5-clause-answer
 returns-then-count-lt5-clause-answer g c = λ tells.
-    let file = seen (g.D.Disk.moments c.args.disk.now) c.args.file in
-    let long : c.in_ok-len.field-0 ≡ length file = c.in_ok-len.ensures.length tells ∙ ap (λ (files : Files). length (files c.args.file).bytes) (last_moment (c.read.ensures.time tells)) in
+    let file = bytes_in (g.D.Disk.seen c.args.disk.now) c.args.file in
+    let long : c.in_ok-len.field-0 ≡ length file = c.in_ok-len.ensures.size tells ∙ ap (λ (files : Files). length (files c.args.file).bytes) (last_moment (c.read.ensures.time tells)) in
     let end : c.min-end.result ≡ min (length file) c.args.limit = c.min-end.ensures ∙ ap (λ (n : ℕ). min n c.args.limit) long in
     let short : (c.in_ok-count.count < 5) ⊎ (min (length file) c.args.limit ≤ c.args.gate + 5 + c.from-size.result) = elim c.then-count-lt5.branch [
       | then-count-lt5-via-then-count-lt5 w ↦ inl w.if-count-lt5.true
@@ -35,8 +35,8 @@ returns-then-count-lt5-clause-answer g c = λ tells.
 
 pub returns-clause-answer : goal.returns-clause-answer
 returns-clause-answer g c = λ tells.
-    let file = seen (g.D.Disk.moments c.args.disk.now) c.args.file in
-    let long : c.in_ok-len.field-0 ≡ length file = c.in_ok-len.ensures.length tells ∙ ap (λ (files : Files). length (files c.args.file).bytes) (last_moment (c.read.ensures.time tells)) in
+    let file = bytes_in (g.D.Disk.seen c.args.disk.now) c.args.file in
+    let long : c.in_ok-len.field-0 ≡ length file = c.in_ok-len.ensures.size tells ∙ ap (λ (files : Files). length (files c.args.file).bytes) (last_moment (c.read.ensures.time tells)) in
     let end : c.min-end.result ≡ min (length file) c.args.limit = c.min-end.ensures ∙ ap (λ (n : ℕ). min n c.args.limit) long in
     start_found file c.read.new.buf c.args.gate c.args.limit c.in_ok-count.count c.from-size.result (c.in_ok-count.ensures.bytes tells) c.read.auto.buf c.if-start-ne-OPEN.false
     (ap (λ (n : ℕ). to_le_bytes w32 n) c.from-size.ensures ∙ c.size_field.ensures.bytes) (search rules) (omega arith) (omega arith) (omega arith)

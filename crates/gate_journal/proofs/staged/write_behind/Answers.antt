@@ -4,4 +4,4 @@ use Rattle.gate_journal.proofs.staged.write_behind.Goals as goal
 
 pub returns-clause-any_moment : goal.returns-clause-any_moment
 returns-clause-any_moment g c = λ tells.
-    keeps_written c.args.file c.args.at (g.D.Disk.moments c.args.disk.now) (g.D.Disk.moments c.write_at.new.self) c.args.at _ (omega arith) (c.write_at.ensures.time tells)
+    keeps_written c.args.file c.args.at (g.D.Disk.seen c.args.disk.now).moments (g.D.Disk.seen c.write_at.new.self).moments c.args.at _ (omega arith) (c.write_at.ensures.time tells)

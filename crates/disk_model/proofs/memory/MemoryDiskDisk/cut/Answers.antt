@@ -2,11 +2,12 @@ use Rattle.disk_model.specs.Calls.{call_on, cut_to, cut_failed}
 use Rattle.disk_model.proofs.KeptLemmas.{cut_time, cut_seen, touched_failed}
 use Rattle.disk_model.proofs.memory.MemoryDiskDisk.cut.Goals as goal
 
-pub returns-clause-cut : goal.returns-clause-cut
-returns-clause-cut c = cut_seen c.args.self.now c.keep_cut.new.self c.args.file c.args.len (call_on c.args.file (cut_failed c.args.len)) c.keep_cut.result c.keep_cut.ensures.kept
-
-pub returns-clause-time : goal.returns-clause-time
-returns-clause-time c = cut_time c.args.self.now c.keep_cut.new.self c.args.file c.keep_cut.result c.args.len c.keep_cut.ensures.kept
+pub returns-clause-cuts : goal.returns-clause-cuts
+returns-clause-cuts c = record {
+  cut = λ tells. cut_seen c.args.self.now c.keep_cut.new.self c.args.file c.args.len (call_on c.args.file (cut_failed c.args.len)) c.keep_cut.result c.keep_cut.ensures.kept;
+  time = λ tells. cut_time c.args.self.now c.keep_cut.new.self c.args.file c.keep_cut.result c.args.len c.keep_cut.ensures.kept;
+  cause = c.keep_cut.ensures.cause;
+}
 
 pub returns-clause-touched : goal.returns-clause-touched
 returns-clause-touched c =

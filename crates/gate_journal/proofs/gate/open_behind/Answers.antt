@@ -1,0 +1,11 @@
+use Rattle.gate_journal.proofs.WriteLemmas.{opening_synced, opening_done}
+use Rattle.gate_journal.proofs.gate.open_behind.Goals as goal
+
+pub returns-in_err-sync-clause-any_moment : goal.returns-in_err-sync-clause-any_moment
+returns-in_err-sync-clause-any_moment g c = λ tells.
+    opening_synced c.args.file c.args.gate _ (g.D.Disk.seen c.args.disk.now).moments (g.D.Disk.seen c.sync.new.self).moments (c.sync.ensures.time tells)
+
+pub returns-clause-any_moment : goal.returns-clause-any_moment
+returns-clause-any_moment g c = λ tells.
+    opening_done c.args.file c.args.gate _ (g.D.Disk.seen c.args.disk.now).moments (g.D.Disk.seen c.sync.new.self).moments (c.sync.ensures.time tells)
+    (g.D.Disk.seen c.write_gate.new.disk).moments (c.in_ok-sync.ensures.same tells) (c.write_gate.ensures.any_moment tells)
