@@ -1,13 +1,14 @@
 -- Host texts (IFA-0001), and their names.
-use Rattle.std.specs.Prelude.{◌≡◌, ◌≢◌, ℕ, ◌-◌, ◌==◌, if◌then◌else◌, Bool, true, false, List, [], ◌∷◌, ◌++◌, length, take, drop, nat_eq, Option, Some, None, is_some, ◌⊎◌, IsTrue}
+use Rattle.std.specs.Prelude.{◌≡◌, ◌≢◌, ℕ, ◌≤◌, ◌-◌, ◌==◌, if◌then◌else◌, Bool, true, false, List, [], ◌∷◌, ◌++◌, length, take, drop, nat_eq, Option, Some, None, is_some, ◌⊎◌, IsTrue}
 use Rattle.std.specs.Option.{option_and_then}
 use Rattle.std.specs.Cmp.Lexicographic.{pointwise}
-use Rattle.std.specs.List.{list_all, join_with_byte, slice_split, AllByRecursion}
+use Rattle.std.specs.List.{list_all, join_with_byte, slice_split}
 use Rattle.domain_text.specs.declared.host.Form.{Form}
 use Rattle.domain_text.specs.declared.host.Form.TheVariants.{Absolute, AtTop, AtOwn}
 use Rattle.domain_text.specs.Label.{is_label}
 use Rattle.domain_text.specs.Ipv4.{IsIpv4, ipv4_of}
-use Rattle.domain_text.specs.Names.{IsName, joined_to, wire_of, if_fits}
+use Rattle.domain_text.specs.Names.{joined_to, wire_of, if_fits}
+use Rattle.domain_text.specs.declared.limits.TheConstants.{LONGEST_WIRE}
 
 -- what a host text stands below, and its labels above that, the lowest first
 pub record HostText : Type 0 where
@@ -15,13 +16,13 @@ pub record HostText : Type 0 where
   pub labels : List (List ℕ)
 
 abbrev pub AreLabels : List (List ℕ) → Type 0
-AreLabels labels = AllByRecursion (λ label. IsTrue (is_label label)) labels
+AreLabels labels = IsTrue (list_all is_label labels)
 
 -- labels, joined by dots
 pub record IsJoined (text : List ℕ) (labels : List (List ℕ)) : Type 0 where
   pub some : labels ≢ []
   pub are : AreLabels labels
-  pub text : text ≡ join_with_byte 46 labels
+  pub spelled : text ≡ join_with_byte 46 labels
 
 -- The four forms: labels and a dot; nothing, `@`, or labels and `.@`; labels alone, which are no address.
 pub data IsHost (text : List ℕ) (host : HostText) : Type 0 where
@@ -35,8 +36,8 @@ pub data IsHost (text : List ℕ) (host : HostText) : Type 0 where
 pub record IsAbsoluteHost (text name : List ℕ) : Type 0 where
   pub labels : List (List ℕ)
   pub host : IsHost text (record { form = Absolute; labels = labels })
-  pub name : name ≡ wire_of labels
-  pub is_name : IsName name
+  pub on_wire : name ≡ wire_of labels
+  pub fits : length name ≤ LONGEST_WIRE
 
 -- what a form ends with, at a node below the name at the top
 abbrev pub end_of : Form → List ℕ → List ℕ → List ℕ

@@ -9,7 +9,7 @@ use Rattle.domain_text.specs.Reading.{Reader, after}
 pub record IsIpv4 (text address : List ℕ) : Type 0 where
   pub four : length address ≡ 4
   pub bytes : AllByRecursion (λ n. n < 256) address
-  pub text : text ≡ join_with_byte 46 (map decimal address)
+  pub spelled : text ≡ join_with_byte 46 (map decimal address)
 
 abbrev pub below_256 : ℕ → List ℕ → Option (ℕ × List ℕ)
 below_256 n rest = if nat_lt n 256 then Some (n, rest) else None

@@ -73,8 +73,10 @@ pub(crate) fn cut(text: &[u8], at: u8) -> (&[u8], Option<&[u8]>)
     ensures split { slice_split (λ b. b == at) text.now ≡ result.0.now ∷ option_map_or (λ rest. slice_split (λ b. b == at) rest.now) result.1 [] }
     ensures shorter { IfSome result.1 (λ rest. length rest.now < length text.now) }
 {
-    match text.iter().position(|b| *b == at) {
-        Some(i) => (&text[..i], Some(&text[i + 1..])),
-        None => (text, None),
+    for (i, byte) in text.iter().enumerate() {
+        if *byte == at {
+            return (&text[..i], Some(&text[i + 1..]));
+        }
     }
+    (text, None)
 }

@@ -1,9 +1,13 @@
 //! Names on the wire.
 
-ghost use Rattle.std.specs.Prelude.{◌≡◌, ◌↔◌, Some, IsTrue, MatchOption};
-ghost use Rattle.domain_text.specs.Names.{IsName, lower};
+ghost use Rattle.std.specs.Prelude.{◌≡◌, ◌↔◌, ◌≤◌, ◌∷◌, [], List, ℕ, Some, IsTrue, MatchOption, length};
+ghost use Rattle.domain_text.specs.Names.{IsName, lower, if_fits, joined_to};
+ghost use Rattle.domain_text.specs.Host.{AreLabels, parts_of};
 ghost use Rattle.domain_text.specs.Reading.{name_length};
+ghost use Rattle.domain_text.specs.declared.limits.TheConstants.{LONGEST_WIRE};
 
+use crate::front::Front;
+use crate::label::cut;
 use crate::limits::{LONGEST_LABEL, LONGEST_WIRE};
 use std::marker::Model;
 
@@ -11,20 +15,18 @@ use std::marker::Model;
 /// lowest first, and a 0; in all at most 255 bytes (RFC 1035, 3.1 and 2.3.4). Contracts see these bytes.
 #[derive(Drop)]
 pub struct Name {
-    bytes: [u8; LONGEST_WIRE],
-    len: usize,
+    wire: Front,
 }
 
 impl Model for Name {
-    ghost use Rattle.std.specs.Prelude.{List, ℕ, take, ◌≤◌};
+    ghost use Rattle.std.specs.Prelude.{List, ℕ};
     ghost use Rattle.domain_text.specs.Names.{IsName};
-    ghost use Rattle.domain_text.specs.declared.limits.TheConstants.{LONGEST_WIRE};
 
     ghost Value = { List ℕ };
 
-    ghost view = { λ n. take n.len n.bytes };
+    ghost view = { λ n. n.wire };
 
-    ghost invariant = { λ n. (n.len ≤ LONGEST_WIRE) × IsName (take n.len n.bytes) };
+    ghost invariant = { λ n. IsName n.wire };
 }
 
 /// How many bytes the labels at the front take, with the 0 behind them.
@@ -49,17 +51,34 @@ fn name_len(bytes: &[u8]) -> Option<usize>
     None
 }
 
-/// Whether the bytes are those of a name.
+/// Whether the bytes, which are few enough for a name, are those of one.
 fn is_name(wire: &[u8]) -> bool
+    requires { length wire.now ≤ LONGEST_WIRE }
     ensures { IsTrue result ↔ IsName wire.now }
 {
-    if wire.len() > LONGEST_WIRE {
-        return false;
-    }
     match name_len(wire) {
         Some(len) => len == wire.len(),
         None => false,
     }
+}
+
+/// The labels of a text, each behind its length, and what they stand below.
+fn joined(labels: &[u8], end: &[u8]) -> Option<Front>
+    requires labels { AreLabels (parts_of labels.now) }
+    ensures { result ≡ if_fits (joined_to (parts_of labels.now) end.now) }
+{
+    let mut front = Front::empty();
+    let mut rest = if labels.is_empty() {
+        None
+    } else {
+        Some(labels)
+    };
+    while let Some(text) = rest {
+        let (label, more) = cut(text, b'.');
+        front = front.append(&[label.len() as u8])?.append(label)?;
+        rest = more;
+    }
+    front.append(end)
 }
 
 impl Name {
@@ -67,15 +86,30 @@ impl Name {
     pub fn from_wire(wire: &[u8]) -> Option<Name>
         ensures { MatchOption result (¬ (IsName wire.now)) (λ name. (name ≡ wire.now) × IsName wire.now) }
     {
+        let front = Front::empty().append(wire)?;
         if !is_name(wire) {
             return None;
         }
-        let mut bytes = [0; LONGEST_WIRE];
-        bytes[..wire.len()].copy_from_slice(wire);
-        Some(Name {
-            bytes,
-            len: wire.len(),
-        })
+        Some(Name { wire: front })
+    }
+
+    /// The name of the root: no label.
+    pub fn root() -> Name
+        ensures { result ≡ 0 ∷ [] }
+    {
+        Name {
+            wire: Front::of_byte(0),
+        }
+    }
+
+    /// The labels that a text joins by dots, below this name. None exactly where the name would have more than
+    /// 255 bytes.
+    pub(crate) fn with_labels(&self, labels: &[u8]) -> Option<Name>
+        requires labels { AreLabels (parts_of labels.now) }
+        ensures { result ≡ if_fits (joined_to (parts_of labels.now) self.now) }
+    {
+        let wire = joined(labels, self.wire())?;
+        Some(Name { wire })
     }
 
     /// The wire form.
@@ -83,7 +117,7 @@ impl Name {
         ensures value { result.now ≡ self.now }
         ensures name { IsName result.now }
     {
-        &self.bytes[..self.len]
+        self.wire.as_slice()
     }
 
     /// The same name again.
@@ -91,8 +125,7 @@ impl Name {
         ensures { result ≡ self.now }
     {
         Name {
-            bytes: self.bytes,
-            len: self.len,
+            wire: self.wire.copy(),
         }
     }
 
@@ -107,11 +140,8 @@ impl Name {
     pub fn lower(&self) -> Name
         ensures { result ≡ lower self.now }
     {
-        let mut bytes = self.bytes;
-        bytes.make_ascii_lowercase();
         Name {
-            bytes,
-            len: self.len,
+            wire: self.wire.lower(),
         }
     }
 }
