@@ -40,8 +40,9 @@ impl<'a> Model for Host<'a> {
     ghost invariant = { λ h. AreLabels (parts_of h.labels.now) };
 }
 
-/// Whether labels, joined by dots, make the text.
-fn are_labels(text: &[u8]) -> bool
+/// Whether labels, joined by dots, make the text: each part between dots is a label of 1 to 63 letters, digits,
+/// `-` and `_`.
+pub fn are_labels(text: &[u8]) -> bool
     ensures { result ≡ list_all is_label_of (parts text.now) }
 {
     let mut text = text;

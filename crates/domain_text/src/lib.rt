@@ -10,9 +10,14 @@ mod label;
 mod limits;
 mod name;
 
-pub use host::{Form, Host, absolute_name, read_host};
+pub use host::{Form, Host, absolute_name, are_labels, read_host};
 pub use ipv4::read_ipv4;
 pub use ipv6::read_ipv6;
 pub use label::{is_entry_label, is_label};
 pub use limits::{LONGEST_LABEL, LONGEST_WIRE};
 pub use name::Name;
+
+#[cfg(test)]
+mod rows;
+#[cfg(test)]
+mod tests;
