@@ -6,7 +6,7 @@ use Rattle.serde_json.specs.Data.{Data, null, boolean, number, string, array, ob
 use Rattle.serde_json.specs.Find.{as_array}
 use Rattle.serde_json.specs.View.{view, items_view}
 use Rattle.serde_json.specs.declared.value.Value.{Value}
-use Rattle.ifa_value.specs.Shapes.{strings, cut_after}
+use Rattle.ifa_value.specs.Shapes.{strings, cut_after, txt}
 use Rattle.ifa_value.specs.Elements.{each, onto, one_or_list, list_only, alone}
 
 pub onto_step : {A B : Type 0} (f : B → Option A) (x : B) (xs : List B) (r : Option A) → f x ≡ r → filter_map f (x ∷ xs) ≡ onto r (filter_map f xs)
@@ -40,3 +40,11 @@ cut_step rest h =
 
 pub strings_step : (out rest front more : List ℕ) → 255 < length rest → front ≡ take 255 rest → more ≡ drop 255 rest → ((out ++ 255 ∷ []) ++ front) ++ strings more ≡ out ++ strings rest
 strings_step out rest front more h f m = rw (cut_step rest h, f, m) (simp append_assoc)
+
+pub txt-array : (d : Data) (ds : Items) → Some ds ≡ as_array d → txt d ≡ txt (array ds)
+txt-array null ds e = absurd (cc)
+txt-array (boolean b) ds e = absurd (cc)
+txt-array (number n) ds e = absurd (cc)
+txt-array (string s) ds e = absurd (cc)
+txt-array (array es) ds e = let same : es ≡ ds = cc in ap (λ xs. txt (array xs)) same
+txt-array (object ms) ds e = absurd (cc)
