@@ -16,6 +16,7 @@ use Rattle.chain_state.specs.Tables.{maps_by}
 use Rattle.chain_state.specs.Work.{HasSpentPlace, HasSpentRow, may_be_empty, may_be_empty_at}
 use Rattle.name_tables.specs.Expiring.{CanReturn}
 use Rattle.undo_laws.specs.Expired.{is_held_at, IsDue, IsSortedByPoint}
+use Rattle.name_tables.specs.Places.{is_queued_at}
 use Rattle.name_tables.specs.declared.tables.Tables.{Tables}
 use Rattle.chain_state.specs.declared.work.Work.{Work}
 use Rattle.chain_state.specs.declared.whole.Whole.{Whole}
