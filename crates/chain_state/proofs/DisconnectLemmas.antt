@@ -1,5 +1,5 @@
 -- The newest block of a chain is disconnected.
-use Rattle.std.proofs.Common.{◌≡◌, ℕ, zero, suc, ◌+◌, ◌-◌, ◌≤◌, Bool, true, false, nat_lt, not, ◌&&◌, List, [], ◌∷◌, ◌++◌, map, length, refl, sym, ap, subst, ◌∙◌, arith}
+use Rattle.std.proofs.Common.{◌≡◌, ℕ, zero, suc, ◌+◌, ◌-◌, Bool, true, false, nat_lt, not, ◌&&◌, List, [], ◌∷◌, ◌++◌, map, length, refl, sym, ap, subst, ◌∙◌, arith}
 use Rattle.std.specs.Str.{bytes_eq}
 use Rattle.std.proofs.lemmas.List.{length-map, length-reverse}
 use Rattle.std.proofs.lemmas.Bool.Decides.{nat_tests}
@@ -139,7 +139,7 @@ module _ (c : Indexed) (indexed : IsIndexed c) (undo : UndoRecord) (below : List
       (0, subst (AllByRecursion (CanReturn tables 0)) (sym (expired-none profile c.tip.height (maps_by c.tables) undo.expired (grind (arith, nat_tests, high)) sound_here.1.fits.expired)) tt)
   returns false low = (
     suc c.tip.height - expiry_depth profile (suc c.tip.height),
-    can_return (suc c.tip.height - expiry_depth profile (suc c.tip.height)) (grind (arith, nat_tests, low)) undo.expired sound_here.1.fits.expired held,
+    can_return (suc c.tip.height - expiry_depth profile (suc c.tip.height)) (grind (arith, nat_tests, low)) undo.expired sound_here.1.fits.expired has.held,
   )
 
   returning : (row : ℕ) × AllByRecursion (CanReturn tables row) undo.expired

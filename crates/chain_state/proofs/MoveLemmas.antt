@@ -3,7 +3,6 @@ use Rattle.std.proofs.Common.{◌≡◌, ℕ, ◌+◌, ◌≤◌, Bool, true, fa
 use Rattle.std.specs.Prelude.{Option, Some, None, ◌||◌, ◌==◌, nat_eq}
 use Rattle.std.specs.Option.{is_some}
 use Rattle.std.specs.List.{list_any, AllByRecursion}
-use Rattle.std.specs.Map.{lookup}
 use Rattle.std.specs.Str.{bytes_eq}
 use Rattle.std.specs.Cmp.{unsigned_Decides}
 use Rattle.nmc_base.specs.Roomy.{Roomy}
@@ -15,7 +14,7 @@ use Rattle.chain_names.specs.declared.undo.UndoOp.{UndoOp}
 use Rattle.chain_names.specs.Points.{same_point, changed}
 use Rattle.chain_names.specs.Coins.{Maps, entry_of}
 use Rattle.chain_names.specs.Changes.{moved, moved_back, back_op}
-use Rattle.chain_names.specs.Tables.{CoinSlots, NameSlots, QueueSlots, filled_by, is_filled, coins_in, coin_places, names_in, name_places, row_at, queued_in, queue_places, is_named_at, queue_of, FilledBut, AreNamesFilled}
+use Rattle.chain_names.specs.Tables.{CoinSlots, NameSlots, QueueSlots, coins_in, coin_places, names_in, name_places, queued_in, queue_places, is_named_at, queue_of, FilledBut, AreNamesFilled}
 use Rattle.chain_names.proofs.Changed.{changed_at, changed_mapped}
 use Rattle.chain_names.proofs.Points.{same_point-Decides}
 use Rattle.chain_names.proofs.Filled.{filled-weaker, filled-taken}

@@ -1,14 +1,13 @@
 -- Places that are empty are given up.
 use Rattle.std.proofs.Common.{◌≡◌, ℕ, Bool, true, false, cond, ◌&&◌, List, [], ◌∷◌, ◌++◌, refl, sym, ap, subst, ◌∙◌}
-use Rattle.std.specs.Prelude.{Option, Some, None, ◌==◌, nat_eq}
+use Rattle.std.specs.Prelude.{◌==◌, nat_eq}
 use Rattle.std.specs.Option.{is_some}
 use Rattle.std.specs.List.{list_any}
 use Rattle.std.specs.Cmp.{unsigned_Decides}
 use Rattle.nmc_base.specs.Roomy.{Roomy}
 use Rattle.nmc_base.specs.declared.hashes.OutPoint.{OutPoint}
-use Rattle.chain_names.specs.declared.coin.Coin.{Coin}
 use Rattle.chain_names.specs.Points.{same_point, changed}
-use Rattle.chain_names.specs.Tables.{CoinSlots, QueueSlots, coins_in, coin_places, queued_in, queue_places, FilledBut, AreCoinsFilled, AreNamesFilled, IsQueueFilled}
+use Rattle.chain_names.specs.Tables.{CoinSlots, QueueSlots, coins_in, coin_places, queued_in, queue_places, FilledBut, AreNamesFilled}
 use Rattle.chain_names.proofs.Points.{same_point-Decides}
 use Rattle.chain_names.proofs.Filled.{filled-unplaced, filled-weaker}
 use Rattle.chain_names.proofs.Shown.{true_is_not_false}
@@ -17,7 +16,7 @@ use Rattle.chain_state.specs.Work.{may_be_empty, may_be_empty_at, IsWork}
 use Rattle.chain_state.specs.declared.work.Work.{Work}
 use Rattle.name_tables.proofs.ListLemmas.{or_both}
 use Rattle.chain_state.proofs.WorkLemmas.{list_any-more}
-use Rattle.name_tables.proofs.PlaceLemmas.{coin-placed, queued-placed, coins_all_filled, rows_all_filled}
+use Rattle.name_tables.proofs.PlaceLemmas.{coins_all_filled, rows_all_filled}
 use Rattle.chain_state.proofs.BackLemmas.{same_point-swap}
 
 -- ---- all places are filled

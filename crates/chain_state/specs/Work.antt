@@ -1,5 +1,5 @@
 -- Work on the tables for one block: what was done so far, and what undoes it.
-use Rattle.std.specs.Prelude.{◌≡◌, ℕ, ◌+◌, ◌≤◌, Bool, true, false, ◌||◌, ◌&&◌, ◌==◌, List, [], ◌∷◌, ◌++◌, length, Some}
+use Rattle.std.specs.Prelude.{◌≡◌, ℕ, ◌+◌, ◌≤◌, Bool, true, ◌||◌, ◌&&◌, ◌==◌, List, [], ◌∷◌, ◌++◌, length, Some}
 use Rattle.std.specs.Option.{is_some}
 use Rattle.std.specs.List.{list_any, AllByRecursion}
 use Rattle.nmc_base.specs.declared.hashes.OutPoint.{OutPoint}
@@ -7,12 +7,13 @@ use Rattle.nmc_base.specs.declared.hashes.Hash20.{Hash20}
 use Rattle.chain_names.specs.declared.coin.Coin.{Coin}
 use Rattle.chain_names.specs.declared.coin.Coin.TheVariants.{New}
 use Rattle.chain_names.specs.declared.undo.UndoOp.{UndoOp}
-use Rattle.chain_names.specs.declared.undo.UndoOp.TheVariants.{New as undo_new, First as undo_first, Update as undo_update}
+use Rattle.chain_names.specs.declared.undo.UndoOp.TheVariants.{First as undo_first, Update as undo_update}
 use Rattle.chain_names.specs.Points.{same_point, changed}
 use Rattle.chain_names.specs.Coins.{Maps, entry_of}
 use Rattle.chain_names.specs.Changes.{back_op, back_ops, with_spent, moved_back}
 use Rattle.chain_names.specs.Tables.{coins_in, coin_places, queued_in, queue_places, queue_of, is_named_at, FilledBut, AreNamesFilled}
 use Rattle.undo_laws.specs.Fits.{IsMadeNamed, IsUndoable, AreUndoable}
+use Rattle.name_tables.specs.Places.{spends, spends_at}
 use Rattle.name_tables.specs.declared.tables.Tables.{Tables}
 use Rattle.name_tables.specs.declared.moving.Shift.{Shift}
 use Rattle.chain_state.specs.declared.work.Work.{Work}

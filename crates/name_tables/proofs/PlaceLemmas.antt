@@ -1,9 +1,9 @@
 -- What is held has a place, and what has a place keeps it.
-use Rattle.std.proofs.Common.{◌≡◌, ℕ, ◌-◌, ◌<◌, ◌≤◌, Bool, true, false, cond, ◌&&◌, [], ◌∷◌, refl, sym, ap, ◌∙◌, ◌+◌, ◌++◌}
+use Rattle.std.proofs.Common.{◌≡◌, ℕ, Bool, true, false, cond, ◌&&◌, refl, sym, ap, ◌∙◌}
 use Rattle.std.specs.Cmp.{unsigned_Decides, both_ways}
 use Rattle.std.specs.Map.{lookup}
 use Rattle.std.specs.Option.{is_some}
-use Rattle.std.specs.Prelude.{Some, ◌||◌, ◌==◌, nat_eq, Option, None}
+use Rattle.std.specs.Prelude.{Some, ◌==◌, nat_eq, Option, None}
 use Rattle.nmc_base.specs.declared.hashes.OutPoint.{OutPoint}
 use Rattle.chain_names.proofs.Shown.{true_is_not_false}
 use Rattle.chain_names.specs.Points.{same_point, changed}

@@ -1,5 +1,5 @@
 -- The places of what operations spent and of coins that expired, which may hold nothing for a while.
-use Rattle.std.specs.Prelude.{◌≡◌, ℕ, Bool, false, ◌||◌, ◌&&◌, List, Some}
+use Rattle.std.specs.Prelude.{ℕ, Bool, false, ◌||◌, ◌&&◌, List, Some}
 use Rattle.std.specs.Option.{is_some}
 use Rattle.std.specs.List.{list_any}
 use Rattle.nmc_base.specs.declared.hashes.OutPoint.{OutPoint}

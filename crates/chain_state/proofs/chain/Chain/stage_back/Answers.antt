@@ -5,7 +5,6 @@ use Rattle.undo_records.specs.declared.undo.Undo.{Undo}
 use Rattle.undo_records.specs.Seen.{seen_undo}
 use Rattle.chain_state.specs.Chain.{Indexed, SameIndex, indexed_of, index_of, newest_first}
 use Rattle.chain_state.specs.StageBack.{IsBackRefusal, IsStagedBackOn}
-use Rattle.name_tables.specs.declared.tables.Tables.{Tables}
 use Rattle.chain_state.specs.declared.back.BackRefusal.TheVariants.{NotTip}
 use Rattle.chain_state.proofs.DisconnectLemmas.{EndsIn, ends_in, newest_is, not_the_tip, staged_back, stage_again, same_again, newest_none, is_the_tip, room_for}
 use Rattle.chain_state.proofs.chain.Chain.stage_back.Goals as goal
