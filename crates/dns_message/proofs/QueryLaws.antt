@@ -7,11 +7,14 @@ use Rattle.domain_text.specs.Reading.{name_length}
 use Rattle.domain_text.specs.declared.limits.TheConstants.{LONGEST_WIRE}
 use Rattle.domain_text.proofs.NameLaws.{guard, name_found, name_only}
 use Rattle.dns_message.specs.Header.{word_text, header_text, qr_of, opcode_of, IsHeader}
-use Rattle.dns_message.specs.Query.{Query, Reading, question_text, HasHeader, IsStandardQuery, HasOneQuestion, IsQuery, ReadsAs}
+use Rattle.dns_message.specs.Query.{Query, Reading, question_text, HasHeader, IsStandardQuery, HasOneQuestion, IsQuery, IfQuery, ReadsAs, query_of, asked_of}
 use Rattle.dns_message.specs.Query.Reading.{Dropped, NotImplemented, FormatError, Asks}
 use Rattle.dns_message.specs.Query.ReadsAs.{no_header, response, other_opcode, no_question, question}
 use Rattle.dns_message.specs.Reading.{word_at, header_at, question_at, query_of_length, query_at, one_question, reading_behind, reading_of}
 use Rattle.dns_message.specs.declared.header.Header.{Header}
+use Rattle.dns_message.specs.declared.query.Asked.{Asked}
+use Rattle.dns_message.specs.declared.query.Asked.TheVariants as asked
+use Prim.{tt}
 use Rattle.dns_message.specs.declared.numbers.TheConstants.{HEADER_SIZE, TYPE_AND_CLASS_SIZE}
 use Rattle.dns_message.proofs.BufferLemmas.{length-take}
 use Rattle.dns_message.proofs.HeaderLaws.{AreBytes, AreBytes-drop, word_fits, drop-word_at, header_found, header_at-header_text}
@@ -208,5 +211,8 @@ query_by_rule bytes q reading e (other_opcode h rest begins query other) = absur
 query_by_rule bytes q reading e (no_question h rest begins standard none) = absurd (cc)
 query_by_rule bytes q reading e (question other is) = let same : other ≡ q = cc in subst (λ z. IsQuery z bytes) same is
 
-pub is_query : (bytes : List ℕ) (q : Query) → AreBytes bytes → reading_of bytes ≡ Asks q → IsQuery q bytes
-is_query bytes q are e = query_by_rule bytes q (reading_of bytes) e (reads_as bytes are)
+pub is_query : (bytes : List ℕ) (a : Asked) → AreBytes bytes → asked_of a ≡ reading_of bytes → IfQuery a (λ q. IsQuery (query_of q) bytes)
+is_query bytes (asked.Query q) are e = query_by_rule bytes (query_of q) (reading_of bytes) (sym e) (reads_as bytes are)
+is_query bytes asked.Drop are e = tt
+is_query bytes (asked.FormErr id flags) are e = tt
+is_query bytes (asked.NotImp id flags) are e = tt

@@ -37,6 +37,13 @@ asked_of asked.Drop = Dropped
 asked_of (asked.FormErr id flags) = FormatError id flags
 asked_of (asked.NotImp id flags) = NotImplemented id flags
 
+-- where a question was found, this is so of it
+abbrev pub IfQuery : Asked → (Question → Type 0) → Type 0
+IfQuery (asked.Query q) IsSo = IsSo q
+IfQuery asked.Drop IsSo = Unit {0}
+IfQuery (asked.FormErr id flags) IsSo = Unit {0}
+IfQuery (asked.NotImp id flags) IsSo = Unit {0}
+
 -- A message begins with this header, and this stands behind it (4.1, 4.1.1).
 pub record HasHeader (h : Header) (rest bytes : List ℕ) : Type 0 where
   pub text : bytes ≡ header_text h ++ rest
