@@ -36,12 +36,12 @@ drop-word_at at bytes are within =
 pub header_found : (bytes : List ℕ) → AreBytes bytes → HEADER_SIZE ≤ length bytes → HasHeader (header_at bytes) (drop HEADER_SIZE bytes) bytes
 header_found bytes are long = record {
   text =
-    drop-word_at 0 bytes are (omega (arith, long)) ∙ ap (λ w. word_text (word_at 0 bytes) ++ w) (
-    drop-word_at 2 bytes are (omega (arith, long)) ∙ ap (λ w. word_text (word_at 2 bytes) ++ w) (
-    drop-word_at 4 bytes are (omega (arith, long)) ∙ ap (λ w. word_text (word_at 4 bytes) ++ w) (
-    drop-word_at 6 bytes are (omega (arith, long)) ∙ ap (λ w. word_text (word_at 6 bytes) ++ w) (
-    drop-word_at 8 bytes are (omega (arith, long)) ∙ ap (λ w. word_text (word_at 8 bytes) ++ w) (
-    drop-word_at 10 bytes are (omega (arith, long)))))));
+      drop-word_at 0 bytes are (omega (arith, long)) ∙ ap (λ w. word_text (word_at 0 bytes) ++ w) (
+      drop-word_at 2 bytes are (omega (arith, long)) ∙ ap (λ w. word_text (word_at 2 bytes) ++ w) (
+      drop-word_at 4 bytes are (omega (arith, long)) ∙ ap (λ w. word_text (word_at 4 bytes) ++ w) (
+      drop-word_at 6 bytes are (omega (arith, long)) ∙ ap (λ w. word_text (word_at 6 bytes) ++ w) (
+      drop-word_at 8 bytes are (omega (arith, long)) ∙ ap (λ w. word_text (word_at 8 bytes) ++ w) (
+      drop-word_at 10 bytes are (omega (arith, long)))))));
   words = record {
     id = word_fits 0 bytes are;
     flags = word_fits 2 bytes are;

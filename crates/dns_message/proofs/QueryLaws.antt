@@ -6,13 +6,16 @@ use Rattle.domain_text.specs.Names.{IsName, wire_of}
 use Rattle.domain_text.specs.Reading.{name_length}
 use Rattle.domain_text.specs.declared.limits.TheConstants.{LONGEST_WIRE}
 use Rattle.domain_text.proofs.NameLaws.{guard, name_found, name_only}
-use Rattle.dns_message.specs.Header.{word_text, header_text, opcode_of, IsHeader}
-use Rattle.dns_message.specs.Query.{Query, Reading, question_text, HasHeader, IsStandardQuery, HasOneQuestion, IsQuery, ReadsAs}
+use Rattle.dns_message.specs.Header.{word_text, header_text, qr_of, opcode_of, IsHeader}
+use Rattle.dns_message.specs.Query.{Query, Reading, question_text, HasHeader, IsStandardQuery, HasOneQuestion, IsQuery, IfQuery, ReadsAs, query_of, asked_of}
 use Rattle.dns_message.specs.Query.Reading.{Dropped, NotImplemented, FormatError, Asks}
 use Rattle.dns_message.specs.Query.ReadsAs.{no_header, response, other_opcode, no_question, question}
 use Rattle.dns_message.specs.Reading.{word_at, header_at, question_at, query_of_length, query_at, one_question, reading_behind, reading_of}
 use Rattle.dns_message.specs.declared.header.Header.{Header}
-use Rattle.dns_message.specs.declared.numbers.TheConstants.{HEADER_SIZE, TYPE_AND_CLASS_SIZE, QR, QUERY}
+use Rattle.dns_message.specs.declared.query.Asked.{Asked}
+use Rattle.dns_message.specs.declared.query.Asked.TheVariants as asked
+use Prim.{tt}
+use Rattle.dns_message.specs.declared.numbers.TheConstants.{HEADER_SIZE, TYPE_AND_CLASS_SIZE}
 use Rattle.dns_message.proofs.BufferLemmas.{length-take}
 use Rattle.dns_message.proofs.HeaderLaws.{AreBytes, AreBytes-drop, word_fits, drop-word_at, header_found, header_at-header_text}
 
@@ -28,18 +31,6 @@ is_below a b h = grind arith
 was_below : (a b : ℕ) → nat_lt a b ≡ true → a < b
 was_below a b h = grind (arith, h)
 
-above : (a b : ℕ) → b < a → nat_le a b ≡ false
-above a b h = grind arith
-
-was_above : (a b : ℕ) → nat_le a b ≡ false → b < a
-was_above a b h = grind (arith, h)
-
-at_least : (a b : ℕ) → a ≤ b → nat_le a b ≡ true
-at_least a b h = grind arith
-
-was_at_least : (a b : ℕ) → nat_le a b ≡ true → a ≤ b
-was_at_least a b h = grind (arith, h)
-
 same_number : (a b : ℕ) → a ≡ b → (a == b) ≡ true
 same_number a b h = grind arith
 
@@ -51,6 +42,13 @@ other_number a b h = grind arith
 
 was_other : (a b : ℕ) → (a == b) ≡ false → a ≢ b
 was_other a b h e = grind (arith, h, e)
+
+-- QR is 0 where it isn't 1
+is_query_bit : (flags : ℕ) → flags < 2 ^ 16 → qr_of flags ≢ 1 → qr_of flags ≡ 0
+is_query_bit flags fits other = omega (arith, fits, other)
+
+no_response : (flags : ℕ) → qr_of flags ≡ 0 → (qr_of flags == 1) ≡ false
+no_response flags query = other_number (qr_of flags) 1 (λ e. omega (arith, query, e))
 
 -- ---- the question behind a header
 
@@ -134,20 +132,20 @@ by_count : (h : Header) (rest bytes : List ℕ) → AreBytes rest → HasHeader 
 by_count h rest bytes are begins standard true e = asks h rest bytes are begins standard (was_same h.questions 1 e) (query_at h rest) refl
 by_count h rest bytes are begins standard false e = no_question h rest begins standard (λ q is. was_other h.questions 1 e is.one)
 
-by_opcode : (h : Header) (rest bytes : List ℕ) → AreBytes rest → HasHeader h rest bytes → h.flags < QR → (b : Bool) → (opcode_of h.flags == QUERY) ≡ b
+by_opcode : (h : Header) (rest bytes : List ℕ) → AreBytes rest → HasHeader h rest bytes → qr_of h.flags ≡ 0 → (b : Bool) → (opcode_of h.flags == 0) ≡ b
     → ReadsAs bytes (if b then (if h.questions == 1 then one_question h (query_at h rest) else FormatError h.id h.flags) else NotImplemented h.id h.flags)
 by_opcode h rest bytes are begins query true e =
-    by_count h rest bytes are begins (record { query = query; opcode = was_same (opcode_of h.flags) QUERY e }) (h.questions == 1) refl
-by_opcode h rest bytes are begins query false e = other_opcode h rest begins query (was_other (opcode_of h.flags) QUERY e)
+    by_count h rest bytes are begins (record { query = query; opcode = was_same (opcode_of h.flags) 0 e }) (h.questions == 1) refl
+by_opcode h rest bytes are begins query false e = other_opcode h rest begins query (was_other (opcode_of h.flags) 0 e)
 
-by_response : (h : Header) (rest bytes : List ℕ) → AreBytes rest → HasHeader h rest bytes → (b : Bool) → nat_le QR h.flags ≡ b
-    → ReadsAs bytes (if b then Dropped else if opcode_of h.flags == QUERY then (if h.questions == 1 then one_question h (query_at h rest) else FormatError h.id h.flags) else NotImplemented h.id h.flags)
-by_response h rest bytes are begins true e = response h rest begins (was_at_least QR h.flags e)
-by_response h rest bytes are begins false e = by_opcode h rest bytes are begins (was_above QR h.flags e) (opcode_of h.flags == QUERY) refl
+by_response : (h : Header) (rest bytes : List ℕ) → AreBytes rest → HasHeader h rest bytes → (b : Bool) → (qr_of h.flags == 1) ≡ b
+    → ReadsAs bytes (if b then Dropped else if opcode_of h.flags == 0 then (if h.questions == 1 then one_question h (query_at h rest) else FormatError h.id h.flags) else NotImplemented h.id h.flags)
+by_response h rest bytes are begins true e = response h rest begins (was_same (qr_of h.flags) 1 e)
+by_response h rest bytes are begins false e = by_opcode h rest bytes are begins (is_query_bit h.flags begins.words.flags (was_other (qr_of h.flags) 1 e)) (opcode_of h.flags == 0) refl
 
 behind : (h : Header) (rest bytes : List ℕ) → AreBytes rest → HasHeader h rest bytes → ReadsAs bytes (reading_behind h rest)
 unfolding reading_behind
-behind h rest bytes are begins = by_response h rest bytes are begins (nat_le QR h.flags) refl
+behind h rest bytes are begins = by_response h rest bytes are begins (qr_of h.flags == 1) refl
 
 by_size : (bytes : List ℕ) → AreBytes bytes → (b : Bool) → nat_lt (length bytes) HEADER_SIZE ≡ b
     → ReadsAs bytes (if b then Dropped else reading_behind (header_at bytes) (drop HEADER_SIZE bytes))
@@ -170,7 +168,7 @@ reading_of-header h rest bytes begins =
 behind_standard : (h : Header) (rest : List ℕ) → IsStandardQuery h
     → reading_behind h rest ≡ (if h.questions == 1 then one_question h (query_at h rest) else FormatError h.id h.flags)
 unfolding reading_behind
-behind_standard h rest is = rw (above QR h.flags is.query, same_number (opcode_of h.flags) QUERY is.opcode) refl
+behind_standard h rest is = rw (no_response h.flags is.query, same_number (opcode_of h.flags) 0 is.opcode) refl
 
 behind_question : (q : Query) (h : Header) (rest : List ℕ) → IsStandardQuery h → HasOneQuestion q h rest → reading_behind h rest ≡ Asks q
 behind_question q h rest standard is = behind_standard h rest standard ∙ rw (same_number h.questions 1 is.one, query_read q h rest is) refl
@@ -181,13 +179,13 @@ none_asked h rest are none false e o a = refl
 none_asked h rest are none true e None a = refl
 none_asked h rest are none true e (Some q) a = absurd (none q (query_found h rest q are (was_same h.questions 1 e) a))
 
-behind_response : (h : Header) (rest : List ℕ) → QR ≤ h.flags → reading_behind h rest ≡ Dropped
+behind_response : (h : Header) (rest : List ℕ) → qr_of h.flags ≡ 1 → reading_behind h rest ≡ Dropped
 unfolding reading_behind
-behind_response h rest is = rw (at_least QR h.flags is) refl
+behind_response h rest is = rw (same_number (qr_of h.flags) 1 is) refl
 
-behind_other_opcode : (h : Header) (rest : List ℕ) → h.flags < QR → opcode_of h.flags ≢ QUERY → reading_behind h rest ≡ NotImplemented h.id h.flags
+behind_other_opcode : (h : Header) (rest : List ℕ) → qr_of h.flags ≡ 0 → opcode_of h.flags ≢ 0 → reading_behind h rest ≡ NotImplemented h.id h.flags
 unfolding reading_behind
-behind_other_opcode h rest query other = rw (above QR h.flags query, other_number (opcode_of h.flags) QUERY other) refl
+behind_other_opcode h rest query other = rw (no_response h.flags query, other_number (opcode_of h.flags) 0 other) refl
 
 short : (bytes : List ℕ) → length bytes < HEADER_SIZE → reading_of bytes ≡ Dropped
 unfolding reading_of
@@ -213,5 +211,8 @@ query_by_rule bytes q reading e (other_opcode h rest begins query other) = absur
 query_by_rule bytes q reading e (no_question h rest begins standard none) = absurd (cc)
 query_by_rule bytes q reading e (question other is) = let same : other ≡ q = cc in subst (λ z. IsQuery z bytes) same is
 
-pub is_query : (bytes : List ℕ) (q : Query) → AreBytes bytes → reading_of bytes ≡ Asks q → IsQuery q bytes
-is_query bytes q are e = query_by_rule bytes q (reading_of bytes) e (reads_as bytes are)
+pub is_query : (bytes : List ℕ) (a : Asked) → AreBytes bytes → asked_of a ≡ reading_of bytes → IfQuery a (λ q. IsQuery (query_of q) bytes)
+is_query bytes (asked.Query q) are e = query_by_rule bytes (query_of q) (reading_of bytes) (sym e) (reads_as bytes are)
+is_query bytes asked.Drop are e = tt
+is_query bytes (asked.FormErr id flags) are e = tt
+is_query bytes (asked.NotImp id flags) are e = tt

@@ -1,9 +1,9 @@
 -- What comes of a message, by the rules of RFC 1035, 4.1.
 use Rattle.std.specs.Prelude.{◌≡◌, ◌≢◌, ℕ, ◌<◌, ◌≤◌, ◌^◌, List, ◌++◌, length}
 use Rattle.domain_text.specs.Names.{IsName}
-use Rattle.dns_message.specs.Header.{word_text, header_text, opcode_of, IsHeader}
+use Rattle.dns_message.specs.Header.{word_text, header_text, qr_of, opcode_of, IsHeader}
 use Rattle.dns_message.specs.declared.header.Header.{Header}
-use Rattle.dns_message.specs.declared.numbers.TheConstants.{HEADER_SIZE, QR, QUERY}
+use Rattle.dns_message.specs.declared.numbers.TheConstants.{HEADER_SIZE}
 use Rattle.dns_message.specs.declared.query.Question.{Question}
 use Rattle.dns_message.specs.declared.query.Asked.{Asked}
 use Rattle.dns_message.specs.declared.query.Asked.TheVariants as asked
@@ -37,15 +37,22 @@ asked_of asked.Drop = Dropped
 asked_of (asked.FormErr id flags) = FormatError id flags
 asked_of (asked.NotImp id flags) = NotImplemented id flags
 
+-- where a question was found, this is so of it
+abbrev pub IfQuery : Asked → (Question → Type 0) → Type 0
+IfQuery (asked.Query q) IsSo = IsSo q
+IfQuery asked.Drop IsSo = Unit {0}
+IfQuery (asked.FormErr id flags) IsSo = Unit {0}
+IfQuery (asked.NotImp id flags) IsSo = Unit {0}
+
 -- A message begins with this header, and this stands behind it (4.1, 4.1.1).
 pub record HasHeader (h : Header) (rest bytes : List ℕ) : Type 0 where
   pub text : bytes ≡ header_text h ++ rest
   pub words : IsHeader h
 
--- QR is 0, and OPCODE that of a standard query (4.1.1)
+-- QR is 0, a query, and OPCODE is 0, a standard query (4.1.1)
 pub record IsStandardQuery (h : Header) : Type 0 where
-  pub query : h.flags < QR
-  pub opcode : opcode_of h.flags ≡ QUERY
+  pub query : qr_of h.flags ≡ 0
+  pub opcode : opcode_of h.flags ≡ 0
 
 -- QDCOUNT is 1 (4.1.1), and a question begins what stands behind the header (4.1.2), whatever follows it.
 pub record HasOneQuestion (q : Query) (h : Header) (rest : List ℕ) : Type 0 where
@@ -71,9 +78,9 @@ pub data ReadsAs (bytes : List ℕ) : Reading → Type 0 where
   -- there is no whole header (4.1.1)
   no_header : length bytes < HEADER_SIZE → ReadsAs bytes Dropped
   -- QR is 1: it is a response (4.1.1)
-  response : (h : Header) (rest : List ℕ) → HasHeader h rest bytes → QR ≤ h.flags → ReadsAs bytes Dropped
+  response : (h : Header) (rest : List ℕ) → HasHeader h rest bytes → qr_of h.flags ≡ 1 → ReadsAs bytes Dropped
   -- QR is 0, and OPCODE isn't that of a standard query (4.1.1)
-  other_opcode : (h : Header) (rest : List ℕ) → HasHeader h rest bytes → h.flags < QR → opcode_of h.flags ≢ QUERY
+  other_opcode : (h : Header) (rest : List ℕ) → HasHeader h rest bytes → qr_of h.flags ≡ 0 → opcode_of h.flags ≢ 0
       → ReadsAs bytes (NotImplemented h.id h.flags)
   -- a standard query, and not of one question (4.1.2)
   no_question : (h : Header) (rest : List ℕ) → HasHeader h rest bytes → IsStandardQuery h

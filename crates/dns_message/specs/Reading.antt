@@ -3,11 +3,11 @@ use Rattle.std.specs.Prelude.{ℕ, ◌+◌, nat_lt, nat_le, ◌==◌, if◌then�
 use Rattle.std.specs.Int.{w16, from_be_bytes}
 use Rattle.domain_text.specs.Reading.{name_length}
 use Rattle.domain_text.specs.declared.limits.TheConstants.{LONGEST_WIRE}
-use Rattle.dns_message.specs.Header.{opcode_of}
+use Rattle.dns_message.specs.Header.{qr_of, opcode_of}
 use Rattle.dns_message.specs.Query.{Query, Reading}
 use Rattle.dns_message.specs.Query.Reading.{Dropped, NotImplemented, FormatError, Asks}
 use Rattle.dns_message.specs.declared.header.Header.{Header}
-use Rattle.dns_message.specs.declared.numbers.TheConstants.{HEADER_SIZE, TYPE_AND_CLASS_SIZE, QR, QUERY}
+use Rattle.dns_message.specs.declared.numbers.TheConstants.{HEADER_SIZE, TYPE_AND_CLASS_SIZE}
 
 -- the number of 16 bits at a place, the high byte first
 abbrev pub word_at : ℕ → List ℕ → ℕ
@@ -39,8 +39,8 @@ one_question h (Some q) = Asks q
 -- what comes of a message of this header
 unfoldable pub reading_behind : Header → List ℕ → Reading
 reading_behind h rest =
-    if nat_le QR h.flags then Dropped
-    else if opcode_of h.flags == QUERY
+    if qr_of h.flags == 1 then Dropped
+    else if opcode_of h.flags == 0
     then (if h.questions == 1 then one_question h (query_at h rest) else FormatError h.id h.flags)
     else NotImplemented h.id h.flags
 

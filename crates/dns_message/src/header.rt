@@ -1,7 +1,7 @@
-ghost use Rattle.std.specs.Prelude.{◌≡◌, ◌≤◌, ◌+◌, ◌++◌, ◌↔◌, IsTrue, length, drop};
-ghost use Rattle.dns_message.specs.Header.{header_text, flags_of_reply, opcode_of};
+ghost use Rattle.std.specs.Prelude.{◌≡◌, ◌==◌, ◌≤◌, ◌+◌, ◌++◌, length, drop};
+ghost use Rattle.dns_message.specs.Header.{header_text, flags_of_reply, qr_of, opcode_of};
 ghost use Rattle.dns_message.specs.Reading.{word_at, header_at};
-ghost use Rattle.dns_message.specs.declared.numbers.TheConstants.{HEADER_SIZE, QR};
+ghost use Rattle.dns_message.specs.declared.numbers.TheConstants.{HEADER_SIZE};
 
 use crate::numbers::{AA, HEADER_SIZE, OPCODE, QR, RD, TC};
 use crate::write::put;
@@ -88,9 +88,9 @@ impl Header {
 
 /// Whether these are the flags of a response.
 pub(crate) fn is_response(flags: u16) -> bool
-    ensures { IsTrue result ↔ (QR ≤ flags) }
+    ensures { result ≡ (qr_of flags == 1) }
 {
-    flags >= QR
+    flags / QR == 1
 }
 
 /// The kind of query that flags tell.

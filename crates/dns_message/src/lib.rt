@@ -15,3 +15,6 @@ pub use counts::Section;
 pub use numbers::{GREATEST_LIMIT, HEADER_SIZE, LEAST_LIMIT, TIME_TO_LIVE};
 pub use query::{Asked, Question, read_query};
 pub use reply::{Reply, bare};
+
+#[cfg(test)]
+mod tests;

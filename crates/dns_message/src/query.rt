@@ -1,6 +1,5 @@
 ghost use Rattle.std.specs.Prelude.{◌≡◌, ◌↔◌, option_map};
-ghost use Rattle.dns_message.specs.Query.{Query, Reading, ReadsAs, IsQuery, query_of, asked_of};
-ghost use Rattle.dns_message.specs.Query.Reading.{Asks};
+ghost use Rattle.dns_message.specs.Query.{Reading, ReadsAs, IsQuery, IfQuery, query_of, asked_of};
 ghost use Rattle.dns_message.specs.Reading.{query_at, reading_behind, reading_of};
 
 use crate::header::{Header, is_response, opcode, word};
@@ -95,8 +94,8 @@ pub fn read_query<'a>(bytes: &'a [u8]) -> Asked<'a>
     ensures reading { asked_of result ≡ reading_of bytes.now }
     // It is what the rules say, one rule for each cause.
     ensures rules { (reading : Reading) → (asked_of result ≡ reading) ↔ ReadsAs bytes.now reading }
-    // What is read as a query is one, so its name is a name.
-    ensures query { (query : Query) → asked_of result ≡ Asks query → IsQuery query bytes.now }
+    // A question that is found is that of a query, so its name is a name.
+    ensures query { IfQuery result (λ question. IsQuery (query_of question) bytes.now) }
 {
     read_message(bytes)
 }

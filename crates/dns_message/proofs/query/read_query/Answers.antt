@@ -10,4 +10,4 @@ returns-clause-rules c = λ reading. (
 )
 
 pub returns-clause-query : goal.returns-clause-query
-returns-clause-query c = λ query e. is_query c.args.bytes.now query (λ i. omega (arith, c.type_inv.bytes i)) (sym c.read_message.ensures ∙ e)
+returns-clause-query c = is_query c.args.bytes.now c.read_message.result (λ i. omega (arith, c.type_inv.bytes i)) c.read_message.ensures
