@@ -11,7 +11,7 @@ use Rattle.block_grammar.specs.Kinds.{is_cut}
 use Rattle.block_grammar.specs.CompactSize.{compact_size, counted_list}
 use Rattle.block_grammar.specs.Witness.{stack_text, has_item}
 use Rattle.block_grammar.specs.Transaction.{TxInput, TxOutput, input_text, output_text, FitsInput, FitsOutput}
-use Rattle.block_grammar.specs.FaultRows.{FitsSome, opening, HasBadFlag, HasNoInput, HasNoOutput, HasEmptyWitness, TransactionByte, HeaderByte}
+use Rattle.block_grammar.specs.FaultRows.{FitsSome, opening, HasBadFlag, HasNoInput, HasNoOutput, HasEmptyWitness, SizeByte, TransactionByte, HeaderByte}
 use Rattle.block_grammar.specs.PureHeader.{PureHeader, pure_header_text, FitsPureHeader, IsMerged}
 use Rattle.block_grammar.specs.MergePart.{MergePart}
 use Rattle.block_grammar.specs.Combinators.{◌>>=◌, Reader, then_from, map_from, many_from, nonzero_from}
@@ -23,7 +23,7 @@ use Rattle.block_grammar.proofs.TransactionLaws.{Stacks, input_laws, output_laws
 use Rattle.block_grammar.proofs.HeaderLaws.{fields_laws}
 use Rattle.block_grammar.proofs.RowLaws.{is_field, ByTable}
 
-abbrev Spot : Type 0
+abbrev pub Spot : Type 0
 Spot = TxKind × List ℕ
 
 -- ---- from a row to the reader
@@ -112,7 +112,7 @@ witness_met bytes rest h =
 -- ---- fields end the bytes, or have a longer form
 
 -- the reader gives no other fault
-abbrev OnlyFields : {A : Type 0} → Reader TxKind A → Type 0
+abbrev pub OnlyFields : {A : Type 0} → Reader TxKind A → Type 0
 OnlyFields read = (bytes : List ℕ) (e : Spot) → read bytes ≡ Err e → is_field e.0 ≡ true
 
 abbrev Answer : Type 0 → Type 0
@@ -146,7 +146,7 @@ marked_only : (w : Width) (least : ℕ) → OnlyFields (marked_from w least)
 marked_only w least bytes e h =
     marked_field (ltb (length bytes) (byte_len w)) (ltb (from_le_bytes w (take (byte_len w) bytes)) least) (drop (byte_len w - 1) bytes) (from_le_bytes w (take (byte_len w) bytes), drop (byte_len w) bytes) e h
 
-size_only : OnlyFields size_from
+pub size_only : OnlyFields size_from
 unfolding size_from
 size_only [] e h = field_of (Cut, []) e refl h
 size_only (first ∷ rest) e h =
@@ -410,6 +410,11 @@ transaction_bytes = record { told = transaction_told; met = met; own = own; some
     some bytes NoInput rest f none = left 0 f.more (sym f.rest_is ∙ none)
     some bytes NoOutput rest f none = left 0 f.more (sym f.rest_is ∙ none)
     some bytes EmptyWitness rest f none = left 0 f.more (sym f.rest_is ∙ none)
+
+-- ---- a compact size alone
+
+pub size_bytes : ByTable SizeByte size_from
+size_bytes = record { told = λ bytes e fits h. inl (size_only bytes e h); met = λ bytes kind rest f. absurd f; own = λ bytes kind rest f. absurd f; some = λ bytes kind rest f none. f }
 
 -- ---- headers
 

@@ -12,3 +12,4 @@ pub mod Statements
 pub mod Lengths
 pub mod RowLaws
 pub mod FaultRowLaws
+pub mod BlockRowLaws

@@ -1,5 +1,5 @@
 -- The table of faults and a reader on lists, both ways, for any reader whose faults are those of the table.
-use Rattle.std.proofs.Common.{◌≡◌, ℕ, ◌-◌, ◌≤◌, ◌⊎◌, Bool, true, false, List, [], ◌∷◌, length, drop, refl, sym, ap, subst, ◌∙◌, arith, inl, inr}
+use Rattle.std.proofs.Common.{◌≡◌, ℕ, ◌-◌, ◌≤◌, ◌⊎◌, Bool, true, false, List, [], ◌∷◌, ◌++◌, length, drop, refl, sym, ap, subst, ◌∙◌, arith, inl, inr}
 use Rattle.std.specs.Prelude.{Result, Ok, Err}
 use Rattle.std.proofs.lemmas.List.{drop_at, length-drop}
 use Rattle.block_grammar.specs.declared.kinds.TxKind.{TxKind}
@@ -77,14 +77,26 @@ row_of text Fits Fault read laws t bytes kind rest fits h =
       | inr f ↦ byte_row Fault bytes kind rest (t.own bytes kind rest f) f
     ]
 
+-- the bytes that are left begin at the place
+dropped : (bytes front rest : List ℕ) → bytes ≡ front ++ rest → drop (length bytes - length rest) bytes ≡ rest
+dropped bytes front rest e =
+    let p = is_place bytes front rest e in
+    ap (drop (length bytes - length rest)) e ∙ drop_at front rest (length bytes - length rest) (sym p.place)
+
+pub fault_at : {A : Type 0} (text : A → List ℕ) (Fits : A → Type 0) (Fault : Byte) (read : Reader TxKind A) → Reads is_cut text Fits read → ByTable Fault read
+    → (bytes : List ℕ) (e : Spot) → IsBytes bytes → read bytes ≡ Err e → IsTableFault text Fits Fault bytes e.0 (length bytes - length e.1)
+fault_at text Fits Fault read laws t bytes e fits h =
+    let s = laws.stops bytes e fits h in
+    record {
+      first = front_place text Fits read laws bytes e.0 e.1 fits h;
+      row = subst (FaultRow Fault e.0 bytes) (sym (dropped bytes s.front e.1 s.parts)) (row_of text Fits Fault read laws t bytes e.0 e.1 fits h);
+    }
+
 pub fault_told : {A : Type 0} (text : A → List ℕ) (Fits : A → Type 0) (Fault : Byte) (read : Reader TxKind A) → Reads is_cut text Fits read → ByTable Fault read
     → (bytes : List ℕ) (kind : TxKind) (place : ℕ) → IsBytes bytes → place ≤ length bytes → read bytes ≡ Err (kind, drop place bytes) → IsTableFault text Fits Fault bytes kind place
 fault_told text Fits Fault read laws t bytes kind place fits within h =
     let count : length bytes - length (drop place bytes) ≡ place = omega (arith, length-drop place bytes, within) in
-    record {
-      first = subst (IsFrontPlace text Fits bytes) count (front_place text Fits read laws bytes kind (drop place bytes) fits h);
-      row = row_of text Fits Fault read laws t bytes kind (drop place bytes) fits h;
-    }
+    subst (IsTableFault text Fits Fault bytes kind) count (fault_at text Fits Fault read laws t bytes (kind, drop place bytes) fits h)
 
 -- ---- from the table to the reader
 

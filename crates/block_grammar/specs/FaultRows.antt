@@ -70,6 +70,10 @@ TransactionByte NoInput bytes rest = HasNoInput bytes rest
 TransactionByte NoOutput bytes rest = HasNoOutput bytes rest
 TransactionByte EmptyWitness bytes rest = HasEmptyWitness bytes rest
 
+-- a compact size alone has none of them
+abbrev pub SizeByte : TxKind → List ℕ → List ℕ → Type 0
+SizeByte kind bytes rest = ⊥
+
 -- one of them in the coinbase of the parent, which stands behind 80 bytes whose version has bit 0x100
 pub record HeaderByte (kind : TxKind) (bytes rest : List ℕ) : Type 0 where
   pub fields : PureHeader

@@ -12,6 +12,7 @@ ghost use Rattle.block_grammar.specs.Block.{Block, IsBlock};
 ghost use Rattle.block_grammar.specs.Merkle.{merkle_root_of, paired_row};
 ghost use Rattle.block_grammar.specs.Fault.{IsFaultPlace, IsFrontPlace};
 ghost use Rattle.block_grammar.specs.FaultRows.{TransactionByte, HeaderByte, IsTableFault};
+ghost use Rattle.block_grammar.specs.BlockRows.{BlockFaultRow};
 ghost use Rattle.block_grammar.specs.Reading.{transaction_from, header_from, block_from};
 
 /// A transaction is read as it is spelled, whatever follows; and where none is read, the place is that of the first
@@ -24,13 +25,15 @@ pub fn transaction_law()
         → transaction_from bytes ≡ Err (kind, rest) → IsTrue (is_cut kind) ↔ (length bytes - length rest ≡ length bytes) }
 {}
 
-/// Where no transaction, or no header, is read, the kind of the fault and its place are those of the table, and the other
-/// way round.
+/// Where no transaction, no header or no block is read, the kind of the fault and its place are those of the table, and the
+/// other way round.
 pub fn fault_law()
     ensures transaction { (bytes : List ℕ) (kind : TxKind) (place : ℕ) → ((i : ℕ) → slice_index bytes i < 256)
         → ((transaction_from bytes ≡ Err (kind, drop place bytes)) × (place ≤ length bytes)) ↔ IsTableFault transaction_text FitsTransaction TransactionByte bytes kind place }
     ensures header { (bytes : List ℕ) (kind : TxKind) (place : ℕ) → ((i : ℕ) → slice_index bytes i < 256)
         → ((header_from bytes ≡ Err (kind, drop place bytes)) × (place ≤ length bytes)) ↔ IsTableFault header_text FitsHeader HeaderByte bytes kind place }
+    ensures block { (bytes : List ℕ) (kind : BlockKind) (place : ℕ) → ((i : ℕ) → slice_index bytes i < 256)
+        → ((block_from bytes ≡ Err (kind, drop place bytes)) × (place ≤ length bytes)) ↔ BlockFaultRow kind bytes place }
 {}
 
 /// No transaction's text begins another's: bytes have one front at most that is a transaction.
