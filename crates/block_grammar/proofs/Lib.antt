@@ -11,5 +11,7 @@ pub mod MerkleLaws
 pub mod Statements
 pub mod Lengths
 pub mod RowLaws
+pub mod ManyRowLaws
+pub mod SizeRowLaws
 pub mod FaultRowLaws
 pub mod BlockRowLaws
