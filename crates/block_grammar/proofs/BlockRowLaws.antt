@@ -27,7 +27,8 @@ use Rattle.block_grammar.proofs.PlaceLaws.{is_place}
 use Rattle.block_grammar.proofs.RowLaws.{fault_at, fault_met}
 use Rattle.block_grammar.proofs.ManyRowLaws.{many_stopped, many_met}
 use Rattle.block_grammar.proofs.SizeRowLaws.{Spot}
-use Rattle.block_grammar.proofs.FaultRowLaws.{size_bytes, transaction_bytes, header_bytes}
+use Rattle.block_grammar.proofs.FaultRowLaws.{size_bytes, transaction_bytes}
+use Rattle.block_grammar.proofs.HeaderRowLaws.{header_bytes}
 
 -- ---- from the reader to the table
 

@@ -13,5 +13,8 @@ pub mod Lengths
 pub mod RowLaws
 pub mod ManyRowLaws
 pub mod SizeRowLaws
+pub mod RowsMet
+pub mod RowsTold
 pub mod FaultRowLaws
+pub mod HeaderRowLaws
 pub mod BlockRowLaws

@@ -5,7 +5,8 @@ use Rattle.block_grammar.specs.Reading.{transaction_from, header_from}
 use Rattle.block_grammar.proofs.BodyLaws.{transaction_laws}
 use Rattle.block_grammar.proofs.HeaderLaws.{header_laws}
 use Rattle.block_grammar.proofs.RowLaws.{fault_told, fault_met}
-use Rattle.block_grammar.proofs.FaultRowLaws.{transaction_bytes, header_bytes}
+use Rattle.block_grammar.proofs.FaultRowLaws.{transaction_bytes}
+use Rattle.block_grammar.proofs.HeaderRowLaws.{header_bytes}
 use Rattle.block_grammar.proofs.BlockRowLaws.{block_told, block_met}
 use Rattle.block_grammar.proofs.grammar.fault_law.Goals as goal
 
