@@ -18,3 +18,4 @@ pub mod RowsTold
 pub mod FaultRowLaws
 pub mod HeaderRowLaws
 pub mod BlockRowLaws
+pub mod SmallFaults

@@ -2,9 +2,11 @@
 
 ghost use Rattle.std.specs.Prelude.{◌≡◌, ℕ, ◌-◌, ◌<◌, ◌≤◌, ◌↔◌, List, [], ◌∷◌, ◌++◌, length, drop, slice_index, Some, None, Ok, Err, IsTrue};
 ghost use Rattle.block_grammar.specs.declared.kinds.TxKind.{TxKind};
+ghost use Rattle.block_grammar.specs.declared.kinds.TxKind.TheVariants.{Cut, LongForm, NoInput};
 ghost use Rattle.block_grammar.specs.declared.kinds.BlockKind.{BlockKind};
+ghost use Rattle.block_grammar.specs.declared.kinds.BlockKind.TheVariants.{NoTransaction};
 ghost use Rattle.block_grammar.specs.CompactSize.{compact_size};
-ghost use Rattle.block_grammar.specs.Examples.{tiny_transaction, tiny_text};
+ghost use Rattle.block_grammar.specs.Examples.{tiny_transaction, tiny_text, longer_count, no_inputs, no_transactions};
 ghost use Rattle.block_grammar.specs.Kinds.{is_cut, is_cut_block};
 ghost use Rattle.block_grammar.specs.Transaction.{Transaction, IsTransaction, FitsTransaction, transaction_text, stripped_text};
 ghost use Rattle.block_grammar.specs.Header.{Header, IsHeader, FitsHeader, header_text};
@@ -86,4 +88,13 @@ pub fn small_texts()
     ensures five_bytes { compact_size 0x10000 ≡ 0xFE ∷ 0 ∷ 0 ∷ 1 ∷ 0 ∷ [] }
     ensures nine_bytes { compact_size 0x1_0000_0000 ≡ 0xFF ∷ 0 ∷ 0 ∷ 0 ∷ 0 ∷ 1 ∷ 0 ∷ 0 ∷ 0 ∷ [] }
     ensures transaction { transaction_text tiny_transaction ≡ tiny_text }
+{}
+
+/// The faults of some bytes: a number in a longer form, whose last byte has offset 6; a transaction without an input; a
+/// version that is cut; and a block without a transaction.
+pub fn small_faults()
+    ensures longer_form { IsTableFault transaction_text FitsTransaction TransactionByte longer_count LongForm 6 }
+    ensures no_input { IsTableFault transaction_text FitsTransaction TransactionByte no_inputs NoInput 6 }
+    ensures cut { IsTableFault transaction_text FitsTransaction TransactionByte (1 ∷ 0 ∷ []) Cut 2 }
+    ensures no_transaction { BlockFaultRow NoTransaction no_transactions 80 }
 {}
