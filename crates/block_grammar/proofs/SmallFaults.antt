@@ -1,6 +1,6 @@
 -- The faults of some bytes, by the readers on lists.
-use Rattle.std.proofs.Common.{◌≡◌, ℕ, List, [], ◌∷◌, drop, replicate, refl, arith}
-use Rattle.std.specs.Prelude.{Ok, Err}
+use Rattle.std.proofs.Common.{◌≡◌, [], ◌∷◌, drop, refl, arith, rules}
+use Rattle.std.specs.Prelude.{Err}
 use Rattle.block_grammar.specs.declared.kinds.TxKind.TheVariants.{Cut, LongForm, NoInput}
 use Rattle.block_grammar.specs.declared.kinds.BlockKind.TheVariants.{NoTransaction}
 use Rattle.block_grammar.specs.Examples.{longer_count, no_inputs, no_transactions}
@@ -8,16 +8,12 @@ use Rattle.block_grammar.specs.Reading.{size_from, flagged_body_from, flag_from,
 use Rattle.block_grammar.specs.Transaction.{transaction_text, FitsTransaction}
 use Rattle.block_grammar.specs.FaultRows.{TransactionByte, IsTableFault}
 use Rattle.block_grammar.specs.BlockRows.{BlockFaultRow}
-use Rattle.block_grammar.proofs.Readers.{IsBytes, IsBytes-nil, IsBytes-cons}
+use Rattle.block_grammar.proofs.Readers.{IsBytes-all}
 use Rattle.block_grammar.proofs.FieldLaws.{IsBytes-replicate}
 use Rattle.block_grammar.proofs.BodyLaws.{transaction_laws}
 use Rattle.block_grammar.proofs.RowLaws.{fault_told}
 use Rattle.block_grammar.proofs.FaultRowLaws.{transaction_bytes}
 use Rattle.block_grammar.proofs.BlockRowLaws.{block_told}
-
-small_bytes : (a e f : ℕ) → a < 256 → e < 256 → f < 256 → IsBytes (a ∷ 0 ∷ 0 ∷ 0 ∷ e ∷ f ∷ 0 ∷ [])
-small_bytes a e f la le lf =
-    IsBytes-cons a _ la (IsBytes-cons 0 _ (omega arith) (IsBytes-cons 0 _ (omega arith) (IsBytes-cons 0 _ (omega arith) (IsBytes-cons e _ le (IsBytes-cons f _ lf (IsBytes-cons 0 _ (omega arith) IsBytes-nil))))))
 
 longer_read : transaction_from longer_count ≡ Err (LongForm, drop 6 longer_count)
 unfolding transaction_from body_from plain_body_from size_from
@@ -36,15 +32,15 @@ unfolding block_from block_front_from header_from fields_from merged_from count_
 block_read = refl
 
 pub longer_fault : IsTableFault transaction_text FitsTransaction TransactionByte longer_count LongForm 6
-longer_fault = fault_told transaction_text FitsTransaction TransactionByte transaction_from transaction_laws transaction_bytes longer_count LongForm 6 (small_bytes 1 0xFD 252 (omega arith) (omega arith) (omega arith)) (omega arith) longer_read
+longer_fault = fault_told transaction_text FitsTransaction TransactionByte transaction_from transaction_laws transaction_bytes longer_count LongForm 6 (IsBytes-all longer_count (search rules)) (omega arith) longer_read
 
 pub none_fault : IsTableFault transaction_text FitsTransaction TransactionByte no_inputs NoInput 6
-none_fault = fault_told transaction_text FitsTransaction TransactionByte transaction_from transaction_laws transaction_bytes no_inputs NoInput 6 (small_bytes 1 0 1 (omega arith) (omega arith) (omega arith)) (omega arith) none_read
+none_fault = fault_told transaction_text FitsTransaction TransactionByte transaction_from transaction_laws transaction_bytes no_inputs NoInput 6 (IsBytes-all no_inputs (search rules)) (omega arith) none_read
 
 pub cut_fault : IsTableFault transaction_text FitsTransaction TransactionByte (1 ∷ 0 ∷ []) Cut 2
 cut_fault =
     fault_told transaction_text FitsTransaction TransactionByte transaction_from transaction_laws transaction_bytes (1 ∷ 0 ∷ []) Cut 2
-    (IsBytes-cons 1 _ (omega arith) (IsBytes-cons 0 _ (omega arith) IsBytes-nil)) (omega arith) cut_read
+    (IsBytes-all (1 ∷ 0 ∷ []) (search rules)) (omega arith) cut_read
 
 pub block_fault : BlockFaultRow NoTransaction no_transactions 80
 block_fault = block_told no_transactions NoTransaction 80 (IsBytes-replicate 81 0 (omega arith)) (omega arith) block_read
