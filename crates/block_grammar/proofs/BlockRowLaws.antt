@@ -206,8 +206,11 @@ many_stopped_at header count before body kind rest header_fits count_fits fewer 
     let told : carried body ≡ Err (in_transaction kind, rest) = rw h refl in
     let behind = flat_map transaction_text before ++ body in
     stopped_front (header_text header ++ (compact_size count ++ behind)) (in_transaction kind, rest)
-    (rw (header_laws.again header (compact_size count ++ behind) header_fits, count_laws.again count behind (omega (arith, fewer), count_fits),
-    many_met is_cut_block transaction_text FitsTransaction carried carried_laws count before body (in_transaction kind, rest) fewer fit told) refl)
+    (rw (
+      header_laws.again header (compact_size count ++ behind) header_fits,
+      count_laws.again count behind (omega (arith, fewer), count_fits),
+      many_met is_cut_block transaction_text FitsTransaction carried carried_laws count before body (in_transaction kind, rest) fewer fit told,
+    ) refl)
 
 bytes_behind : (front body bytes : List ℕ) → IsBytes bytes → bytes ≡ front ++ body → IsBytes body
 bytes_behind front body bytes fits e = subst IsBytes (ap (drop (length front)) e ∙ drop_at front body (length front) refl) (IsBytes-drop (length front) bytes fits)

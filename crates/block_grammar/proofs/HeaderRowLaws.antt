@@ -148,8 +148,13 @@ second_branch_met : (coinbase : Transaction) (hash : List ℕ) (branch : List (L
     → merge_part_from (transaction_text coinbase ++ (hash ++ (branch_text branch ++ (to_le_bytes w32 index ++ body)))) ≡ Err e
 unfolding merge_part_from
 second_branch_met coinbase hash branch index body e p h =
-    rw (transaction_laws.again coinbase (hash ++ (branch_text branch ++ (to_le_bytes w32 index ++ body))) p.coinbase_fits, (piece_laws 32).again hash (branch_text branch ++ (to_le_bytes w32 index ++ body)) p.hash_is,
-    branch_laws.again branch (to_le_bytes w32 index ++ body) p.branch_fits, laws32.again index body p.index_fits, h) refl
+    rw (
+      transaction_laws.again coinbase (hash ++ (branch_text branch ++ (to_le_bytes w32 index ++ body))) p.coinbase_fits,
+      (piece_laws 32).again hash (branch_text branch ++ (to_le_bytes w32 index ++ body)) p.hash_is,
+      branch_laws.again branch (to_le_bytes w32 index ++ body) p.branch_fits,
+      laws32.again index body p.index_fits,
+      h,
+    ) refl
 
 branch_long : (behind rest : List ℕ) → IsLongSize behind rest → branch_from behind ≡ Err (LongForm, rest)
 unfolding branch_from

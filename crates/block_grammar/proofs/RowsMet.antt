@@ -185,8 +185,11 @@ stacks_met some zero [] inner behind rest fewer fit long is = rw (last_met some 
 stacks_met some zero (x ∷ xs) inner behind rest fewer fit long is = absurd (omega (arith, fewer))
 stacks_met some (suc n) [] inner behind rest fewer fit long is = rw (stack_met inner behind rest long is) refl
 stacks_met some (suc n) (x ∷ xs) inner behind rest fewer fit long is =
-    rw (append_assoc (stack_text x) (flat_map stack_text xs) (inner ++ behind), stack_laws.again x (flat_map stack_text xs ++ (inner ++ behind)) fit.0,
-    stacks_met (some || has_item x) n xs inner behind rest (omega (arith, fewer)) fit.1 long is) refl
+    rw (
+      append_assoc (stack_text x) (flat_map stack_text xs) (inner ++ behind),
+      stack_laws.again x (flat_map stack_text xs ++ (inner ++ behind)) fit.0,
+      stacks_met (some || has_item x) n xs inner behind rest (omega (arith, fewer)) fit.1 long is,
+    ) refl
 
 plain_body_met : (body : List ℕ) (e : Spot) → some_from NoInput input_from body ≡ Err e → plain_body_from body ≡ Err e
 unfolding plain_body_from
