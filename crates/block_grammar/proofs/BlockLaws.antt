@@ -26,17 +26,23 @@ count_nonzero : Nonzero {K = BlockKind} compact_size (IsBelow (2 ^ 64)) IsCount 
 unfolding size_from
 count_nonzero = record { fits = size_nonzero.fits; first_byte = size_nonzero.first_byte; still = size_nonzero.still; empty = λ x e. cc; sample = size_nonzero.sample; sample_fits = size_nonzero.sample_fits }
 
-count_laws : Reads is_cut_block compact_size IsCount count_from
+pub count_laws : Reads is_cut_block compact_size IsCount count_from
 unfolding count_from
 count_laws =
     nonzero_reads is_cut_block NoTransaction compact_size (IsBelow (2 ^ 64)) IsCount (within in_count size_from) refl count_nonzero
     (within_reads is_cut is_cut_block in_count compact_size (IsBelow (2 ^ 64)) size_from (λ k. refl) size_laws)
 
-abbrev headed : Reader BlockKind Header
+abbrev pub headed : Reader BlockKind Header
 headed = within in_header header_from
 
-abbrev carried : Reader BlockKind Transaction
+abbrev pub carried : Reader BlockKind Transaction
 carried = within in_transaction transaction_from
+
+pub headed_laws : Reads is_cut_block header_text FitsHeader headed
+headed_laws = within_reads is_cut is_cut_block in_header header_text FitsHeader header_from (λ k. refl) header_laws
+
+pub carried_laws : Reads is_cut_block transaction_text FitsTransaction carried
+carried_laws = within_reads is_cut is_cut_block in_transaction transaction_text FitsTransaction transaction_from (λ k. refl) transaction_laws
 
 pub block_front_laws : Reads is_cut_block block_text FitsBlock block_front_from
 unfolding block_front_from block_text
@@ -45,9 +51,9 @@ block_front_laws =
     (pair_text header_text (λ _. pair_text compact_size (λ _. flat_map transaction_text))) (PairFits FitsHeader (λ _. PairFits IsCount (ManyFit FitsTransaction))) (then_from headed (λ _. then_from count_from (many_from carried))) block_text FitsBlock
     (λ b fits. refl) (λ x fits. rw fits.1.1.0 refl) to from
     (then_reads is_cut_block header_text FitsHeader headed (λ _. pair_text compact_size (λ _. flat_map transaction_text)) (λ _. PairFits IsCount (ManyFit FitsTransaction)) (λ _. then_from count_from (many_from carried))
-    (within_reads is_cut is_cut_block in_header header_text FitsHeader header_from (λ k. refl) header_laws) (λ _ _.
+    headed_laws (λ _ _.
     then_reads is_cut_block compact_size IsCount count_from (λ _. flat_map transaction_text) (ManyFit FitsTransaction) (many_from carried) count_laws (λ n _.
-    many_reads is_cut_block transaction_text FitsTransaction carried (within_reads is_cut is_cut_block in_transaction transaction_text FitsTransaction transaction_from (λ k. refl) transaction_laws) n)))
+    many_reads is_cut_block transaction_text FitsTransaction carried carried_laws n)))
   where
     to : (x : Header × (ℕ × List Transaction)) → PairFits FitsHeader (λ _. PairFits IsCount (ManyFit FitsTransaction)) x → FitsBlock (record { header = x.0; transactions = x.1.1 })
     to x fits = record {
@@ -74,7 +80,7 @@ ended_ok (Ok (c, [])) b e = let same : c ≡ b = cc in ap (λ (x : Block). Ok (x
 ended_ok (Ok (c, byte ∷ rest)) b e = absurd cc
 ended_ok (Err w) b e = absurd cc
 
-ended_err : (r : Result (Block × List ℕ) BlockSpot) (e : BlockSpot) → ended r ≡ Err e → (r ≡ Err e) ⊎ ((b : Block) × (byte : ℕ) × (rest : List ℕ) × (r ≡ Ok (b, byte ∷ rest)) × ((Trailing, byte ∷ rest) ≡ e))
+pub ended_err : (r : Result (Block × List ℕ) BlockSpot) (e : BlockSpot) → ended r ≡ Err e → (r ≡ Err e) ⊎ ((b : Block) × (byte : ℕ) × (rest : List ℕ) × (r ≡ Ok (b, byte ∷ rest)) × ((Trailing, byte ∷ rest) ≡ e))
 ended_err (Ok (c, [])) e h = absurd cc
 ended_err (Ok (c, byte ∷ rest)) e h = inr (c, byte, rest, refl, err_is (Trailing, byte ∷ rest) e h)
 ended_err (Err w) e h = inl (ap (λ (v : BlockSpot). Err v) (err_is w e h))

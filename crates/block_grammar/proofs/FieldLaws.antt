@@ -57,7 +57,7 @@ cut_value false x = refl
 piece_same : (n : ℕ) (bytes : List ℕ) → value_of (piece_from n bytes) ≡ piece_at n bytes
 piece_same n bytes = cut_value (ltb (length bytes) n) (take n bytes, drop n bytes)
 
-cut_only : {A : Type 0} (b : Bool) (x : A) (e : Spot) → cond b (Err (Cut, [])) (Ok x) ≡ Err e → (b ≡ true) × ((Cut, []) ≡ e)
+pub cut_only : {A : Type 0} (b : Bool) (x : A) (e : Spot) → cond b (Err (Cut, [])) (Ok x) ≡ Err e → (b ≡ true) × ((Cut, []) ≡ e)
 cut_only true x e h = (refl, err_is (Cut, []) e h)
 cut_only false x e h = absurd cc
 
@@ -136,14 +136,14 @@ laws64 = number_laws w64 (2 ^ 64) wide64 (omega arith)
 -- ---- compact sizes
 
 -- so many bytes, the last of them apart
-record Split (n : ℕ) (bytes : List ℕ) : Type 0 where
-  xs : List ℕ
-  last : ℕ
-  tail : List ℕ
-  len : length xs + 1 ≡ n
-  is : bytes ≡ xs ++ (last ∷ tail)
+pub record Split (n : ℕ) (bytes : List ℕ) : Type 0 where
+  pub xs : List ℕ
+  pub last : ℕ
+  pub tail : List ℕ
+  pub len : length xs + 1 ≡ n
+  pub is : bytes ≡ xs ++ (last ∷ tail)
 
-split : (n : ℕ) (bytes : List ℕ) → 1 ≤ n → n ≤ length bytes → Split n bytes
+pub split : (n : ℕ) (bytes : List ℕ) → 1 ≤ n → n ≤ length bytes → Split n bytes
 split n bytes some long =
     let k = n - 1 in
     let inside : k < length bytes = omega (arith, some, long) in
@@ -181,7 +181,7 @@ size_value (first ∷ rest) =
     ]
 
 -- a longer form, whatever follows its last byte
-long_again : (w : Width) (least : ℕ) (xs : List ℕ) (b : ℕ) (more : List ℕ) → length xs + 1 ≡ byte_len w → from_le_bytes w (xs ++ b ∷ []) < least
+pub long_again : (w : Width) (least : ℕ) (xs : List ℕ) (b : ℕ) (more : List ℕ) → length xs + 1 ≡ byte_len w → from_le_bytes w (xs ++ b ∷ []) < least
     → marked_from w least (xs ++ (b ∷ more)) ≡ Err (LongForm, b ∷ more)
 long_again w least xs b more len low =
     let one : length (xs ++ b ∷ []) ≡ byte_len w = length-append xs (b ∷ []) ∙ len in
@@ -193,12 +193,12 @@ long_again w least xs b more len low =
     rw (long, less, back) refl
 
 -- what was read behind a mark that gave a fault: too few bytes, or a number with a shorter form
-record Longer (w : Width) (least : ℕ) (rest : List ℕ) (e : Spot) : Type 0 where
-  apart : Split (byte_len w) rest
-  low : from_le_bytes w (apart.xs ++ apart.last ∷ []) < least
-  is : (LongForm, apart.last ∷ apart.tail) ≡ e
+pub record Longer (w : Width) (least : ℕ) (rest : List ℕ) (e : Spot) : Type 0 where
+  pub apart : Split (byte_len w) rest
+  pub low : from_le_bytes w (apart.xs ++ apart.last ∷ []) < least
+  pub is : (LongForm, apart.last ∷ apart.tail) ≡ e
 
-marked_err : (w : Width) (least : ℕ) (rest : List ℕ) (e : Spot) → 1 ≤ byte_len w → marked_from w least rest ≡ Err e → ((length rest < byte_len w) × ((Cut, []) ≡ e)) ⊎ Longer w least rest e
+pub marked_err : (w : Width) (least : ℕ) (rest : List ℕ) (e : Spot) → 1 ≤ byte_len w → marked_from w least rest ≡ Err e → ((length rest < byte_len w) × ((Cut, []) ≡ e)) ⊎ Longer w least rest e
 marked_err w least rest e some h =
     elim (cases_Bool (ltb (length rest) (byte_len w))) [
       | inl short ↦
@@ -225,15 +225,15 @@ marked_err w least rest e some h =
         ]
 
 -- a form with its mark
-record IsForm (w : Width) (limit mark least : ℕ) : Type 0 where
-  wide : IsWide w limit
-  some : 1 ≤ byte_len w
-  below : limit ≤ 2 ^ 64
-  form : (n : ℕ) → least ≤ n → n < limit → compact_size n ≡ mark ∷ to_le_bytes w n
-  step : (rest : List ℕ) → size_from (mark ∷ rest) ≡ marked_from w least rest
-  high : (xs : List ℕ) → length xs + 1 ≡ byte_len w → least ≤ from_le_bytes w (xs ++ 255 ∷ [])
+pub record IsForm (w : Width) (limit mark least : ℕ) : Type 0 where
+  pub wide : IsWide w limit
+  pub some : 1 ≤ byte_len w
+  pub below : limit ≤ 2 ^ 64
+  pub form : (n : ℕ) → least ≤ n → n < limit → compact_size n ≡ mark ∷ to_le_bytes w n
+  pub step : (rest : List ℕ) → size_from (mark ∷ rest) ≡ marked_from w least rest
+  pub high : (xs : List ℕ) → length xs + 1 ≡ byte_len w → least ≤ from_le_bytes w (xs ++ 255 ∷ [])
 
-form16 : IsForm w16 (2 ^ 16) 0xFD 0xFD
+pub form16 : IsForm w16 (2 ^ 16) 0xFD 0xFD
 unfolding compact_size size_from
 form16 = record {
   wide = wide16;
@@ -244,7 +244,7 @@ form16 = record {
   high = λ xs len. omega (arith, get_or_at xs 255 [] 0 1 (omega (arith, len)));
 }
 
-form32 : IsForm w32 (2 ^ 32) 0xFE (2 ^ 16)
+pub form32 : IsForm w32 (2 ^ 32) 0xFE (2 ^ 16)
 unfolding compact_size size_from
 form32 = record {
   wide = wide32;
@@ -255,7 +255,7 @@ form32 = record {
   high = λ xs len. omega (arith, get_or_at xs 255 [] 0 3 (omega (arith, len)));
 }
 
-form64 : IsForm w64 (2 ^ 64) 0xFF (2 ^ 32)
+pub form64 : IsForm w64 (2 ^ 64) 0xFF (2 ^ 32)
 unfolding compact_size size_from
 form64 = record {
   wide = wide64;

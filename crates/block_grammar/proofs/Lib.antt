@@ -11,4 +11,11 @@ pub mod MerkleLaws
 pub mod Statements
 pub mod Lengths
 pub mod RowLaws
+pub mod ManyRowLaws
+pub mod SizeRowLaws
+pub mod RowsMet
+pub mod RowsTold
 pub mod FaultRowLaws
+pub mod HeaderRowLaws
+pub mod BlockRowLaws
+pub mod SmallFaults

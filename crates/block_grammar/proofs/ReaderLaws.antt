@@ -296,7 +296,7 @@ nonzero_ok kind read (first ∷ rest) x empty e =
       | inr w ↦ (first, rest, refl, w.0, w.1)
     ]
 
-nonzero_is : {K A : Type 0} (kind : K) (read : Reader K A) (bytes : List ℕ) (b : ℕ) (more : List ℕ) → bytes ≡ b ∷ more → eqb b 0 ≡ false → nonzero_from kind read bytes ≡ read bytes
+pub nonzero_is : {K A : Type 0} (kind : K) (read : Reader K A) (bytes : List ℕ) (b : ℕ) (more : List ℕ) → bytes ≡ b ∷ more → eqb b 0 ≡ false → nonzero_from kind read bytes ≡ read bytes
 nonzero_is kind read bytes b more e nonzero = rw (e, nonzero) refl
 
 empty_parts : (front rest : List ℕ) → [] ≡ front ++ rest → (front ≡ []) × (rest ≡ [])

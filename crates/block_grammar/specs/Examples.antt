@@ -24,3 +24,15 @@ tiny_text =
     ++ ((50 ∷ 0 ∷ 0 ∷ 0 ∷ 0 ∷ 0 ∷ 0 ∷ 0 ∷ [])
     ++ ((1 ∷ 0x51 ∷ [])
     ++ (2 ∷ 1 ∷ 0 ∷ 0 ∷ [])))))))))
+
+-- version 1, and the number 252 of inputs in three bytes where one holds it
+abbrev pub longer_count : List ℕ
+longer_count = 1 ∷ 0 ∷ 0 ∷ 0 ∷ 0xFD ∷ 252 ∷ 0 ∷ []
+
+-- version 1, marker and flag, and the number 00 of inputs
+abbrev pub no_inputs : List ℕ
+no_inputs = 1 ∷ 0 ∷ 0 ∷ 0 ∷ 0 ∷ 1 ∷ 0 ∷ []
+
+-- a header of zero bytes, and the number 00 of transactions
+abbrev pub no_transactions : List ℕ
+no_transactions = replicate 81 0

@@ -11,6 +11,7 @@ pub mod Block
 pub mod Merkle
 pub mod Fault
 pub mod FaultRows
+pub mod BlockRows
 pub mod Combinators
 pub mod Reading
 pub mod Examples

@@ -2,9 +2,11 @@
 
 ghost use Rattle.std.specs.Prelude.{◌≡◌, ℕ, ◌-◌, ◌<◌, ◌≤◌, ◌↔◌, List, [], ◌∷◌, ◌++◌, length, drop, slice_index, Some, None, Ok, Err, IsTrue};
 ghost use Rattle.block_grammar.specs.declared.kinds.TxKind.{TxKind};
+ghost use Rattle.block_grammar.specs.declared.kinds.TxKind.TheVariants.{Cut, LongForm, NoInput};
 ghost use Rattle.block_grammar.specs.declared.kinds.BlockKind.{BlockKind};
+ghost use Rattle.block_grammar.specs.declared.kinds.BlockKind.TheVariants.{NoTransaction};
 ghost use Rattle.block_grammar.specs.CompactSize.{compact_size};
-ghost use Rattle.block_grammar.specs.Examples.{tiny_transaction, tiny_text};
+ghost use Rattle.block_grammar.specs.Examples.{tiny_transaction, tiny_text, longer_count, no_inputs, no_transactions};
 ghost use Rattle.block_grammar.specs.Kinds.{is_cut, is_cut_block};
 ghost use Rattle.block_grammar.specs.Transaction.{Transaction, IsTransaction, FitsTransaction, transaction_text, stripped_text};
 ghost use Rattle.block_grammar.specs.Header.{Header, IsHeader, FitsHeader, header_text};
@@ -12,6 +14,7 @@ ghost use Rattle.block_grammar.specs.Block.{Block, IsBlock};
 ghost use Rattle.block_grammar.specs.Merkle.{merkle_root_of, paired_row};
 ghost use Rattle.block_grammar.specs.Fault.{IsFaultPlace, IsFrontPlace};
 ghost use Rattle.block_grammar.specs.FaultRows.{TransactionByte, HeaderByte, IsTableFault};
+ghost use Rattle.block_grammar.specs.BlockRows.{BlockFaultRow};
 ghost use Rattle.block_grammar.specs.Reading.{transaction_from, header_from, block_from};
 
 /// A transaction is read as it is spelled, whatever follows; and where none is read, the place is that of the first
@@ -24,13 +27,15 @@ pub fn transaction_law()
         → transaction_from bytes ≡ Err (kind, rest) → IsTrue (is_cut kind) ↔ (length bytes - length rest ≡ length bytes) }
 {}
 
-/// Where no transaction, or no header, is read, the kind of the fault and its place are those of the table, and the other
-/// way round.
+/// Where no transaction, no header or no block is read, the kind of the fault and its place are those of the table, and the
+/// other way round.
 pub fn fault_law()
     ensures transaction { (bytes : List ℕ) (kind : TxKind) (place : ℕ) → ((i : ℕ) → slice_index bytes i < 256)
         → ((transaction_from bytes ≡ Err (kind, drop place bytes)) × (place ≤ length bytes)) ↔ IsTableFault transaction_text FitsTransaction TransactionByte bytes kind place }
     ensures header { (bytes : List ℕ) (kind : TxKind) (place : ℕ) → ((i : ℕ) → slice_index bytes i < 256)
         → ((header_from bytes ≡ Err (kind, drop place bytes)) × (place ≤ length bytes)) ↔ IsTableFault header_text FitsHeader HeaderByte bytes kind place }
+    ensures block { (bytes : List ℕ) (kind : BlockKind) (place : ℕ) → ((i : ℕ) → slice_index bytes i < 256)
+        → ((block_from bytes ≡ Err (kind, drop place bytes)) × (place ≤ length bytes)) ↔ BlockFaultRow kind bytes place }
 {}
 
 /// No transaction's text begins another's: bytes have one front at most that is a transaction.
@@ -83,4 +88,13 @@ pub fn small_texts()
     ensures five_bytes { compact_size 0x10000 ≡ 0xFE ∷ 0 ∷ 0 ∷ 1 ∷ 0 ∷ [] }
     ensures nine_bytes { compact_size 0x1_0000_0000 ≡ 0xFF ∷ 0 ∷ 0 ∷ 0 ∷ 0 ∷ 1 ∷ 0 ∷ 0 ∷ 0 ∷ [] }
     ensures transaction { transaction_text tiny_transaction ≡ tiny_text }
+{}
+
+/// The faults of some bytes: a number in a longer form, whose last byte has offset 6; a transaction without an input; a
+/// version that is cut; and a block without a transaction.
+pub fn small_faults()
+    ensures longer_form { IsTableFault transaction_text FitsTransaction TransactionByte longer_count LongForm 6 }
+    ensures no_input { IsTableFault transaction_text FitsTransaction TransactionByte no_inputs NoInput 6 }
+    ensures cut { IsTableFault transaction_text FitsTransaction TransactionByte (1 ∷ 0 ∷ []) Cut 2 }
+    ensures no_transaction { BlockFaultRow NoTransaction no_transactions 80 }
 {}

@@ -5,8 +5,8 @@ mod grammar;
 mod kinds;
 
 pub use grammar::{
-    block_law, fault_law, header_law, merkle_law, one_block, one_transaction, small_texts,
-    transaction_law, txid_law,
+    block_law, fault_law, header_law, merkle_law, one_block, one_transaction, small_faults,
+    small_texts, transaction_law, txid_law,
 };
 pub use kinds::{BlockKind, TxKind};
 

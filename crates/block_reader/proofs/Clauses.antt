@@ -11,6 +11,7 @@ use Rattle.block_grammar.specs.Reading.{block_front_from, ended, block_from}
 use Rattle.block_grammar.proofs.ReaderLaws.{ok_is, err_is}
 use Rattle.block_grammar.proofs.BlockLaws.{BlockSpot, block_front_laws, block_again, block_cut, no_block}
 use Rattle.block_grammar.proofs.Statements.{fault_place}
+use Rattle.block_grammar.proofs.BlockRowLaws.{block_told}
 use Rattle.block_reader.specs.Whole.{IsFault}
 
 -- the bytes end with those from the place on
@@ -51,9 +52,11 @@ pub is_fault : (bytes : List ℕ) (kind kind' : BlockKind) (place : ℕ) (rest :
 is_fault bytes kind kind' place rest fits e same count =
     let at : length bytes - length rest ≡ place = omega (arith, count) in
     let cut = block_cut bytes (kind, rest) fits (sym e) in
+    let there = stopped bytes kind kind place rest fits e refl count in
+    let row = block_told bytes kind place fits there.1 there.0 in
     subst (λ (k : BlockKind). IsFault bytes k place) (sym same)
     (record {
-      stopped = (stopped bytes kind kind place rest fits e refl count).0;
+      row = row;
       first = subst (IsFaultPlace bytes) at (fault_place bytes kind rest fits (sym e));
       cut = ((λ k. sym at ∙ cut.0 k), λ p. cut.1 (at ∙ p));
     })

@@ -4,15 +4,16 @@ use Rattle.block_grammar.specs.declared.kinds.BlockKind.{BlockKind}
 use Rattle.block_grammar.specs.Kinds.{is_cut_block}
 use Rattle.block_grammar.specs.Block.{Block, IsBlock}
 use Rattle.block_grammar.specs.Fault.{IsFaultPlace}
+use Rattle.block_grammar.specs.BlockRows.{BlockFaultRow}
 use Rattle.block_grammar.specs.Reading.{block_from}
 use Rattle.block_reader.specs.declared.parts.Stop.{Stop}
 use Rattle.block_reader.specs.declared.block.BlockFault.{BlockFault}
 
--- The fault by the table of places: the bytes from the place on are those at which reading stops. By the grammar
--- alone: the place is that of the first byte that no block can have there, and a kind that says Cut comes exactly
--- where the bytes end before there is one.
+-- The fault by the table of places, by the grammar alone: the part in which the place stands and the row that the bytes
+-- before it and from it on are in; the place is that of the first byte that no block can have there; and a kind that says
+-- Cut comes exactly where the bytes end before there is one.
 pub record IsFault (bytes : List ℕ) (kind : BlockKind) (place : ℕ) : Type 0 where
-  pub stopped : block_from bytes ≡ Err (kind, drop place bytes)
+  pub row : BlockFaultRow kind bytes place
   pub first : IsFaultPlace bytes place
   pub cut : IsTrue (is_cut_block kind) ↔ (place ≡ length bytes)
 

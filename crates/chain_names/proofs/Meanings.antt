@@ -8,7 +8,7 @@ use Rattle.std.proofs.lemmas.Bool.Decides.{nat_tests}
 use Rattle.block_grammar.specs.Transaction.{TxInput, Transaction, txid_of}
 use Rattle.hash160.specs.Hash160.{hash160}
 use Rattle.name_script.specs.NameScript.{NameOperation, name_new, name_firstupdate, name_update}
-use Rattle.nmc_base.specs.declared.limits.TheConstants.{NAME_VERSION}
+use Rattle.nmc_base.specs.declared.limits.TheConstants.{DIGEST_LENGTH, LONGEST_RAND, MATURITY, NAME_VERSION}
 use Rattle.nmc_base.specs.declared.hashes.OutPoint.{OutPoint}
 use Rattle.nmc_base.specs.declared.chain_ends.Profile.{Profile}
 use Rattle.nmc_base.specs.Expiry.{least_amount}
@@ -120,7 +120,7 @@ commits_says profile maps height t hash place amount counted accepted =
     subst (Means profile maps height t) (sym (tests.1 ∙ free.1)) (record {
       output = has_output profile maps t [] place amount (name_new hash) counted tests.0.0 free.0.0;
       inputs = counted.inputs_are;
-      hash_length = not_unequal (length hash) 20 tests.0.1.1.0;
+      hash_length = not_unequal (length hash) DIGEST_LENGTH tests.0.1.1.0;
     })
 
 fits_name : (name value : List ℕ) → nat_lt 255 (length name) ≡ false → nat_lt 1023 (length value) ≡ false → FitsName name value
@@ -177,8 +177,8 @@ opens_says profile maps height t name rand value place amount point (New hash ma
       output = has_output profile maps t inputs place amount operation counted tests.0.0 free.0.0;
       input = has_input maps t point (New hash made) counted.inputs_are;
       fits = fits_name name value tests.0.1.1.1.1.0 tests.0.1.1.1.1.1.0;
-      rand_length = not_less 20 (length rand) spent.0.1.1.1.1.0;
-      mature = not_less height (made + 12) spent.0.1.1.1.0;
+      rand_length = not_less LONGEST_RAND (length rand) spent.0.1.1.1.1.0;
+      mature = not_less height (made + MATURITY) spent.0.1.1.1.0;
       committed = not_unequal_bytes (hash160 (rand ++ name)) hash.0 spent.0.1.1.1.1.1.0;
       untaken = spent.0.1.1.1.1.1.1.0;
     })

@@ -3,7 +3,7 @@ use Rattle.std.specs.Prelude.{◌≡◌, ℕ, ◌+◌, ◌≤◌, false, List, [
 use Rattle.block_grammar.specs.Transaction.{Transaction, txid_of}
 use Rattle.hash160.specs.Hash160.{hash160}
 use Rattle.name_script.specs.NameScript.{NameOperation, name_new, name_firstupdate, name_update}
-use Rattle.nmc_base.specs.declared.limits.TheConstants.{LONGEST_NAME, LONGEST_RAND, LONGEST_VALUE, NAME_VERSION}
+use Rattle.nmc_base.specs.declared.limits.TheConstants.{DIGEST_LENGTH, LONGEST_NAME, LONGEST_RAND, LONGEST_VALUE, MATURITY, NAME_VERSION}
 use Rattle.nmc_base.specs.declared.hashes.Hash20.{Hash20}
 use Rattle.nmc_base.specs.declared.hashes.OutPoint.{OutPoint}
 use Rattle.nmc_base.specs.declared.chain_ends.Profile.{Profile}
@@ -40,9 +40,9 @@ pub record FitsName (name value : List ℕ) : Type 0 where
 pub record Commits (profile : Profile) (maps : Maps) (t : Transaction) (hash : List ℕ) (place : ℕ) : Type 0 where
   pub output : HasOutput profile maps t place (name_new hash)
   pub inputs : name_inputs maps.coins t.inputs ≡ []
-  pub hash_length : length hash ≡ 20
+  pub hash_length : length hash ≡ DIGEST_LENGTH
 
--- the coin spent is a commitment to a salt and the name, of 12 blocks before at least, and the name doesn't stand
+-- the coin spent is a commitment to a salt and the name, that has stood for long enough, and the name doesn't stand
 pub record Opens (profile : Profile) (maps : Maps) (height : ℕ) (t : Transaction) (name value : List ℕ) (place : ℕ) (spent : OutPoint) : Type 0 where
   pub rand : List ℕ
   pub hash : Hash20
@@ -51,7 +51,7 @@ pub record Opens (profile : Profile) (maps : Maps) (height : ℕ) (t : Transacti
   pub input : HasInput maps t spent (New hash made)
   pub fits : FitsName name value
   pub rand_length : length rand ≤ LONGEST_RAND
-  pub mature : made + 12 ≤ height
+  pub mature : made + MATURITY ≤ height
   pub committed : hash160 (rand ++ name) ≡ hash.0
   pub untaken : is_taken profile height (entry_of (maps.names name)) ≡ false
 

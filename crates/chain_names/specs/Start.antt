@@ -1,6 +1,7 @@
 -- The start list of a chain: the makes that stand before its first block.
 use Rattle.std.specs.Prelude.{◌≡◌, ℕ, suc, ◌<◌, ◌≤◌, ◌^◌, false, List, [], ◌∷◌, length, None}
 use Rattle.name_script.specs.NameScript.{NameOperation, name_new, name_firstupdate, name_update}
+use Rattle.nmc_base.specs.declared.limits.TheConstants.{DIGEST_LENGTH}
 use Rattle.nmc_base.specs.declared.hashes.OutPoint.{OutPoint}
 use Rattle.nmc_base.specs.declared.chain_ends.Profile.{Profile}
 use Rattle.nmc_base.specs.Expiry.{is_expired}
@@ -15,7 +16,7 @@ pub record IsOneValue (profile : Profile) (base : ℕ) (below : Log) (name value
   pub fits : FitsName name value
 
 abbrev pub IsStartOperation : Profile → ℕ → Log → NameOperation → ℕ → Type 0
-IsStartOperation profile base below (name_new hash) height = length hash ≡ 20
+IsStartOperation profile base below (name_new hash) height = length hash ≡ DIGEST_LENGTH
 IsStartOperation profile base below (name_firstupdate name rand value) height = IsOneValue profile base below name value height
 IsStartOperation profile base below (name_update name value) height = IsOneValue profile base below name value height
 

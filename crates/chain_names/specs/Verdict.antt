@@ -6,7 +6,7 @@ use Rattle.block_grammar.specs.Transaction.{TxInput, TxOutput, Transaction, txid
 use Rattle.hash160.specs.Hash160.{hash160}
 use Rattle.name_script.specs.NameScript.{NameOperation, name_new, name_firstupdate, name_update}
 use Rattle.name_script.specs.Reading.{name_op}
-use Rattle.nmc_base.specs.declared.limits.TheConstants.{LONGEST_NAME, LONGEST_RAND, LONGEST_VALUE, NAME_VERSION}
+use Rattle.nmc_base.specs.declared.limits.TheConstants.{DIGEST_LENGTH, LONGEST_NAME, LONGEST_RAND, LONGEST_VALUE, MATURITY, NAME_VERSION}
 use Rattle.nmc_base.specs.declared.hashes.OutPoint.{OutPoint}
 use Rattle.nmc_base.specs.declared.chain_ends.Profile.{Profile}
 use Rattle.nmc_base.specs.Expiry.{is_expired, least_amount}
@@ -135,7 +135,7 @@ count_tests version inputs outputs =
 abbrev pub operation_tests : NameOperation → List HeldCoin → List Test
 operation_tests operation inputs =
     (NewWithNameInput, is_new operation && nat_lt 0 (length inputs))
-    ∷ (NewWrongSize, is_new operation && not (length (hash_in operation) == 20))
+    ∷ (NewWrongSize, is_new operation && not (length (hash_in operation) == DIGEST_LENGTH))
     ∷ (UpdateWithoutInput, not (is_new operation) && (length inputs == 0))
     ∷ (NameTooLong, not (is_new operation) && nat_lt LONGEST_NAME (length (name_in operation)))
     ∷ (ValueTooLong, not (is_new operation) && nat_lt LONGEST_VALUE (length (value_in operation)))
@@ -151,7 +151,7 @@ spent_tests profile maps height operation coin =
     (UpdateOfNew, is_update operation && is_commitment coin)
     ∷ (NameMismatch, is_update operation && not (is_coin_of coin (name_in operation)))
     ∷ (FirstNotFromNew, is_first operation && not (is_commitment coin))
-    ∷ (Immature, is_first operation && nat_lt height (made_at coin + 12))
+    ∷ (Immature, is_first operation && nat_lt height (made_at coin + MATURITY))
     ∷ (RandTooLong, is_first operation && nat_lt LONGEST_RAND (length (rand_in operation)))
     ∷ (CommitMismatch, is_first operation && not (commits_to coin (rand_in operation ++ name_in operation)))
     ∷ (NameTaken, is_first operation && is_taken profile height (entry_of (maps.names (name_in operation))))

@@ -18,11 +18,8 @@ use crate::view::{CoinRef, NameView};
 use chain_names::RuleRefusal;
 use hash160::hash160_pair;
 use name_script::NameOp;
-use nmc_base::{Hash32, LONGEST_RAND, OutPoint, Profile, Steps};
+use nmc_base::{Hash32, LONGEST_RAND, MATURITY, OutPoint, Profile, Steps};
 use std::sync::ledger::Ledger;
-
-/// For how many blocks a commitment has to stand before the name is opened (Namecoin's MIN_FIRSTUPDATE_DEPTH).
-const MATURITY: u32 = 12;
 
 /// What stands before a transaction, and the block that it is in.
 #[derive(Drop)]

@@ -13,7 +13,8 @@ pub use byte_list::Bytes;
 pub use chain_ends::{Base, Profile, Tip};
 pub use hashes::{Hash20, Hash32, OutPoint};
 pub use limits::{
-    HIGHEST_HEIGHT, LONGEST_BLOCK, LONGEST_NAME, LONGEST_RAND, LONGEST_VALUE, NAME_VERSION,
+    DIGEST_LENGTH, HIGHEST_HEIGHT, LONGEST_BLOCK, LONGEST_NAME, LONGEST_RAND, LONGEST_VALUE,
+    MATURITY, NAME_VERSION,
 };
 pub use no_memory::NoMemory;
 pub use roomy_list::{RoomyList, Words};

@@ -15,3 +15,9 @@ pub const LONGEST_RAND: usize = 20;
 
 /// The version of a transaction that carries a name (Namecoin's NAMECOIN_VERSION).
 pub const NAME_VERSION: u32 = 0x7100;
+
+/// For how many blocks a commitment has to stand before the name is opened (Namecoin's MIN_FIRSTUPDATE_DEPTH).
+pub const MATURITY: u32 = 12;
+
+/// A HASH160 digest, as that of a commitment, has so many bytes (RIPEMD-160).
+pub const DIGEST_LENGTH: usize = 20;

@@ -169,7 +169,7 @@ some_outputs : (outputs : List TxOutput) (output : NameOutput) → name_outputs 
 some_outputs [] output e = absurd cc
 some_outputs (first ∷ outputs) output e = omega arith
 
-one_operation : (undo : Coin → UndoOp) (spent : Option Coin) → length (with_spent undo spent) ≤ 1
+pub one_operation : (undo : Coin → UndoOp) (spent : Option Coin) → length (with_spent undo spent) ≤ 1
 one_operation undo None = omega arith
 one_operation undo (Some coin) = omega arith
 

@@ -1,12 +1,10 @@
 -- Histories with one item more.
-use Rattle.std.proofs.Common.{◌≡◌, ℕ, List, [], ◌∷◌, ◌++◌, refl, sym, ap, subst, ◌∙◌, arith}
+use Rattle.std.proofs.Common.{◌≡◌, ℕ, List, [], ◌∷◌, ◌++◌, sym, ap, subst, ◌∙◌}
 use Rattle.std.specs.Prelude.{Some}
 use Rattle.std.specs.List.{AllByRecursion}
-use Rattle.std.proofs.lemmas.Grind.{common_steps}
 use Rattle.nmc_base.specs.declared.hashes.OutPoint.{OutPoint}
 use Rattle.chain_names.specs.declared.coin.Item.{Item}
 use Rattle.chain_names.specs.Coins.{entry_of}
-use Rattle.chain_names.specs.Changes.{without_entry}
 use Rattle.undo_laws.specs.State.{IsUpTo, IsRising, IsLastItem}
 
 pub rising-more : (items : List Item) (item : Item) → IsRising items → AllByRecursion (IsUpTo item.height) items → IsRising (items ++ item ∷ [])

@@ -1,15 +1,14 @@
 -- Undo operations by the log and by the maps.
-use Rattle.std.proofs.Common.{◌≡◌, ℕ, suc, false, List, [], ◌∷◌, ◌++◌, refl, ap, ◌∙◌}
-use Rattle.std.specs.Prelude.{Option, None}
+use Rattle.std.proofs.Common.{◌≡◌, ℕ, suc, List, [], ◌∷◌, ◌++◌, refl, ap, ◌∙◌}
+use Rattle.std.specs.Prelude.{None}
 use Rattle.block_grammar.specs.Transaction.{Transaction, txid_of}
 use Rattle.nmc_base.specs.declared.chain_ends.Profile.{Profile}
 use Rattle.chain_names.specs.Log.{Log, touches}
 use Rattle.chain_names.specs.Coins.{maps_of}
-use Rattle.chain_names.specs.Verdict.{Verdict, plain, commits, opens, updates, refused, verdict}
-use Rattle.chain_names.specs.Changes.{Refused, refused_or, undo_of_verdict, undo_ops}
+use Rattle.chain_names.specs.Verdict.{verdict}
+use Rattle.chain_names.specs.Changes.{undo_of_verdict, undo_ops}
 use Rattle.chain_names.specs.Index.{refused_in}
 use Rattle.chain_names.proofs.LogLemmas.{transaction_follows}
-use Rattle.chain_names.proofs.Shown.{is_refused}
 use Rattle.chain_names.proofs.BlockLemmas.{no_refusal}
 use Rattle.undo_laws.specs.UndoOf.{undo_ops_in}
 

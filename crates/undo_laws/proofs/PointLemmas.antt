@@ -1,6 +1,6 @@
 -- Lists of held coins, by their outpoints.
-use Rattle.std.proofs.Common.{◌≡◌, Bool, true, false, List, [], ◌∷◌, ◌++◌, ◌⊎◌, inl, inr, refl, sym, ap, ◌∙◌}
-use Rattle.std.specs.Prelude.{Option, Some, None, ◌||◌}
+use Rattle.std.proofs.Common.{◌≡◌, Bool, true, false, List, [], ◌∷◌, refl, sym, ap, ◌∙◌}
+use Rattle.std.specs.Prelude.{Option, Some, None}
 use Rattle.std.specs.List.{AllByRecursion}
 use Rattle.nmc_base.specs.declared.hashes.OutPoint.{OutPoint}
 pub use Rattle.nmc_base.proofs.ListLemmas.{all-weaker, all-append}
@@ -8,7 +8,6 @@ use Rattle.chain_names.specs.declared.coin.Coin.{Coin}
 use Rattle.chain_names.specs.declared.coin.HeldCoin.{HeldCoin}
 use Rattle.chain_names.specs.Points.{same_point}
 use Rattle.chain_names.proofs.Points.{same_point-true}
-use Rattle.chain_names.proofs.Shown.{true_is_not_false}
 use Rattle.undo_laws.specs.Expired.{points_of}
 
 -- two points with different coins are two

@@ -11,7 +11,6 @@ use Rattle.nmc_base.proofs.ListLemmas.{all-weaker}
 use Rattle.chain_names.specs.declared.coin.Coin.{Coin}
 use Rattle.chain_names.specs.declared.coin.Coin.TheVariants.{New, Named}
 use Rattle.chain_names.specs.declared.coin.HeldCoin.{HeldCoin}
-use Rattle.chain_names.specs.declared.coin.Item.{Item}
 use Rattle.chain_names.specs.Points.{same_point}
 use Rattle.chain_names.specs.Coins.{Maps, unless_expired}
 use Rattle.chain_names.specs.Changes.{after_all, after_block, first_refused, restored, undo_ops, undone, back_ops}

@@ -4,7 +4,7 @@ use Rattle.std.specs.Prelude.{ℕ, zero, suc, ◌==◌, Bool, true, false, nat_l
 use Rattle.std.specs.Int.{Width, w16, w32, byte_len, from_le_bytes}
 use Rattle.std.specs.declared.cmp.Ordering.{Ordering}
 use Rattle.std.specs.declared.cmp.Ordering.TheVariants.{Less, Equal, Greater}
-use Rattle.nmc_base.specs.declared.limits.TheConstants.{LONGEST_VALUE}
+use Rattle.nmc_base.specs.declared.limits.TheConstants.{DIGEST_LENGTH, LONGEST_VALUE}
 use Rattle.nmc_base.specs.declared.hashes.OutPoint.{OutPoint}
 use Rattle.nmc_base.specs.Hash.{outpoint_cmp}
 use Rattle.chain_names.specs.declared.coin.Coin.{Coin}
@@ -65,7 +65,7 @@ point_from = map_from (λ x. record { txid = record { 0 = x.0 }; index = x.1 }) 
 -- ---- coins and items
 
 unfoldable pub new_coin_from : Reads Coin
-new_coin_from = tagged_from 1 (map_from (λ x. New (record { 0 = x.1 }) x.0) (then_from (number_from w32) (λ _. piece_from 20)))
+new_coin_from = tagged_from 1 (map_from (λ x. New (record { 0 = x.1 }) x.0) (then_from (number_from w32) (λ _. piece_from DIGEST_LENGTH)))
 
 unfoldable pub named_coin_from : Reads Coin
 named_coin_from = tagged_from 2 (map_from (λ x. Named x.1 x.0) (then_from (number_from w32) (λ _. name_from)))

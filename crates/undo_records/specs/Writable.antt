@@ -3,7 +3,7 @@ use Rattle.std.specs.Prelude.{◌≡◌, ℕ, ◌<◌, ◌≤◌, ◌^◌, List,
 use Rattle.std.specs.List.{AllByRecursion}
 use Rattle.std.specs.declared.cmp.Ordering.TheVariants.{Less}
 use Rattle.nmc_base.specs.declared.hashes.OutPoint.{OutPoint}
-use Rattle.nmc_base.specs.declared.limits.TheConstants.{LONGEST_NAME, LONGEST_VALUE}
+use Rattle.nmc_base.specs.declared.limits.TheConstants.{DIGEST_LENGTH, LONGEST_NAME, LONGEST_VALUE}
 use Rattle.nmc_base.specs.Hash.{outpoint_cmp}
 use Rattle.chain_names.specs.declared.coin.Coin.{Coin}
 use Rattle.chain_names.specs.declared.coin.Coin.TheVariants.{New, Named}
@@ -28,7 +28,7 @@ HasShortName (Named name height) = FitsName name
 
 -- a coin of a commitment
 abbrev pub FitsNewCoin : Coin → Type 0
-FitsNewCoin (New hash height) = (height < 2 ^ 32) × (length hash.0 ≡ 20)
+FitsNewCoin (New hash height) = (height < 2 ^ 32) × (length hash.0 ≡ DIGEST_LENGTH)
 FitsNewCoin (Named name height) = ⊥
 
 -- a coin of a name

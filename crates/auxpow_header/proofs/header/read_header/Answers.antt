@@ -4,7 +4,7 @@ use Rattle.block_grammar.specs.Header.{header_text, FitsHeader}
 use Rattle.block_grammar.specs.Reading.{header_from}
 use Rattle.block_grammar.proofs.HeaderLaws.{header_laws}
 use Rattle.block_grammar.specs.FaultRows.{HeaderByte}
-use Rattle.block_grammar.proofs.FaultRowLaws.{header_bytes}
+use Rattle.block_grammar.proofs.HeaderRowLaws.{header_bytes}
 use Rattle.wire_read.proofs.FrontLaws.{ok_gives, err_gives, is_read, only_read}
 use Rattle.auxpow_header.proofs.header.read_header.Goals as goal
 
