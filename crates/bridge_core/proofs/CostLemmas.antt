@@ -1,5 +1,5 @@
 -- A turn without an acceptance promises no bound.
-use Rattle.std.proofs.Common.{◌≡◌, ℕ, sym, ap, ◌∙◌, arith}
+use Rattle.std.proofs.Common.{◌≡◌, ℕ, sym, ◌∙◌, arith}
 use Rattle.feed_frames.specs.Replies.{Reply}
 use Rattle.chain_state.specs.declared.stage.Refusal.{Refusal}
 use Rattle.chain_state.specs.declared.back.BackRefusal.{BackRefusal}

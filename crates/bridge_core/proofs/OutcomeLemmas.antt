@@ -1,12 +1,9 @@
 -- Where nothing failed, the bytes and the limit decide how a replay ends.
-use Rattle.std.proofs.Common.{◌≡◌, ℕ, ◌+◌, ◌-◌, ◌<◌, ◌≤◌, List, [], ◌++◌, length, take, Option, Some, None, refl, sym, ap, subst, ◌∙◌, length-append, arith}
-use Rattle.std.proofs.Math.Seq.{take-append-add}
+use Rattle.std.proofs.Common.{◌≡◌, ℕ, ◌-◌, ◌<◌, ◌≤◌, List, [], ◌++◌, length, take, refl, sym, ap, subst, ◌∙◌, length-append, arith}
 use Rattle.std.proofs.lemmas.List.{append-nil, take_all}
-use Rattle.std.specs.Io.KnownBytes.{Consumes, IsAtEnd}
-use Rattle.feed_frames.specs.Frames.{Frame, frames_text, Splits, IsRest, bad, partial, IsBadFrame, unknown_kind, wrong_length, IsPartialFrame, nothing}
-use Rattle.feed_frames.specs.Replies.{Reply}
-use Rattle.feed_frames.proofs.SplittingLemmas.{SameSplitting, same_splitting, splits_more, bad_then}
-use Rattle.frame_loop.specs.Answering.{SoFar}
+use Rattle.std.specs.Io.KnownBytes.{Consumes}
+use Rattle.feed_frames.specs.Frames.{Frame, frames_text, Splits, bad, partial, IsBadFrame, unknown_kind, wrong_length, IsPartialFrame, nothing}
+use Rattle.feed_frames.proofs.SplittingLemmas.{same_splitting, splits_more, bad_then}
 use Rattle.frame_loop.specs.Causes.{SinkCause, failing, stalling}
 use Rattle.fault_counts.specs.Faults.{NeverFell}
 use Rattle.frame_loop.specs.Transcript.{Streams, Ends, Transcript}

@@ -1,13 +1,11 @@
 -- What the index refuses is what the chain refuses.
 use Rattle.std.proofs.Common.{◌≡◌, ℕ, List, [], ◌∷◌, refl, sym, ap, subst, ◌∙◌, arith}
-use Rattle.std.specs.Prelude.{Some, None, Result, Ok}
 use Rattle.std.proofs.lemmas.Option.{none-some}
 use Rattle.block_grammar.specs.Block.{Block, IsBlock}
 use Rattle.block_grammar.specs.Merkle.{block_root}
 use Rattle.block_grammar.proofs.Statements as grammar
 use Rattle.nmc_base.specs.declared.chain_ends.Base.{Base}
 use Rattle.nmc_base.specs.declared.hashes.Hash32.{Hash32}
-use Rattle.chain_names.specs.Changes.{Refused}
 use Rattle.chain_names.specs.Log.{Log}
 use Rattle.chain_names.specs.Undo.{UndoRecord}
 use Rattle.undo_laws.specs.UndoOf.{AreUndos}

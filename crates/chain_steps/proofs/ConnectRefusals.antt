@@ -5,7 +5,6 @@ use Rattle.block_grammar.specs.Block.{Block, IsBlock}
 use Rattle.block_grammar.specs.Merkle.{block_root}
 use Rattle.block_grammar.specs.Fault.{IsFaultPlace}
 use Rattle.chain_names.specs.declared.refusal.RuleRefusal.{RuleRefusal}
-use Rattle.chain_names.specs.Changes.{Refused}
 use Rattle.nmc_base.specs.Heights.{highest}
 use Rattle.machine.specs.Chain.{Chain, tip_hash, height_of}
 use Rattle.machine.specs.Connecting.{Refusal, BadBlock, NotOnTip, HeightLimit, MerkleMismatch, Rule, JournalFull, IsOffTip, HasOtherRoot, BreaksRule, refused_on, Holds, order_of, Refuses, IsValid, TakesMemory}

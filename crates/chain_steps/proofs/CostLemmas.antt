@@ -1,6 +1,5 @@
 -- What a command costs with its commit.
 use Rattle.std.proofs.Common.{◌≡◌, ℕ, ◌+◌, ◌*◌, ◌≤◌, List, length, ap, arith}
-use Rattle.std.specs.Prelude.{Result, Ok}
 use Rattle.block_grammar.specs.Block.{Block, IsBlock}
 use Rattle.block_grammar.proofs.Statements.{same_block}
 use Rattle.chain_state.specs.Cost.{touched_by}

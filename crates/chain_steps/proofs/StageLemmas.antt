@@ -16,7 +16,7 @@ use Rattle.chain_steps.specs.Standing.{StandsFor}
 use Rattle.chain_steps.specs.Views.{refusal_of}
 use Rattle.chain_steps.specs.Stages.{IsFullFor, IsStagedFor, IsRefusedFor, LacksMemoryFor}
 use Rattle.chain_steps.proofs.ChainTips.{chain_tip, index_tip, rule_of_bytes}
-use Rattle.chain_steps.proofs.ConnectRefusals.{IsOnTip, IsOn, IsRooted, IsUnbroken, no_block_refused, off_tip_refused, too_high, memory_taken, root_refused, rule_broken, full_refused, is_valid}
+use Rattle.chain_steps.proofs.ConnectRefusals.{IsOnTip, IsUnbroken, no_block_refused, off_tip_refused, too_high, memory_taken, root_refused, rule_broken, full_refused, is_valid}
 use Rattle.chain_laws.proofs.StandingLemmas.{same_stands, valid_next, connects, abandoned_same, own_queue}
 use Rattle.chain_laws.proofs.RefusalLemmas.{refuses_by_chain}
 

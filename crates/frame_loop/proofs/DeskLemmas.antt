@@ -1,10 +1,10 @@
 -- Frames that are answered one after the other.
-use Rattle.std.proofs.Common.{◌≡◌, ℕ, ◌+◌, ◌<◌, List, [], ◌∷◌, ◌++◌, length, refl, sym, ap, subst, ◌∙◌, append_assoc, length-append, arith}
+use Rattle.std.proofs.Common.{◌≡◌, ℕ, ◌<◌, List, [], ◌∷◌, ◌++◌, length, refl, sym, ap, subst, ◌∙◌, append_assoc, length-append, arith}
 use Rattle.std.proofs.lemmas.List.{append-nil, flat_map_more}
 use Rattle.fault_counts.proofs.FaultLemmas.{NeverFell_refl, NeverFell_trans}
 use Rattle.byte_io.specs.Sink.{SinkSeen}
 use Rattle.byte_io.proofs.SinkLemmas.{Appends_nothing, Appends_append}
-use Rattle.feed_frames.specs.Frames.{Frame, frame_text, Splits, IsBadFrame, IsPartialFrame, nothing}
+use Rattle.feed_frames.specs.Frames.{Frame, frame_text, Splits, nothing}
 use Rattle.feed_frames.specs.Feed.{Feed, Takes, Waits, Sticks}
 use Rattle.feed_frames.specs.Replies.{Reply, reply_text}
 use Rattle.feed_frames.proofs.SplittingLemmas.{partial_is_shorter, splits_push, length-frame_text}

@@ -1,14 +1,13 @@
 -- A run over a stream, piece by piece, and how it ends.
-use Rattle.std.proofs.Common.{◌≡◌, ℕ, ◌+◌, ◌-◌, ◌<◌, ◌≤◌, List, [], ◌∷◌, ◌++◌, length, Option, Some, None, refl, sym, ap, subst, ◌∙◌, length-append, arith}
+use Rattle.std.proofs.Common.{◌≡◌, ℕ, ◌+◌, ◌<◌, ◌≤◌, List, [], ◌∷◌, ◌++◌, length, Some, None, refl, sym, ap, subst, ◌∙◌, length-append, arith}
 use Rattle.std.proofs.lemmas.List.{append-nil, nil_from_length}
 use Rattle.std.specs.Io.KnownBytes.{Consumes, Appends, IsAtEnd}
 use Rattle.fault_counts.specs.Faults.{NeverFell}
 use Rattle.fault_counts.proofs.FaultLemmas.{NeverFell_refl, NeverFell_trans, stayed_then_Rose}
 use Rattle.byte_io.specs.Source.{SourceSeen}
-use Rattle.byte_io.specs.Sink.{SinkSeen}
 use Rattle.byte_io.proofs.SourceLemmas.{Consumes_nothing, Consumes_append}
 use Rattle.byte_io.proofs.SinkLemmas.{Appends_nothing, Appends_append}
-use Rattle.feed_frames.specs.Frames.{Frame, frames_text, Splits, IsBadFrame, IsPartialFrame, nothing}
+use Rattle.feed_frames.specs.Frames.{Frame, Splits, IsPartialFrame, nothing}
 use Rattle.feed_frames.specs.Replies.{Reply}
 use Rattle.feed_frames.specs.Feed.{Feed, fresh_feed, after_piece}
 use Rattle.feed_frames.specs.declared.reader.TheConstants.{PIECE}

@@ -1,10 +1,7 @@
 -- The refusals of each command: one at a place, each with a code of its own, whatever the journal holds.
-use Rattle.std.proofs.Common.{◌≡◌, ℕ, ◌+◌, ◌<◌, ◌≤◌, List, ◌++◌, take, drop, Some, refl, ap, ◌∙◌, sym, append_assoc, arith, inl, inr}
-use Rattle.std.proofs.lemmas.Bool.{cases_lt}
-use Rattle.std.proofs.lemmas.List.{take-take, take-append-drop}
-use Rattle.block_grammar.specs.Block.{Block, IsBlock, block_text, FitsBlock}
+use Rattle.std.proofs.Common.{◌≡◌, ℕ, ◌<◌, List, Some, refl, ap, ◌∙◌, sym, arith}
+use Rattle.block_grammar.specs.Block.{block_text, FitsBlock}
 use Rattle.block_grammar.specs.Merkle.{block_root}
-use Rattle.block_grammar.specs.Fault.{IsFront, IsFirstFault, IsFaultPlace}
 use Rattle.block_grammar.proofs.PlaceLaws.{one_place}
 use Rattle.block_grammar.proofs.Statements.{same_block}
 use Rattle.chain_names.specs.Changes.{Refused}
