@@ -30,10 +30,10 @@ value_ok (Err w) x e = absurd cc
 abbrev Spot : Type 0
 Spot = TxKind × List ℕ
 
-abbrev zeros : ℕ → List ℕ
+abbrev pub zeros : ℕ → List ℕ
 zeros n = replicate n 0
 
-length-zeros : (n : ℕ) → length (zeros n) ≡ n
+pub length-zeros : (n : ℕ) → length (zeros n) ≡ n
 length-zeros n = length-replicate {A = ℕ} n 0
 
 -- ---- so many bytes
@@ -90,12 +90,12 @@ piece_laws n = record {
 number_same : (w : Width) (bytes : List ℕ) → value_of (number_from w bytes) ≡ number_at w bytes
 number_same w bytes = cut_value (ltb (length bytes) (byte_len w)) (from_le_bytes w (take (byte_len w) bytes), drop (byte_len w) bytes)
 
-IsBytes-append : (xs ys : List ℕ) → IsBytes xs → IsBytes ys → IsBytes (xs ++ ys)
+pub IsBytes-append : (xs ys : List ℕ) → IsBytes xs → IsBytes ys → IsBytes (xs ++ ys)
 IsBytes-append [] ys hx hy i = hy i
 IsBytes-append (x ∷ xs) ys hx hy zero = hx 0
 IsBytes-append (x ∷ xs) ys hx hy (suc i) = IsBytes-append xs ys (λ k. hx (suc k)) hy i
 
-IsBytes-replicate : (n b : ℕ) → b < 256 → IsBytes (replicate n b)
+pub IsBytes-replicate : (n b : ℕ) → b < 256 → IsBytes (replicate n b)
 IsBytes-replicate n b lt i =
     elim (cases_lt i n) [
       | inl within ↦ rw (get_or-replicate {A = ℕ} n i b 0 within) lt

@@ -1,4 +1,3 @@
-pub mod TruthLemmas
 pub mod Readers
 pub mod Sizes
 pub mod ReaderLaws

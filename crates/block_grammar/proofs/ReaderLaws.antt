@@ -3,7 +3,7 @@
 use Rattle.std.proofs.Common.{◌≡◌, ℕ, zero, suc, ◌⊎◌, Bool, true, false, eqb, List, [], ◌∷◌, ◌++◌, length, refl, sym, ap, subst, ◌∙◌, append_assoc, append-nil, arith, inl, inr}
 use Rattle.std.specs.Prelude.{Result, Ok, Err}
 use Rattle.std.specs.List.{flat_map, AllByRecursion}
-use Rattle.block_grammar.proofs.TruthLemmas.{chosen}
+use Rattle.nmc_base.proofs.TruthLemmas.{chosen}
 use Rattle.block_grammar.proofs.Readers.{IsBytes, Took}
 use Rattle.block_grammar.specs.Fault.{IsFront}
 use Rattle.block_grammar.specs.Combinators.{◌>>=◌, Reader, then_from, map_from, many_from, retold, within, nonzero_from}
@@ -214,7 +214,7 @@ none_reads {K = K} {A = A} is_cut text Fits read = record {
     none_again [] rest fits = refl
     none_again (x ∷ xs) rest fits = absurd (omega (arith, fits.0))
 
-parted : {A : Type 0} → A → List A → A × List A
+unfoldable pub parted : {A : Type 0} → A → List A → A × List A
 parted x [] = (x, [])
 parted x (y ∷ ys) = (y, ys)
 

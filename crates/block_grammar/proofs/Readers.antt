@@ -32,12 +32,6 @@ pub guard_some : {A : Type 0} (b : Bool) (x y : A) → cond b None (Some x) ≡ 
 guard_some true x y e = absurd cc
 guard_some false x y e = (refl, cc)
 
-abbrev just : {A : Type 0} → A → Option A
-just x = Some x
-
-pub some_is : {A : Type 0} (x y : A) → just x ≡ just y → x ≡ y
-some_is x y e = cc
-
 -- what a reader took from the front
 pub record Took {A : Type 0} (text : A → List ℕ) (Fits : A → Type 0) (bytes : List ℕ) (x : A × List ℕ) : Type 0 where
   pub parts : bytes ≡ text x.0 ++ x.1

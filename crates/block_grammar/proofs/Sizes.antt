@@ -2,14 +2,15 @@
 use Rattle.std.proofs.Common.{◌≡◌, ℕ, ◌<◌, ◌≤◌, ◌^◌, cond, ltb, eqb, List, [], ◌∷◌, ◌++◌, Option, Some, None, refl, ap, subst, ◌∙◌, arith, inl, inr}
 use Rattle.std.specs.Int.{Width, w16, w32, w64, to_le_bytes}
 use Rattle.std.proofs.lemmas.Bool.{cases_lt, ltb-true, ltb-false, lt-ltb, le-ltb, eqb-true, eqb-false}
-use Rattle.block_grammar.proofs.TruthLemmas.{chosen}
+use Rattle.std.proofs.lemmas.Option.{same_Some}
+use Rattle.nmc_base.proofs.TruthLemmas.{chosen}
 use Rattle.block_grammar.specs.CompactSize.{compact_size}
 use Rattle.block_grammar.specs.Fields.{number_at, at_least, compact_size_at}
-use Rattle.block_grammar.proofs.Readers.{IsBytes, Took, Reads, IsWide, some_is, number_reads, wide16, wide32, wide64, IsBytes-rest}
+use Rattle.block_grammar.proofs.Readers.{IsBytes, Took, Reads, IsWide, number_reads, wide16, wide32, wide64, IsBytes-rest}
 
 -- ---- the four forms
 
-size_of_one : (n : ℕ) → n < 0xFD → compact_size n ≡ n ∷ []
+pub size_of_one : (n : ℕ) → n < 0xFD → compact_size n ≡ n ∷ []
 unfolding compact_size
 size_of_one n lt = rw (lt-ltb n 0xFD lt) refl
 
@@ -37,7 +38,7 @@ at_least_some least None z e = absurd cc
 at_least_some least (Some x) z e =
     elim (chosen (ltb x.0 least) None (Some x) (Some z) e) [
       | inl w ↦ absurd (none_is z w.1)
-      | inr w ↦ (w.1, subst (λ (y : ℕ × List ℕ). least ≤ y.0) (some_is x z w.1) (ltb-false x.0 least w.0))
+      | inr w ↦ (w.1, subst (λ (y : ℕ × List ℕ). least ≤ y.0) (same_Some x z w.1) (ltb-false x.0 least w.0))
     ]
   where
     none_is : (z : ℕ × List ℕ) → None ≡ Some z → ⊥
@@ -68,7 +69,7 @@ size_takes (first ∷ rest) z fits e =
     elim (chosen (ltb first 0xFD) (Some (first, rest)) (cond (eqb first 0xFD) (at_least 0xFD (number_at w16 rest)) (cond (eqb first 0xFE) (at_least (2 ^ 16) (number_at w32 rest)) (at_least (2 ^ 32) (number_at w64 rest)))) (Some z) e) [
       | inl p ↦
           let small = ltb-true first 0xFD p.0 in
-          subst (λ (y : ℕ × List ℕ). Took compact_size (λ n. n < 2 ^ 64) (first ∷ rest) y) (some_is (first, rest) z p.1)
+          subst (λ (y : ℕ × List ℕ). Took compact_size (λ n. n < 2 ^ 64) (first ∷ rest) y) (same_Some (first, rest) z p.1)
           (record { parts = rw (size_of_one first small) refl; fits = omega (arith, small); rest_bytes = more })
       | inr p ↦ elim (chosen (eqb first 0xFD) (at_least 0xFD (number_at w16 rest)) (cond (eqb first 0xFE) (at_least (2 ^ 16) (number_at w32 rest)) (at_least (2 ^ 32) (number_at w64 rest))) (Some z) p.1) [
         | inl q ↦ rw (eqb-true first 0xFD q.0) (marked_takes w16 (2 ^ 16) wide16 0xFD 0xFD rest z (λ n le lt. size_of_three n le lt) (omega arith) more q.1)

@@ -3,7 +3,7 @@ use Rattle.std.proofs.Common.{◌≡◌, ℕ, zero, suc, ◌+◌, ◌-◌, ◌<�
 use Rattle.std.specs.Prelude.{Ok, IsTrue}
 use Rattle.std.specs.List.{flat_map, list_any, AllByRecursion}
 use Rattle.std.specs.Int.{w32, w64, to_le_bytes}
-use Rattle.block_grammar.proofs.TruthLemmas.{or_assoc, or_false}
+use Rattle.std.proofs.Math.Bool.{or_assoc, or-false}
 use Rattle.block_grammar.specs.CompactSize.{compact_size, counted, counted_list}
 use Rattle.block_grammar.specs.Transaction.{TxInput, TxOutput, input_text, output_text, FitsInput, FitsOutput, body_text}
 use Rattle.block_grammar.specs.declared.kinds.TxKind.{TxKind}
@@ -123,11 +123,11 @@ last_one some =
     back (x ∷ y ∷ ys) fits = absurd (omega (arith, fits.count))
 
     to : (x : List (List ℕ)) → FitsLast some x → FitsMore some 0 (x ∷ [])
-    to x fits = record { count = refl; each = (fits.0, tt); item = ap (λ (b : Bool). some || b) (or_false (has_item x)) ∙ fits.1 }
+    to x fits = record { count = refl; each = (fits.0, tt); item = ap (λ (b : Bool). some || b) (or-false (has_item x)) ∙ fits.1 }
 
     from : (y : Stacks) → FitsMore some 0 y → FitsLast some (first y)
     from [] fits = absurd (omega (arith, fits.count))
-    from (x ∷ []) fits = (fits.each.0, ap (λ (b : Bool). some || b) (sym (or_false (has_item x))) ∙ fits.item)
+    from (x ∷ []) fits = (fits.each.0, ap (λ (b : Bool). some || b) (sym (or-false (has_item x))) ∙ fits.item)
     from (x ∷ y ∷ ys) fits = absurd (omega (arith, fits.count))
 
 abbrev parted : Stacks → List (List ℕ) × Stacks

@@ -7,6 +7,7 @@ use Rattle.std.proofs.lemmas.List.{length-append}
 use Rattle.name_script.specs.NameScript.{NameOperation, pushed_by, IsPush, op_0, direct, pushdata1, pushdata2, pushdata4, ArePushes, op_2drop, IsNameScript}
 use Rattle.name_script.specs.Reading.{name_op}
 use Rattle.name_script.proofs.NameScripts.{name_op_again}
+use Rattle.name_script.proofs.Pushes.{direct_push}
 use Rattle.block_maker.specs.Script.{push_head, shortest_push, IsShortPart, HasShortPushes, pushes_of, script_of}
 
 -- ---- the three heads
@@ -27,10 +28,6 @@ two_byte_head n le =
 
 -- ---- a shortest push is a push
 
-direct_is : (value : List ℕ) → length value ≤ 0x4B → IsPush (length value ∷ value) value
-direct_is [] le = op_0 refl refl
-direct_is (byte ∷ bytes) le = direct (omega arith) le refl
-
 pub shortest_is : (value : List ℕ) → IsShortPart value → IsPush (shortest_push value) value
 shortest_is value short =
     elim (cases_lt 0x4B (length value)) [
@@ -38,7 +35,7 @@ shortest_is value short =
         | inl lt ↦ pushdata1 lt (ap (λ (x : List ℕ). x ++ value) (one_byte_head (length value) past lt))
         | inr le ↦ pushdata2 (omega (arith, short)) (ap (λ (x : List ℕ). x ++ value) (two_byte_head (length value) le))
       ]
-      | inr le ↦ rw (direct_head (length value) le) (direct_is value le)
+      | inr le ↦ rw (direct_head (length value) le) (direct_push value le)
     ]
 
 are_shortest : (values : List (List ℕ)) → AllByRecursion IsShortPart values → ArePushes values (flat_map shortest_push values)

@@ -16,6 +16,7 @@ use Rattle.block_grammar.specs.Merkle.{merkle_root_of, block_root}
 use Rattle.block_grammar.specs.Reading.{block_from}
 use Rattle.block_grammar.proofs.ReaderLaws.{ok_is}
 use Rattle.block_grammar.proofs.BlockLaws.{block_again}
+use Rattle.block_grammar.proofs.Sizes.{size_of_one}
 use Rattle.block_maker.specs.declared.contents.Contents.{Contents}
 use Rattle.block_maker.specs.Generated.{Making, no_output, height_script, coinbase_at, name_transaction, generated_transactions, generated_header, generated_block}
 use Rattle.block_maker.proofs.Texts.{single_output, single_text}
@@ -26,15 +27,11 @@ pub generated_root : (previous : Tip) (making : Option Making) → (generated_bl
 unfolding generated_block block_root
 generated_root previous making = refl
 
-one_byte : (n : ℕ) → n < 0xFD → compact_size n ≡ n ∷ []
-unfolding compact_size
-one_byte n lt = rw (lt-ltb n 0xFD lt) refl
-
 -- the text of a block with a plain header and few transactions
 plain_block_text : (fields : plain.PureHeader) (transactions : List Transaction) (count : ℕ) → length transactions ≡ count → count < 0xFD
     → block_text (record { header = record { fields = fields; merged = None }; transactions = transactions }) ≡ plain.pure_header_text fields ++ (count ∷ flat_map transaction_text transactions)
 unfolding block_text full.header_text
-plain_block_text fields transactions count is lt = rw (append-nil (plain.pure_header_text fields), is, one_byte count lt) refl
+plain_block_text fields transactions count is lt = rw (append-nil (plain.pure_header_text fields), is, size_of_one count lt) refl
 
 header_fits : (previous : Tip) (root : List ℕ) → previous.height < highest → length previous.hash.0 ≡ 32 → length root ≡ 32
     → full.FitsHeader (record { fields = generated_header previous root; merged = None })

@@ -12,6 +12,7 @@ use Rattle.fault_counts.specs.Faults.{NeverFell}
 use Rattle.frame_loop.specs.Transcript.{Streams, Ends, Transcript}
 use Rattle.frame_loop.specs.declared.following.Ending.{Ending}
 use Rattle.frame_loop.specs.declared.following.Ending.TheVariants as endings
+use Rattle.frame_loop.proofs.OutcomeLemmas.{read_front, read_all, same_as_read}
 use Rattle.machine.specs.RunState.{first_state}
 use Rattle.bridge_core.specs.Bridge.{Bridged}
 use Rattle.bridge_core.specs.Outcome.{NothingFailed, IsDetermined, IsComplete, Outcome, EndsWell}
@@ -20,77 +21,50 @@ use Rattle.bridge_core.specs.Replaying.{BridgeReached, BridgeBroken, Tells, Ends
 use Rattle.bridge_core.specs.declared.status.Status.{Status}
 use Rattle.bridge_core.specs.declared.status.Status.TheVariants.{Done, Words, BadFrame, CutFrame, SourceFault, SinkFault, NoMemory, InputLimit}
 
-none_is_not : (bytes : List ℕ) → None ≡ Some bytes → ⊥
-none_is_not bytes e = cc
-
--- the bytes read are the first of those that were there
-record ReadFront (limit : ℕ) (bytes read : List ℕ) (after : Option (List ℕ)) : Type 0 where
-  left : List ℕ
-  after_is : after ≡ Some left
-  bytes_are : bytes ≡ read ++ left
-  front_is : take limit bytes ≡ read ++ take (limit - length read) left
-
-read_front : (limit : ℕ) (before after : Option (List ℕ)) (bytes read : List ℕ) → before ≡ Some bytes → Consumes before after read → length read ≤ limit → ReadFront limit bytes read after
-read_front limit None after bytes read e given within = absurd (none_is_not bytes e)
-read_front limit (Some before) None bytes read e given within = absurd given
-read_front limit (Some before) (Some left) bytes read e given within =
-    let same : before ≡ bytes = cc in
-    let whole : bytes ≡ read ++ left = sym same ∙ given in
-    let k : limit ≡ length read + (limit - length read) = omega arith in
-    record {
-      left = left;
-      after_is = refl;
-      bytes_are = whole;
-      front_is = ap (take limit) whole ∙ ap (λ (n : ℕ). take n (read ++ left)) k ∙ take-append-add read left (limit - length read);
-    }
-
--- all that there was, was read
-read_all : (before after : Option (List ℕ)) (bytes read : List ℕ) → before ≡ Some bytes → Consumes before after read → IsAtEnd after → bytes ≡ read
-read_all None after bytes read e given end = absurd (none_is_not bytes e)
-read_all (Some before) None bytes read e given end = absurd given
-read_all (Some before) (Some left) bytes read e given end =
-    let same : before ≡ bytes = cc in
-    sym same ∙ given ∙ ap (λ (q : List ℕ). read ++ q) end ∙ append-nil read
-
--- the two splittings of the bytes up to the limit, where these were read
-same_as_read : {X : Type 0} {Reached : List Frame → List Reply → X → Type 0} {now : X} {written : List ℕ} (front read : List ℕ) (frames : List Frame) (rest left : List ℕ)
-    → (answered : SoFar Reached read left written now) → front ≡ read → IsRest left → Splits front frames rest → IsRest rest → SameSplitting frames rest answered.frames left
-same_as_read front read frames rest left answered same is_left split is_rest =
-    same_splitting frames rest answered.frames left split.framed answered.split.framed is_rest is_left (sym split.whole ∙ same ∙ answered.split.whole)
-
 no_cause : {old new : Streams} → SinkCause old.sink new.sink → NothingFailed old new → ⊥
 no_cause (failing f rose) well = well.sink rose
 no_cause (stalling s) well = let e = sym s ∙ well.moving in cc
 
 module _ (old new : Streams) (limit : ℕ) where
+  -- what was read and written, and how it ended
+  record Followed (how : Ending) : Type 0 where
+    read : List ℕ
+    written : List ℕ
+    last : Bridged × Unit {0}
+    given : Consumes old.source.left new.source.left read
+    within : length read ≤ limit
+    ending : Ends (BridgeReached first_state) (BridgeBroken first_state) old new limit read written how last
+
   -- what a transcript says by its ending
   abbrev Shown : Status → Ending → Type 0
-  Shown status how = (read written : List ℕ) (last : Bridged × Unit {0}) → Consumes old.source.left new.source.left read → length read ≤ limit
-      → Ends (BridgeReached first_state) (BridgeBroken first_state) old new limit read written how last → IsDetermined old new limit status
+  Shown status how = Followed how → IsDetermined old new limit status
 
   done_shown : Shown Done endings.Done
-  done_shown read written last given within e = λ bytes frames rest told split is_rest well.
-      let all = read_all old.source.left new.source.left bytes read told given e.at_end in
+  done_shown f = λ bytes frames rest told split is_rest well.
+      let e = f.ending in
+      let all = read_all old.source.left new.source.left bytes f.read told f.given e.at_end in
       let front = take_all limit bytes (omega (arith, ap length all, e.below_limit)) ∙ all in
-      let same = same_as_read (take limit bytes) read frames rest [] e.answered front (partial (nothing refl)) split is_rest in
+      let same = same_as_read (take limit bytes) f.read frames rest [] e.answered front (partial (nothing refl)) split is_rest in
       record { no_rest = same.rest; below_limit = omega (arith, ap length all, e.below_limit) }
 
   bad_shown : (offset : ℕ) → Shown (BadFrame offset) (endings.BadFrame offset)
-  bad_shown offset read written last given within e = λ bytes frames rest told split is_rest well.
-      let f = read_front limit old.source.left new.source.left bytes read told given within in
-      let more = take (limit - length read) f.left in
-      let longer = splits_more read e.answered.frames e.rest more e.answered.split in
-      let same = same_splitting frames rest e.answered.frames (e.rest ++ more) split.framed longer.framed is_rest (bad (bad_then e.rest more e.bad)) (sym split.whole ∙ f.front_is ∙ longer.whole) in
+  bad_shown offset f = λ bytes frames rest told split is_rest well.
+      let e = f.ending in
+      let front = read_front limit old.source.left new.source.left bytes f.read told f.given f.within in
+      let more = take (limit - length f.read) front.left in
+      let longer = splits_more f.read e.answered.frames e.rest more e.answered.split in
+      let same = same_splitting frames rest e.answered.frames (e.rest ++ more) split.framed longer.framed is_rest (bad (bad_then e.rest more e.bad)) (sym split.whole ∙ front.front_is ∙ longer.whole) in
       record {
         bad = subst (λ (q : List ℕ). IsBadFrame q) (sym same.rest) (bad_then e.rest more e.bad);
         offset_is = omega (arith, e.offset_is, ap length e.answered.split.whole, length-append (frames_text e.answered.frames) e.rest, ap (λ (x : List Frame). length (frames_text x)) same.frames);
       }
 
   cut_shown : (offset : ℕ) → Shown (CutFrame offset) (endings.CutFrame offset)
-  cut_shown offset read written last given within e = λ bytes frames rest told split is_rest well.
-      let all = read_all old.source.left new.source.left bytes read told given e.at_end in
+  cut_shown offset f = λ bytes frames rest told split is_rest well.
+      let e = f.ending in
+      let all = read_all old.source.left new.source.left bytes f.read told f.given e.at_end in
       let front = take_all limit bytes (omega (arith, ap length all, e.below_limit)) ∙ all in
-      let same = same_as_read (take limit bytes) read frames rest e.rest e.answered front (partial e.partial) split is_rest in
+      let same = same_as_read (take limit bytes) f.read frames rest e.rest e.answered front (partial e.partial) split is_rest in
       record {
         partial = subst (λ (q : List ℕ). IsPartialFrame q) (sym same.rest) e.partial;
         some_left = omega (arith, e.some_left, ap length same.rest);
@@ -99,27 +73,27 @@ module _ (old new : Streams) (limit : ℕ) where
       }
 
   limit_shown : Shown InputLimit endings.InputLimit
-  limit_shown read written last given within e = λ bytes frames rest told split is_rest well.
-      let f = read_front limit old.source.left new.source.left bytes read told given within in
-      let none : limit - length read ≡ 0 = omega (arith, e.at_limit) in
-      let front : take limit bytes ≡ read = f.front_is ∙ ap (λ (n : ℕ). read ++ take n f.left) none ∙ append-nil read in
-      let same = same_as_read (take limit bytes) read frames rest e.rest e.answered front (partial e.partial) split is_rest in
+  limit_shown f = λ bytes frames rest told split is_rest well.
+      let e = f.ending in
+      let first = read_front limit old.source.left new.source.left bytes f.read told f.given f.within in
+      let none : limit - length f.read ≡ 0 = omega (arith, e.at_limit) in
+      let front : take limit bytes ≡ f.read = first.front_is ∙ ap (λ (n : ℕ). f.read ++ take n first.left) none ∙ append-nil f.read in
+      let same = same_as_read (take limit bytes) f.read frames rest e.rest e.answered front (partial e.partial) split is_rest in
       record {
         partial = subst (λ (q : List ℕ). IsPartialFrame q) (sym same.rest) e.partial;
-        reached = omega (arith, e.at_limit, ap length f.bytes_are, length-append read f.left);
+        reached = omega (arith, e.at_limit, ap length first.bytes_are, length-append f.read first.left);
       }
 
   source_shown : Shown SourceFault endings.SourceFault
-  source_shown read written last given within e = λ bytes frames rest told split is_rest well. well.source e.cause.rose
+  source_shown f = λ bytes frames rest told split is_rest well. well.source f.ending.cause.rose
 
   sink_shown : Shown SinkFault endings.SinkFault
-  sink_shown read written last given within e = λ bytes frames rest told split is_rest well. no_cause e.cause well
+  sink_shown f = λ bytes frames rest told split is_rest well. no_cause f.ending.cause well
 
   ending_shown : {status : Status} {how : Ending} → Shown status how → (e : EndsSo old new limit status) → e.how ≡ how → IsDetermined old new limit status
   ending_shown shown e same =
       let t = e.transcript in
-      shown t.read t.written e.last t.given t.within
-      (subst (λ (h : Ending). Ends (BridgeReached first_state) (BridgeBroken first_state) old new limit t.read t.written h e.last) same t.ending)
+      shown (subst (λ (h : Ending). Followed h) same (record { read = t.read; written = t.written; last = e.last; given = t.given; within = t.within; ending = t.ending }))
 
   determined : (status : Status) → replaying.Ends old new limit status → IsDetermined old new limit status
   determined Done e = ending_shown done_shown e e.tells
@@ -152,17 +126,23 @@ module _ (old new : Streams) (limit : ℕ) where
 
   -- ---- a loop that ended
 
-  module _ (how : Ending) (last : Bridged × Unit {0}) (t : Transcript (BridgeReached first_state) (BridgeBroken first_state) old new limit how last) where
+  pub record Loop : Type 0 where
+    pub how : Ending
+    pub last : Bridged × Unit {0}
+    pub transcript : Transcript (BridgeReached first_state) (BridgeBroken first_state) old new limit how last
+
+  module _ (l : Loop) where
     -- a bridge doesn't end it
-    pub never_ended : how ≡ endings.Ended → ⊥
+    pub never_ended : l.how ≡ endings.Ended → ⊥
     never_ended e =
-        let end = subst (λ (h : Ending). Ends (BridgeReached first_state) (BridgeBroken first_state) old new limit t.read t.written h last) e t.ending in
+        let t = l.transcript in
+        let end = subst (λ (h : Ending). Ends (BridgeReached first_state) (BridgeBroken first_state) old new limit t.read t.written h l.last) e t.ending in
         end.broken_off.broken
 
-    ended_so : (status : Status) → Tells status how → EndsSo old new limit status
-    ended_so status tells = record { how = how; last = last; tells = tells; transcript = t }
+    ended_so : (status : Status) → Tells status l.how → EndsSo old new limit status
+    ended_so status tells = record { how = l.how; last = l.last; tells = tells; transcript = l.transcript }
 
-    ended : (status : Status) → Tells status how → replaying.Ends old new limit status
+    ended : (status : Status) → Tells status l.how → replaying.Ends old new limit status
     ended Done tells = ended_so Done tells
     ended (BadFrame offset) tells = ended_so (BadFrame offset) tells
     ended (CutFrame offset) tells = ended_so (CutFrame offset) tells
@@ -172,7 +152,7 @@ module _ (old new : Streams) (limit : ℕ) where
     ended NoMemory tells = absurd tells
     ended Words tells = absurd tells
 
-    pub replays : (status : Status) → Tells status how → NeverFell old.source.faults new.source.faults → NeverFell old.sink.faults new.sink.faults → Replays old new limit status
+    pub replays : (status : Status) → Tells status l.how → NeverFell old.source.faults new.source.faults → NeverFell old.sink.faults new.sink.faults → Replays old new limit status
     replays status tells source sink =
         let d = determined status (ended status tells) in
         record { source_later = source; sink_later = sink; ending = ended status tells; determined = d; complete = complete status d }

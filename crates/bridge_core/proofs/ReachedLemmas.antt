@@ -15,14 +15,27 @@ frames_push (e ∷ events) event = ap (λ (fs : List Frame). frame_of e ∷ fs) 
 pub reached_first : (bridge : Bridged) → StandsFor bridge first_state → IsReached first_state [] [] bridge
 reached_first bridge s = record { events = []; run = first_state; frames_are = refl; runs = refl; stands = s }
 
-pub reached_next : (start : RunState) (frames : List Frame) (replies : List Reply) (old new : Bridged) (event : Event) (frame : Frame) (reply : Reply)
-    → IsReached start frames replies old → Turns old event reply new → frame_of event ≡ frame → IsReached start (frames ++ frame ∷ []) (replies ++ reply ∷ []) new
-reached_next start frames replies old new event frame reply r turns same =
-    let m = turns r.run r.stands in
+-- what was reached so far
+pub record Reached (start : RunState) : Type 0 where
+  pub frames : List Frame
+  pub replies : List Reply
+  pub bridge : Bridged
+  pub is : IsReached start frames replies bridge
+
+-- the turn that answered a frame
+pub record Answered (old : Bridged) (frame : Frame) (reply : Reply) (new : Bridged) : Type 0 where
+  pub event : Event
+  pub turns : Turns old event reply new
+  pub same : frame_of event ≡ frame
+
+pub reached_next : (start : RunState) (r : Reached start) (frame : Frame) (reply : Reply) (new : Bridged) → Answered r.bridge frame reply new
+    → IsReached start (r.frames ++ frame ∷ []) (r.replies ++ reply ∷ []) new
+reached_next start r frame reply new a =
+    let m = a.turns r.is.run r.is.stands in
     record {
-      events = r.events ++ event ∷ [];
+      events = r.is.events ++ a.event ∷ [];
       run = m.new;
-      frames_are = ap (λ (fs : List Frame). fs ++ frame ∷ []) r.frames_are ∙ ap (λ (f : Frame). map frame_of r.events ++ f ∷ []) (sym same) ∙ frames_push r.events event;
-      runs = run_push start r.events replies r.run event reply m.new r.runs m.step;
+      frames_are = ap (λ (fs : List Frame). fs ++ frame ∷ []) r.is.frames_are ∙ ap (λ (f : Frame). map frame_of r.is.events ++ f ∷ []) (sym a.same) ∙ frames_push r.is.events a.event;
+      runs = run_push start r.is.events r.replies r.is.run a.event reply m.new r.is.runs m.step;
       stands = m.stands;
     }

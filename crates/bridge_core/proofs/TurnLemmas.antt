@@ -36,18 +36,23 @@ joins : (old new : Bridged) (run : RunState) (command : Command) → StandsFor o
     → StandsFor new (accepted run command)
 joins old new run command s index area = record { index = index; area = omega (arith, area, s.area) }
 
+-- an acceptance: the area grew by the command's record, and the reply tells the tip
+pub record IsAccepted (command : Command) (old new : Bridged) (reply : Reply) : Type 0 where
+  pub area : new.area ≡ old.area + record_length command
+  pub reply_is : reply ≡ told new.index.tip.height new.index.tip.hash.0
+
 -- ---- a connect
 
 module _ (old new : Bridged) (bytes : List ℕ) (reply : Reply) where
   pub connect_accepted : (staged : StagedIndex) → ((chain : Chain) → chains.StandsFor old.index chain → IsStagedFor old.area (2 ^ 42) chain bytes staged) → IsConnected staged new.index
-      → new.area ≡ old.area + record_length (Connect bytes) → reply ≡ told new.index.tip.height new.index.tip.hash.0 → Turns old (Do (Connect bytes)) reply new
-  connect_accepted staged staging connected area reply-is = λ run s.
+      → IsAccepted (Connect bytes) old new reply → Turns old (Do (Connect bytes)) reply new
+  connect_accepted staged staging connected taken = λ run s.
       let on = staging (chain_of run) s.index in
       let now : chains.StandsFor new.index (chain_of (accepted run (Connect bytes))) = on.commits new.index connected in
       record {
         new = accepted run (Connect bytes);
-        step = accepts (subst (λ (a : ℕ). IsValid (IsFullFor a (2 ^ 42) bytes) (chain_of run) bytes) s.area on.valid) refl (told_is new.index (chain_of (accepted run (Connect bytes))) reply now reply-is);
-        stands = joins old new run (Connect bytes) s now area;
+        step = accepts (subst (λ (a : ℕ). IsValid (IsFullFor a (2 ^ 42) bytes) (chain_of run) bytes) s.area on.valid) refl (told_is new.index (chain_of (accepted run (Connect bytes))) reply now taken.reply_is);
+        stands = joins old new run (Connect bytes) s now taken.area;
       }
 
   pub connect_declined : (refusal : Refusal) → ((chain : Chain) → chains.StandsFor old.index chain → IsRefusedFor old.area (2 ^ 42) chain bytes refusal new.index)
@@ -74,14 +79,14 @@ module _ (old new : Bridged) (bytes : List ℕ) (reply : Reply) where
 
 module _ (old new : Bridged) (hash : List ℕ) (reply : Reply) where
   pub disconnect_accepted : (staged : Indexed) → ((chain : Chain) → chains.StandsFor old.index chain → IsStagedBackFor old.area (2 ^ 42) chain hash staged) → IsDisconnected staged new.index
-      → new.area ≡ old.area + record_length (Disconnect hash) → reply ≡ told new.index.tip.height new.index.tip.hash.0 → Turns old (Do (Disconnect hash)) reply new
-  disconnect_accepted staged staging gone area reply-is = λ run s.
+      → IsAccepted (Disconnect hash) old new reply → Turns old (Do (Disconnect hash)) reply new
+  disconnect_accepted staged staging gone taken = λ run s.
       let on = staging (chain_of run) s.index in
       let now : chains.StandsFor new.index (chain_of (accepted run (Disconnect hash))) = on.commits new.index gone in
       record {
         new = accepted run (Disconnect hash);
-        step = accepts (subst (λ (a : ℕ). IsValidBack (IsFullBack a (2 ^ 42) hash) (chain_of run) hash) s.area on.valid) refl (told_is new.index (chain_of (accepted run (Disconnect hash))) reply now reply-is);
-        stands = joins old new run (Disconnect hash) s now area;
+        step = accepts (subst (λ (a : ℕ). IsValidBack (IsFullBack a (2 ^ 42) hash) (chain_of run) hash) s.area on.valid) refl (told_is new.index (chain_of (accepted run (Disconnect hash))) reply now taken.reply_is);
+        stands = joins old new run (Disconnect hash) s now taken.area;
       }
 
   pub disconnect_declined : (refusal : BackRefusal) → ((chain : Chain) → chains.StandsFor old.index chain → IsRefusedBackFor old.area (2 ^ 42) chain hash refusal new.index)

@@ -1,9 +1,10 @@
 -- What the index refuses is what the chain refuses.
 use Rattle.std.proofs.Common.{◌≡◌, ℕ, List, [], ◌∷◌, refl, sym, ap, subst, ◌∙◌, arith}
 use Rattle.std.specs.Prelude.{Some, None, Result, Ok}
+use Rattle.std.proofs.lemmas.Option.{none-some}
 use Rattle.block_grammar.specs.Block.{Block, IsBlock}
 use Rattle.block_grammar.specs.Merkle.{block_root}
-use Rattle.block_grammar.proofs.BlockLaws.{block_again}
+use Rattle.block_grammar.proofs.Statements as grammar
 use Rattle.nmc_base.specs.declared.chain_ends.Base.{Base}
 use Rattle.nmc_base.specs.declared.hashes.Hash32.{Hash32}
 use Rattle.chain_names.specs.Changes.{Refused}
@@ -21,7 +22,7 @@ use Rattle.chain_laws.specs.Standing.{hash_of, IsValidOn, StandsForChain}
 use Rattle.chain_laws.specs.Refusals.{RefusesConnect, RefusesDisconnect, MayDisconnect}
 use Rattle.chain_laws.proofs.StandingLemmas.{refused_alike}
 
-joined_hash : (a b : Hash32) → a.0 ≡ b.0 → a ≡ b
+pub joined_hash : (a b : Hash32) → a.0 ≡ b.0 → a ≡ b
 joined_hash a b e = λ i. record { 0 = e i }
 
 -- ---- connects
@@ -45,16 +46,9 @@ module _ (base : Base) (start : Log) (blocks : List (List ℕ)) (c : Indexed) (s
       (h.0 ∙ sym s.hash, omega (arith, h.1, s.height), h.2, refused_alike base start blocks c s bytes block is ∙ h.3)
   refuses_by_index JournalFull h = h
 
--- the bytes are one block
-one_read : {E : Type 0} (r : Result Block E) (a b : Block) → r ≡ Ok a → r ≡ Ok b → a ≡ b
-one_read r a b first second = let same : Ok a ≡ Ok b = sym first ∙ second in cc
-
-some_is_not_none : (r : Refused) → Some r ≡ None → ⊥
-some_is_not_none r e = cc
-
 module _ (base : Base) (start : Log) (blocks : List (List ℕ)) (bytes : List ℕ) (block : Block) (is : IsBlock bytes block) (valid : IsValidOn base start blocks bytes) where
   same_block : valid.block ≡ block
-  same_block = one_read _ valid.block block (block_again bytes valid.block valid.is_block) (block_again bytes block is)
+  same_block = grammar.same_block bytes valid.block block valid.is_block is
 
   on_tip : block.header.fields.previous ≡ hash_of base blocks
   on_tip = sym (ap (λ (b : Block). b.header.fields.previous) same_block) ∙ valid.on_tip
@@ -67,7 +61,7 @@ module _ (base : Base) (start : Log) (blocks : List (List ℕ)) (bytes : List �
   valid_unrefused (NotOnTip tip) h = h.0 on_tip
   valid_unrefused HeightLimit h = omega (arith, h.1, valid.low)
   valid_unrefused (MerkleMismatch computed) h = h.2 (root ∙ sym h.3)
-  valid_unrefused (Rule index refusal) h = some_is_not_none (index, refusal) (sym h.3 ∙ valid.unrefused)
+  valid_unrefused (Rule index refusal) h = none-some (index, refusal) (sym valid.unrefused ∙ h.3)
   valid_unrefused JournalFull h = h
 
 -- ---- disconnects

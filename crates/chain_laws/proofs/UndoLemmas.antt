@@ -18,10 +18,7 @@ use Rattle.chain_names.specs.Coins.{Maps}
 use Rattle.chain_names.specs.Log.{Log}
 use Rattle.chain_names.specs.Tables.{queue_of}
 use Rattle.chain_laws.proofs.StandingLemmas.{connects, disconnects}
-use Rattle.chain_laws.proofs.RefusalLemmas.{valid_unrefused, refuses_by_chain}
-
-joined_hash : (a b : Hash32) → a.0 ≡ b.0 → a ≡ b
-joined_hash a b e = λ i. record { 0 = e i }
+use Rattle.chain_laws.proofs.RefusalLemmas.{joined_hash, valid_unrefused, refuses_by_chain}
 
 joined_tip : (a b : Tip) → a.height ≡ b.height → a.hash ≡ b.hash → a ≡ b
 joined_tip a b height hash = λ i. record { height = height i; hash = hash i }

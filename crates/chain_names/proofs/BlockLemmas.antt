@@ -18,7 +18,7 @@ use Rattle.chain_names.proofs.UndoLemmas.{transaction_back, back_ops-append}
 
 -- ---- refusals
 
-no_refusal : (index : ℕ) (v : Verdict) (later : Option Refused) → refused_or index v later ≡ None → (is_refused v ≡ false) × (later ≡ None)
+pub no_refusal : (index : ℕ) (v : Verdict) (later : Option Refused) → refused_or index v later ≡ None → (is_refused v ≡ false) × (later ≡ None)
 no_refusal index plain later e = (refl, e)
 no_refusal index (commits hash place) later e = (refl, e)
 no_refusal index (opens name value place spent) later e = (refl, e)

@@ -8,6 +8,7 @@ use Rattle.std.specs.Map.{lookup, set_value}
 use Rattle.std.specs.Str.{bytes_eq}
 use Rattle.nmc_base.specs.declared.hashes.OutPoint.{OutPoint}
 use Rattle.chain_names.specs.Points.{same_point, changed}
+pub use Rattle.chain_names.proofs.Points.{same_point-self}
 
 module _ {K V : Type 0} {same : K → K → Bool} (decides : (a b : K) → Decides (same a b) (a ≡ b)) where
   pub changed_at : (f : K → V) (k : K) (v : V) → changed same f k v k ≡ v
@@ -44,17 +45,6 @@ changed_mapped same g f k v = fun_ext (λ q. mapped (same k q) (f q))
     mapped : (b : Bool) (x : _) → g (cond b v x) ≡ cond b (g v) (g x)
     mapped true x = refl
     mapped false x = refl
-
--- outpoints with the same txid and the same index are one
-pub same_point-true : (a b : OutPoint) → same_point a b ≡ true → a ≡ b
-same_point-true a b h =
-    let parts = and_parts (bytes_eq a.txid.0 b.txid.0) (a.index == b.index) h in
-    let txid = (bytes_eq-Decides a.txid.0 b.txid.0).0 parts.0 in
-    let index = eqb-true a.index b.index parts.1 in
-    λ i. record { txid = record { 0 = txid i }; index = index i }
-
-pub same_point-self : (a : OutPoint) → same_point a a ≡ true
-same_point-self a = and_from (bytes_eq a.txid.0 a.txid.0) (a.index == a.index) ((bytes_eq-Decides a.txid.0 a.txid.0).1 refl) (eq-eqb a.index a.index refl)
 
 -- and so are lists with the same bytes
 pub bytes_eq-true : (a b : List ℕ) → bytes_eq a b ≡ true → a ≡ b

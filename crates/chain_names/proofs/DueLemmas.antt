@@ -13,7 +13,7 @@ use Rattle.chain_names.specs.Points.{same_point, changed}
 use Rattle.chain_names.specs.Coins.{unless_expired}
 use Rattle.chain_names.specs.Tables.{is_named_at}
 use Rattle.chain_names.specs.Changes.{unless_named_at, cleared}
-use Rattle.chain_names.proofs.Points.{same_point-Decides}
+use Rattle.chain_names.proofs.Points.{same_point-Decides, same_point-comm}
 use Rattle.chain_names.proofs.LogLemmas.{no_lower}
 use Rattle.chain_names.proofs.Shown.{true_is_not_false}
 
@@ -32,15 +32,6 @@ cleared_at height point q coins false is = same (is_named_at height (coins q))
     same true = refl
     same false = refl
 
-swap : (a b : OutPoint) → same_point a b ≡ same_point b a
-swap a b = by (same_point a b) (same_point b a) refl refl
-  where
-    by : (x y : Bool) → same_point a b ≡ x → same_point b a ≡ y → x ≡ y
-    by true true e f = refl
-    by false false e f = refl
-    by true false e f = absurd (true_is_not_false (sym ((same_point-Decides b a).1 (sym ((same_point-Decides a b).0 e))) ∙ f))
-    by false true e f = absurd (true_is_not_false (sym ((same_point-Decides a b).1 (sym ((same_point-Decides b a).0 f))) ∙ e))
-
 twice : (height : ℕ) (coin : Option Coin) (n a b : Bool) → is_named_at height coin ≡ n
     → cond (is_named_at height (cond (n && a) None coin) && b) None (cond (n && a) None coin) ≡ cond (n && (a || b)) None coin
 twice height coin true true b is = refl
@@ -56,7 +47,7 @@ cleared-at height [] coins q = same (is_named_at height (coins q))
     same false = refl
 cleared-at height (point ∷ points) coins q =
     let next = changed same_point coins point (unless_named_at height (coins point)) in
-    let first = cleared_at height point q coins (same_point point q) refl ∙ ap (λ b. cond (is_named_at height (coins q) && b) None (coins q)) (swap point q) in
+    let first = cleared_at height point q coins (same_point point q) refl ∙ ap (λ b. cond (is_named_at height (coins q) && b) None (coins q)) (same_point-comm point q) in
     cleared-at height points next q
     ∙ ap (λ c. cond (is_named_at height c && list_any (same_point q) points) None c) first
     ∙ twice height (coins q) (is_named_at height (coins q)) (same_point q point) (list_any (same_point q) points) refl

@@ -1,6 +1,7 @@
 pub mod Changed
 pub mod Points
 pub mod Shown
+pub mod HistoryLemmas
 pub mod UndoLemmas
 pub mod LogLemmas
 pub mod BlockLemmas

@@ -184,7 +184,7 @@ live-make profile log height point operation =
     changed_mapped same_point (unless_expired profile height) (coin_now log) point (Some (coin_of operation height))
     ∙ ap (λ c. changed same_point (live_coin profile log height) point c) (live_fresh profile height operation)
 
-abbrev with_maps : (OutPoint → Option Coin) → (List ℕ → List Item) → Maps
+abbrev pub with_maps : (OutPoint → Option Coin) → (List ℕ → List Item) → Maps
 with_maps coins names = record { coins = coins; names = names }
 
 maps_joined : (coins coins' : OutPoint → Option Coin) (names names' : List ℕ → List Item) → coins ≡ coins' → names ≡ names' → with_maps coins names ≡ with_maps coins' names'

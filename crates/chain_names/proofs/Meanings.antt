@@ -12,6 +12,7 @@ use Rattle.nmc_base.specs.declared.limits.TheConstants.{NAME_VERSION}
 use Rattle.nmc_base.specs.declared.hashes.OutPoint.{OutPoint}
 use Rattle.nmc_base.specs.declared.chain_ends.Profile.{Profile}
 use Rattle.nmc_base.specs.Expiry.{least_amount}
+use Rattle.nmc_base.proofs.OptionLemmas.{none_there}
 use Rattle.chain_names.specs.declared.coin.Coin.{Coin}
 use Rattle.chain_names.specs.declared.coin.Coin.TheVariants.{New, Named}
 use Rattle.chain_names.specs.declared.coin.HeldCoin.{HeldCoin}
@@ -61,10 +62,6 @@ unnamed false there a b = a
 
 named_version : (version : ℕ) → not (version == NAME_VERSION) && true ≡ false → version ≡ NAME_VERSION
 named_version version e = not_unequal version NAME_VERSION (and_true (not (version == NAME_VERSION)) e)
-
-none_there : {A : Type 0} (o : Option A) → is_some o ≡ false → o ≡ None
-none_there None e = refl
-none_there (Some x) e = absurd (cc)
 
 -- ---- a name input is a live coin
 

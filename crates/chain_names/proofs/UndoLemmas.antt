@@ -20,9 +20,7 @@ use Rattle.chain_names.proofs.Changed.{changed_at, changed_back, changed_still}
 use Rattle.chain_names.proofs.Points.{same_point-Decides}
 use Rattle.chain_names.proofs.Meanings.{verdict_means}
 use Rattle.chain_names.proofs.Shown.{is_refused}
-
-without_appended : (items : List Item) (item : Item) → without_entry (items ++ item ∷ []) ≡ items
-without_appended items item = grind (arith, common_steps)
+use Rattle.chain_names.proofs.HistoryLemmas.{without_entry-more}
 
 -- a name moves back
 names_back : (maps : Maps) (name value : List ℕ) (height : ℕ) (point : OutPoint)
@@ -30,7 +28,7 @@ names_back : (maps : Maps) (name value : List ℕ) (height : ℕ) (point : OutPo
 names_back maps name value height point =
     let item : Item = record { height = height; at = point; value = value } in
     let was = changed_at bytes_eq-Decides maps.names name (maps.names name ++ item ∷ []) in
-    changed_back bytes_eq-Decides maps.names name _ _ (sym (ap without_entry was ∙ without_appended (maps.names name) item))
+    changed_back bytes_eq-Decides maps.names name _ _ (sym (ap without_entry was ∙ without_entry-more (maps.names name) item))
 
 pub moved_and_back : (maps : Maps) (height : ℕ) (spent point : OutPoint) (name value : List ℕ) (coin : Coin) → maps.coins point ≡ None → maps.coins spent ≡ Some coin
     → moved_back (moved maps height spent point name value) point spent coin name ≡ maps

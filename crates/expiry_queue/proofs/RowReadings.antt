@@ -8,7 +8,8 @@ use Rattle.indexmap.specs.IndexSet.{insert_key}
 use Rattle.nmc_base.specs.declared.hashes.OutPoint.{OutPoint}
 use Rattle.chain_names.specs.Points.{same_point, changed}
 use Rattle.chain_names.specs.Tables.{QueueSlots, row_of, row_at, queued_in, queue_places, row_points, is_filled}
-use Rattle.chain_names.proofs.Changed.{changed-kept, read_at-changed, same_point-true}
+use Rattle.chain_names.proofs.Changed.{changed-kept, read_at-changed}
+use Rattle.chain_names.proofs.Points.{same_point-true}
 use Rattle.expiry_queue.specs.OneRow.{RowSlots, row_queued, row_places}
 
 -- what is queued, and what has a place, in a row or in none

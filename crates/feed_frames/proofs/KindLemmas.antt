@@ -2,17 +2,10 @@
 use Rattle.std.proofs.Common.{◌≡◌, ◌⊎◌, ◌↔◌, inl, inr, ℕ, ◌<◌, ◌≤◌, ◌^◌, Bool, true, false, ◌||◌, ◌&&◌, ◌==◌, List, [], ◌∷◌, refl, sym, arith, rules}
 use Rattle.std.specs.List.{list_any, AllByRecursion}
 use Rattle.std.proofs.Math.Dec.{leb}
-use Rattle.std.proofs.lemmas.Bool.{eqb-true, eq-eqb, leb-true, le-leb}
+use Rattle.std.proofs.lemmas.Bool.{eqb-true, eq-eqb, leb-true, le-leb, both_ways, cases_Bool, and_parts}
 use Rattle.feed_frames.specs.declared.kinds.Kind.{Kind}
 use Rattle.feed_frames.specs.declared.kinds.TheConstants.{KINDS, LONGEST_PAYLOAD}
 use Rattle.feed_frames.specs.Kinds.{HasRow, IsOfKind, Allows, IsKind, IsLength, is_of_kind, allows}
-
-pub true_is_not_false : (b : Bool) → b ≡ true → b ≡ false → ⊥
-true_is_not_false b is-true is-false = cc
-
-true_or_false : (b : Bool) → (b ≡ true) ⊎ (b ≡ false)
-true_or_false true = inl refl
-true_or_false false = inr refl
 
 -- ---- a test of a row, and the fact that it tests
 
@@ -26,8 +19,8 @@ row_or_later test IsSo row rows t either later (inl here) = inl (t.sound row her
 row_or_later test IsSo row rows t either later (inr not_here) = inr (later (rw not_here at either))
 
 has_row : (test : Kind → Bool) (IsSo : Kind → Type 0) (rows : List Kind) → Tests test IsSo → list_any test rows ≡ true → HasRow IsSo rows
-has_row test IsSo [] t h = absurd (true_is_not_false false h refl)
-has_row test IsSo (row ∷ rows) t h = row_or_later test IsSo row rows t h (has_row test IsSo rows t) (true_or_false (test row))
+has_row test IsSo [] t h = absurd (both_ways false refl h)
+has_row test IsSo (row ∷ rows) t h = row_or_later test IsSo row rows t h (has_row test IsSo rows t) (cases_Bool (test row))
 
 row_is_found : (test : Kind → Bool) (IsSo : Kind → Type 0) (rows : List Kind) → Tests test IsSo → HasRow IsSo rows → list_any test rows ≡ true
 row_is_found test IsSo [] t h = absurd h
@@ -41,7 +34,7 @@ any_row test IsSo rows t = (has_row test IsSo rows t, row_is_found test IsSo row
 -- the rows have the fact or they don't
 decided : (test : Kind → Bool) (IsSo : Kind → Type 0) (rows : List Kind) → Tests test IsSo → (list_any test rows ≡ true) ⊎ (list_any test rows ≡ false) → HasRow IsSo rows ⊎ (HasRow IsSo rows → ⊥)
 decided test IsSo rows t (inl found) = inl (has_row test IsSo rows t found)
-decided test IsSo rows t (inr none) = inr (λ h. true_is_not_false (list_any test rows) (row_is_found test IsSo rows t h) none)
+decided test IsSo rows t (inr none) = inr (λ h. both_ways (list_any test rows) none (row_is_found test IsSo rows t h))
 
 -- ---- the two facts of a row
 
@@ -51,24 +44,20 @@ tests_kind kind = record {
   whole = λ row h. eq-eqb row.byte kind (sym h);
 }
 
-both : (a b : Bool) → (a && b) ≡ true → (a ≡ true) × (b ≡ true)
-both true b h = (refl, h)
-both false b h = absurd (true_is_not_false false h refl)
-
 pub tests_allows : (kind n : ℕ) → Tests (allows kind n) (Allows kind n)
 tests_allows kind n = record {
   sound = λ row h.
-      let first = both (row.byte == kind) (leb row.least n && leb n row.greatest) h in
-      let second = both (leb row.least n) (leb n row.greatest) first.1 in
+      let first = and_parts (row.byte == kind) (leb row.least n && leb n row.greatest) h in
+      let second = and_parts (leb row.least n) (leb n row.greatest) first.1 in
       record { of_kind = sym (eqb-true row.byte kind first.0); no_shorter = leb-true row.least n second.0; no_longer = leb-true n row.greatest second.1 };
   whole = λ row h. rw (eq-eqb row.byte kind (sym h.of_kind), le-leb row.least n h.no_shorter, le-leb n row.greatest h.no_longer) refl;
 }
 
 pub kind_or_not : (kind : ℕ) → IsKind kind ⊎ (IsKind kind → ⊥)
-kind_or_not kind = decided (is_of_kind kind) (IsOfKind kind) KINDS (tests_kind kind) (true_or_false (list_any (is_of_kind kind) KINDS))
+kind_or_not kind = decided (is_of_kind kind) (IsOfKind kind) KINDS (tests_kind kind) (cases_Bool (list_any (is_of_kind kind) KINDS))
 
 pub length_or_not : (kind n : ℕ) → IsLength kind n ⊎ (IsLength kind n → ⊥)
-length_or_not kind n = decided (allows kind n) (Allows kind n) KINDS (tests_allows kind n) (true_or_false (list_any (allows kind n) KINDS))
+length_or_not kind n = decided (allows kind n) (Allows kind n) KINDS (tests_allows kind n) (cases_Bool (list_any (allows kind n) KINDS))
 
 -- ---- what a length tells
 

@@ -4,6 +4,7 @@ use Rattle.std.specs.List.{AllByRecursion}
 use Rattle.std.specs.Int.{w32, to_le_bytes, from_le_bytes}
 use Rattle.std.proofs.lemmas.Nat.{from_le_bytes-to_le_bytes_4}
 use Rattle.std.proofs.lemmas.List.{flat_map_more, append-nil, take_at, drop_at}
+use Rattle.nmc_base.proofs.ListLemmas.{all-more}
 use Rattle.feed_frames.specs.Kinds.{IsKind, IsLength}
 use Rattle.feed_frames.specs.Frames.{Frame, frame_text, frames_text, IsFramed, IsBadFrame, unknown_kind, wrong_length, IsPartialFrame, nothing, header_cut, payload_cut, Splits, IsRest, bad, partial}
 use Rattle.feed_frames.specs.Front.{BeginsWith}
@@ -159,13 +160,9 @@ splits_more bytes frames rest piece s = record {
   framed = s.framed;
 }
 
-all_push : {A : Type 0} (P : A → Type 0) (xs : List A) (x : A) → AllByRecursion P xs → P x → AllByRecursion P (xs ++ x ∷ [])
-all_push P [] x all one = (one, tt)
-all_push P (y ∷ xs) x all one = (all.0, all_push P xs x all.1 one)
-
 pub splits_push : (bytes : List ℕ) (frames : List Frame) (frame : Frame) (rest : List ℕ) → IsFramed frame
     → Splits bytes frames (frame_text frame ++ rest) → Splits bytes (frames ++ frame ∷ []) rest
 splits_push bytes frames frame rest fits s = record {
   whole = s.whole ∙ sym (append_assoc (frames_text frames) (frame_text frame) rest) ∙ ap (λ (q : List ℕ). q ++ rest) (flat_map_more frame_text [] frames frame);
-  framed = all_push IsFramed frames frame s.framed fits;
+  framed = all-more IsFramed frames frame s.framed fits;
 }

@@ -3,6 +3,7 @@ use Rattle.std.proofs.Common.{◌≡◌, ℕ, ◌+◌, ◌-◌, ◌<◌, ◌≤�
 use Rattle.std.proofs.Math.Seq.{take-append-add}
 use Rattle.std.proofs.lemmas.List.{append-nil, take_all}
 use Rattle.std.specs.Io.KnownBytes.{Consumes, IsAtEnd}
+use Rattle.std.proofs.lemmas.Option.{none-some}
 use Rattle.feed_frames.specs.Frames.{Frame, frames_text, Splits, IsRest, bad, partial, IsBadFrame, unknown_kind, wrong_length, IsPartialFrame, nothing}
 use Rattle.feed_frames.specs.Replies.{Reply}
 use Rattle.feed_frames.proofs.SplittingLemmas.{SameSplitting, one_splitting, same_splitting, splits_more, bad_then}
@@ -14,16 +15,13 @@ use Rattle.frame_loop.specs.declared.following.Ending.{Ending}
 use Rattle.frame_loop.specs.declared.following.Ending.TheVariants.{Done, BadFrame, CutFrame, SourceFault, SinkFault, Ended, InputLimit}
 
 -- the bytes read are the first of those that were there
-record ReadFront (limit : ℕ) (bytes read : List ℕ) : Type 0 where
-  left : List ℕ
-  bytes_are : bytes ≡ read ++ left
-  front_is : take limit bytes ≡ read ++ take (limit - length read) left
+pub record ReadFront (limit : ℕ) (bytes read : List ℕ) : Type 0 where
+  pub left : List ℕ
+  pub bytes_are : bytes ≡ read ++ left
+  pub front_is : take limit bytes ≡ read ++ take (limit - length read) left
 
-none_is_not : {A : Type 0} (b : A) → None ≡ Some b → ⊥
-none_is_not b e = cc
-
-read_front : (limit : ℕ) (before after : Option (List ℕ)) (bytes read : List ℕ) → before ≡ Some bytes → Consumes before after read → length read ≤ limit → ReadFront limit bytes read
-read_front limit None after bytes read e given within = absurd (none_is_not bytes e)
+pub read_front : (limit : ℕ) (before after : Option (List ℕ)) (bytes read : List ℕ) → before ≡ Some bytes → Consumes before after read → length read ≤ limit → ReadFront limit bytes read
+read_front limit None after bytes read e given within = absurd (none-some bytes e)
 read_front limit (Some before) None bytes read e given within = absurd given
 read_front limit (Some before) (Some left) bytes read e given within =
     let same : before ≡ bytes = cc in
@@ -36,17 +34,17 @@ read_front limit (Some before) (Some left) bytes read e given within =
     }
 
 -- all that there was, was read
-read_all : (before after : Option (List ℕ)) (bytes read : List ℕ) → before ≡ Some bytes → Consumes before after read → IsAtEnd after → bytes ≡ read
-read_all None after bytes read e given end = absurd (none_is_not bytes e)
+pub read_all : (before after : Option (List ℕ)) (bytes read : List ℕ) → before ≡ Some bytes → Consumes before after read → IsAtEnd after → bytes ≡ read
+read_all None after bytes read e given end = absurd (none-some bytes e)
 read_all (Some before) None bytes read e given end = absurd given
 read_all (Some before) (Some left) bytes read e given end =
     let same : before ≡ bytes = cc in
     sym same ∙ given ∙ ap (λ (q : List ℕ). read ++ q) end ∙ append-nil read
 
 -- the splitting of the bytes up to the limit is that of the bytes read, where these are they
-same_as_read : {X : Type 0} (Reached : List Frame → List Reply → X → Type 0) (front read written : List ℕ) (frames : List Frame) (rest left : List ℕ) (now : X) (answered : SoFar Reached read left written now)
-    → front ≡ read → IsRest left → Splits front frames rest → IsRest rest → SameSplitting frames rest answered.frames left
-same_as_read Reached front read written frames rest left now answered same is-left split is-rest =
+pub same_as_read : {X : Type 0} {Reached : List Frame → List Reply → X → Type 0} {now : X} {written : List ℕ} (front read : List ℕ) (frames : List Frame) (rest left : List ℕ)
+    → (answered : SoFar Reached read left written now) → front ≡ read → IsRest left → Splits front frames rest → IsRest rest → SameSplitting frames rest answered.frames left
+same_as_read front read frames rest left answered same is-left split is-rest =
     same_splitting frames rest answered.frames left split.framed answered.split.framed is-rest is-left (sym split.whole ∙ same ∙ answered.split.whole)
 
 no_cause : (old new : Streams) → SinkCause old.sink new.sink → NothingFailed old new → ⊥
@@ -59,7 +57,7 @@ determined Reached Broken old new limit Done now t = λ bytes frames rest told s
     let e = t.ending in
     let all = read_all old.source.left new.source.left bytes t.read told t.given e.at_end in
     let front = take_all limit bytes (omega (arith, ap length all, e.below_limit)) ∙ all in
-    let same = same_as_read Reached (take limit bytes) t.read t.written frames rest [] now e.answered front (partial (nothing refl)) split is-rest in
+    let same = same_as_read (take limit bytes) t.read frames rest [] e.answered front (partial (nothing refl)) split is-rest in
     record { no_rest = same.rest; below_limit = omega (arith, ap length all, e.below_limit) }
 determined Reached Broken old new limit (BadFrame offset) now t = λ bytes frames rest told split is-rest well.
     let e = t.ending in
@@ -75,7 +73,7 @@ determined Reached Broken old new limit (CutFrame offset) now t = λ bytes frame
     let e = t.ending in
     let all = read_all old.source.left new.source.left bytes t.read told t.given e.at_end in
     let front = take_all limit bytes (omega (arith, ap length all, e.below_limit)) ∙ all in
-    let same = same_as_read Reached (take limit bytes) t.read t.written frames rest e.rest now e.answered front (partial e.partial) split is-rest in
+    let same = same_as_read (take limit bytes) t.read frames rest e.rest e.answered front (partial e.partial) split is-rest in
     record {
       partial = subst (λ (q : List ℕ). IsPartialFrame q) (sym same.rest) e.partial;
       some_left = omega (arith, e.some_left, ap length same.rest);
@@ -87,7 +85,7 @@ determined Reached Broken old new limit InputLimit now t = λ bytes frames rest 
     let f = read_front limit old.source.left new.source.left bytes t.read told t.given t.within in
     let none : limit - length t.read ≡ 0 = omega (arith, e.at_limit) in
     let front : take limit bytes ≡ t.read = f.front_is ∙ ap (λ (n : ℕ). t.read ++ take n f.left) none ∙ append-nil t.read in
-    let same = same_as_read Reached (take limit bytes) t.read t.written frames rest e.rest now e.answered front (partial e.partial) split is-rest in
+    let same = same_as_read (take limit bytes) t.read frames rest e.rest e.answered front (partial e.partial) split is-rest in
     record {
       partial = subst (λ (q : List ℕ). IsPartialFrame q) (sym same.rest) e.partial;
       reached = omega (arith, e.at_limit, ap length f.bytes_are, length-append t.read f.left);

@@ -5,8 +5,8 @@ use Rattle.std.proofs.lemmas.List.{take-take, take-append-drop}
 use Rattle.block_grammar.specs.Block.{Block, IsBlock, block_text, FitsBlock}
 use Rattle.block_grammar.specs.Merkle.{block_root}
 use Rattle.block_grammar.specs.Fault.{IsFront, IsFirstFault, IsFaultPlace}
-use Rattle.block_grammar.proofs.BlockLaws.{BlockSpot, block_again}
-use Rattle.block_grammar.proofs.ReaderLaws.{ok_is}
+use Rattle.block_grammar.proofs.PlaceLaws.{one_place}
+use Rattle.block_grammar.proofs.Statements.{same_block}
 use Rattle.chain_names.specs.Changes.{Refused}
 use Rattle.chain_names.specs.declared.refusal.RuleRefusal.{RuleRefusal}
 use Rattle.chain_names.specs.declared.refusal.RuleRefusal.TheVariants.{MultipleNameInputs, MultipleNameOutputs, PlainWithNameInput, PlainWithNameOutput, NameWithoutOutput, Greedy, NewWithNameInput, NewWrongSize, UpdateWithoutInput, NameTooLong, ValueTooLong, UpdateOfNew, NameMismatch, FirstNotFromNew, Immature, RandTooLong, CommitMismatch, NameTaken, DuplicateOutpoint}
@@ -18,38 +18,6 @@ use Rattle.machine.specs.Disconnecting.{BackRefusal, AtBase, NotTip, HoldsBack, 
 
 -- ---- a connect
 
--- bytes are one block at most
-pub one_block : (bytes : List ℕ) (a b : Block) → IsBlock bytes a → IsBlock bytes b → a ≡ b
-one_block bytes a b is_a is_b = ok_is {E = BlockSpot} a b (sym (block_again bytes a is_a) ∙ block_again bytes b is_b)
-
--- what is a front of a text has only fronts of it
-shorter_front : {A : Type 0} (text : A → List ℕ) (Fits : A → Type 0) (bytes : List ℕ) (m n : ℕ) → m ≤ n → IsFront text Fits (take n bytes) → IsFront text Fits (take m bytes)
-shorter_front text Fits bytes m n le f = record {
-  value = f.value;
-  fits = f.fits;
-  more = drop m (take n bytes) ++ f.more;
-  text_is = f.text_is ∙ ap (λ (q : List ℕ). q ++ f.more) (sym (take-append-drop m (take n bytes))) ∙ append_assoc (take m (take n bytes)) (drop m (take n bytes)) f.more
-      ∙ ap (λ (q : List ℕ). q ++ (drop m (take n bytes) ++ f.more)) (take-take m n bytes le);
-}
-
--- no first fault lies before another
-not_before : {A : Type 0} (text : A → List ℕ) (Fits : A → Type 0) (bytes : List ℕ) (p q : ℕ) → IsFirstFault text Fits bytes p → IsFirstFault text Fits bytes q → p < q → ⊥
-not_before text Fits bytes p q fp fq lt =
-    elim fp.no_further [
-      | inl end ↦ omega (arith, fq.inside, end)
-      | inr none ↦ none (shorter_front text Fits bytes (p + 1) q (omega arith) fq.front)
-    ]
-
-one_place : (bytes : List ℕ) (p q : ℕ) → IsFaultPlace bytes p → IsFaultPlace bytes q → p ≡ q
-one_place bytes p q hp hq =
-    elim (cases_lt p q) [
-      | inl below ↦ absurd (not_before block_text FitsBlock bytes p q hp.first hq.first below)
-      | inr above ↦ elim (cases_lt q p) [
-        | inl below ↦ absurd (not_before block_text FitsBlock bytes q p hq.first hp.first below)
-        | inr same ↦ omega arith
-      ]
-    ]
-
 same_rule : (first second : Refused) → Some first ≡ Some second → Rule first.0 first.1 ≡ Rule second.0 second.1
 same_rule first second e =
     let same : first ≡ second = cc in
@@ -57,13 +25,13 @@ same_rule first second e =
 
 module _ (full : Type 0) (chain : Chain) (bytes : List ℕ) where
   pub one_at_place : (r s : Refusal) → Holds full chain bytes r → Holds full chain bytes s → order_of r ≡ order_of s → r ≡ s
-  one_at_place (BadBlock p) (BadBlock q) hr hs e = ap BadBlock (one_place bytes p q hr hs)
+  one_at_place (BadBlock p) (BadBlock q) hr hs e = ap BadBlock (one_place block_text FitsBlock bytes p q hr.first hs.first)
   one_at_place (NotOnTip t) (NotOnTip u) hr hs e = ap NotOnTip (hr.1 ∙ sym hs.1)
   one_at_place HeightLimit HeightLimit hr hs e = refl
   one_at_place (MerkleMismatch a) (MerkleMismatch b) hr hs e =
-      ap MerkleMismatch (hr.computed_is ∙ ap block_root (one_block bytes hr.block hs.block hr.is_block hs.is_block) ∙ sym hs.computed_is)
+      ap MerkleMismatch (hr.computed_is ∙ ap block_root (same_block bytes hr.block hs.block hr.is_block hs.is_block) ∙ sym hs.computed_is)
   one_at_place (Rule i a) (Rule j b) hr hs e =
-      same_rule (i, a) (j, b) (sym hr.refused ∙ ap (refused_on chain) (one_block bytes hr.block hs.block hr.is_block hs.is_block) ∙ hs.refused)
+      same_rule (i, a) (j, b) (sym hr.refused ∙ ap (refused_on chain) (same_block bytes hr.block hs.block hr.is_block hs.is_block) ∙ hs.refused)
   one_at_place JournalFull JournalFull hr hs e = refl
   one_at_place r s hr hs e = absurd (omega arith)
 

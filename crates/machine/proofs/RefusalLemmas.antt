@@ -19,7 +19,7 @@ one_first Holds order same r s first second =
       ]
     ]
 
-code_of : (a b : Reply) → a ≡ b → a.code ≡ b.code
+pub code_of : (a b : Reply) → a ≡ b → a.code ≡ b.code
 code_of a b e = ap (λ (r : Reply). r.code) e
 
 not_lacking : (chain : Chain) → (accepted_reply chain).code ≡ no_memory_reply.code → ⊥

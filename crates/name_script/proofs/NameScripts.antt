@@ -1,16 +1,14 @@
 -- Name scripts are read, and nothing else is.
 use Rattle.std.proofs.Common.{◌≡◌, ℕ, ◌⊎◌, ◌||◌, ◌↔◌, Bool, true, false, cond, eqb, List, [], ◌∷◌, ◌++◌, Option, Some, None, IsNone, refl, sym, ap, subst, ◌∙◌, append_assoc, inl, inr}
 use Rattle.std.specs.Option.{option_map}
-use Rattle.std.proofs.lemmas.Bool.{eqb-true}
+use Rattle.std.proofs.lemmas.Bool.{eqb-true, or_cases}
+use Rattle.std.proofs.lemmas.Option.{none-some, same_Some}
 use Rattle.block_grammar.specs.Fields.{◌>>=◌}
-use Rattle.block_grammar.proofs.Readers.{IsBytes, IsBytes-rest, bind_some, some_is}
+use Rattle.block_grammar.proofs.Readers.{IsBytes, IsBytes-rest, bind_some}
 use Rattle.name_script.specs.NameScript.{NameOperation, name_new, name_firstupdate, name_update, opcode_of, pushed_by, IsPushThen, ArePushes, IsDrop, op_drop, op_2drop, op_nop, IsNameScript}
 use Rattle.name_script.specs.Reading.{push_at, begins_with_drop, dropped_at, new_at, firstupdate_at, update_at, name_op}
-use Rattle.block_grammar.proofs.TruthLemmas.{chosen}
+use Rattle.nmc_base.proofs.TruthLemmas.{chosen}
 use Rattle.name_script.proofs.Pushes.{TookPush, push_takes, push_again}
-
-none_some : {A : Type 0} (z : A) → None ≡ Some z → ⊥
-none_some z e = cc
 
 -- ---- drops
 
@@ -20,16 +18,12 @@ record BeginsWithDrop (bytes : List ℕ) : Type 0 where
   rest : List ℕ
   text : bytes ≡ drop ∷ rest
 
-either : (x y : Bool) → (x || y) ≡ true → (x ≡ true) ⊎ (y ≡ true)
-either true y e = inl refl
-either false y e = inr e
-
 drop_takes : (bytes : List ℕ) → begins_with_drop bytes ≡ true → BeginsWithDrop bytes
 drop_takes [] e = absurd cc
 drop_takes (opcode ∷ bytes) e =
     let dropped : IsDrop opcode =
-    elim (either ((eqb opcode 0x75) || (eqb opcode 0x6D)) (eqb opcode 0x61) e) [
-      | inl p ↦ elim (either (eqb opcode 0x75) (eqb opcode 0x6D) p) [
+    elim (or_cases ((eqb opcode 0x75) || (eqb opcode 0x6D)) (eqb opcode 0x61) e) [
+      | inl p ↦ elim (or_cases (eqb opcode 0x75) (eqb opcode 0x6D) p) [
         | inl q ↦ op_drop (eqb-true opcode 0x75 q)
         | inr q ↦ op_2drop (eqb-true opcode 0x6D q)
       ]
@@ -79,8 +73,8 @@ dropped_takes operation found bytes after begins e =
             rest = dropped.rest;
             text = ap (λ (t : List ℕ). opcode_of operation ∷ t) (begins.text ∙ ap (λ (t : List ℕ). begins.pushes ++ t) dropped.text);
           } in
-          subst (λ (o : NameOperation). FoundAt (opcode_of operation) bytes o) (some_is operation found p.1) (record { is_opcode = refl; is_script = script })
-      | inr p ↦ absurd (none_some found p.1)
+          subst (λ (o : NameOperation). FoundAt (opcode_of operation) bytes o) (same_Some operation found p.1) (record { is_opcode = refl; is_script = script })
+      | inr p ↦ absurd (none-some found p.1)
     ]
 
 new_takes : (bytes : List ℕ) (found : NameOperation) → IsBytes bytes → new_at bytes ≡ Some found → FoundAt 0x51 bytes found
@@ -115,7 +109,7 @@ found_is opcode number bytes found is at = subst (λ (n : ℕ). IsNameScript (n 
 
 pub name_op_takes : (script : List ℕ) (found : NameOperation) → IsBytes script → name_op script ≡ Some found → IsNameScript script found
 unfolding name_op
-name_op_takes [] found fits e = absurd (none_some found e)
+name_op_takes [] found fits e = absurd (none-some found e)
 name_op_takes (opcode ∷ bytes) found fits e =
     let more = IsBytes-rest opcode bytes fits in
     elim (chosen (eqb opcode 0x51) (new_at bytes) (cond (eqb opcode 0x52) (firstupdate_at bytes) (cond (eqb opcode 0x53) (update_at bytes) None)) (Some found) e) [
@@ -124,7 +118,7 @@ name_op_takes (opcode ∷ bytes) found fits e =
         | inl q ↦ found_is opcode 0x52 bytes found (eqb-true opcode 0x52 q.0) (firstupdate_takes bytes found more q.1)
         | inr q ↦ elim (chosen (eqb opcode 0x53) (update_at bytes) None (Some found) q.1) [
           | inl r ↦ found_is opcode 0x53 bytes found (eqb-true opcode 0x53 r.0) (update_takes bytes found more r.1)
-          | inr r ↦ absurd (none_some found r.1)
+          | inr r ↦ absurd (none-some found r.1)
         ]
       ]
     ]
@@ -160,7 +154,7 @@ name_op_again script (name_update name value) is =
     (dropped_again (name_update name value) two.after is.drop is.rest two.holds_after is.is_drop)
 
 pub one_name_script : (script : List ℕ) (a b : NameOperation) → IsNameScript script a → IsNameScript script b → a ≡ b
-one_name_script script a b is_a is_b = some_is a b (sym (name_op_again script a is_a) ∙ name_op_again script b is_b)
+one_name_script script a b is_a is_b = same_Some a b (sym (name_op_again script a is_a) ∙ name_op_again script b is_b)
 
 -- ---- the clauses of the public reader
 
@@ -173,4 +167,4 @@ read_iff script answer fits e operation = (
 pub none_iff : {A : Type 0} (seen : A → NameOperation) (script : List ℕ) (answer : Option A) → IsBytes script → option_map seen answer ≡ name_op script
     → IsNone answer ↔ ((operation : NameOperation) → ¬ (IsNameScript script operation))
 none_iff seen script (Some x) fits e = ((λ none. absurd cc), λ no. absurd (no (seen x) (name_op_takes script (seen x) fits (sym e))))
-none_iff seen script None fits e = ((λ none operation is. none_some operation (e ∙ name_op_again script operation is)), λ no. refl)
+none_iff seen script None fits e = ((λ none operation is. none-some operation (e ∙ name_op_again script operation is)), λ no. refl)

@@ -2,7 +2,8 @@
 use Rattle.std.proofs.Common.{◌≡◌, ℕ, ◌%◌, ◌<◌, ◌≤◌, ◌^◌, cond, leb, eqb, List, [], ◌∷◌, ◌++◌, length, get_or, Some, None, refl, sym, ap, ◌∙◌, append_assoc, arith, inl, inr}
 use Rattle.std.specs.Int.{Width, w8, w16, w32, from_le_bytes, to_le_bytes}
 use Rattle.std.proofs.lemmas.Bool.{leb-true, le-leb, eqb-true}
-use Rattle.block_grammar.proofs.TruthLemmas.{chosen}
+use Rattle.std.proofs.lemmas.Option.{none-some}
+use Rattle.nmc_base.proofs.TruthLemmas.{chosen}
 use Rattle.block_grammar.specs.Fields.{number_at, piece_at}
 use Rattle.block_grammar.proofs.Readers.{IsBytes, Reads, IsWide, bind_some, number_reads, wide16, wide32, piece_reads, IsBytes-rest}
 use Rattle.name_script.specs.NameScript.{IsPush, op_0, direct, pushdata1, pushdata2, pushdata4}
@@ -53,7 +54,7 @@ pub record TookPush (bytes : List ℕ) (x : List ℕ × List ℕ) : Type 0 where
   pub parts : bytes ≡ push ++ x.1
   pub rest_bytes : IsBytes x.1
 
-direct_push : (value : List ℕ) → length value ≤ 0x4B → IsPush (length value ∷ value) value
+pub direct_push : (value : List ℕ) → length value ≤ 0x4B → IsPush (length value ∷ value) value
 direct_push [] le = op_0 refl refl
 direct_push (x ∷ xs) le = direct (omega arith) le refl
 
@@ -80,12 +81,9 @@ data_takes w limit wide opcode bytes z form fits e =
       rest_bytes = t.rest_bytes;
     }
 
-none_some : {A : Type 0} (z : A) → None ≡ Some z → ⊥
-none_some z e = cc
-
 pub push_takes : (bytes : List ℕ) (z : List ℕ × List ℕ) → IsBytes bytes → push_at bytes ≡ Some z → TookPush bytes z
 unfolding push_at
-push_takes [] z fits e = absurd (none_some z e)
+push_takes [] z fits e = absurd (none-some z e)
 push_takes (opcode ∷ bytes) z fits e =
     let more = IsBytes-rest opcode bytes fits in
     elim (chosen (leb opcode 0x4B) (piece_at opcode bytes) (cond (eqb opcode 0x4C) (data_at w8 bytes) (cond (eqb opcode 0x4D) (data_at w16 bytes) (cond (eqb opcode 0x4E) (data_at w32 bytes) None))) (Some z) e) [
@@ -96,7 +94,7 @@ push_takes (opcode ∷ bytes) z fits e =
           | inl r ↦ rw (eqb-true opcode 0x4D r.0) (data_takes w16 (2 ^ 16) wide16 0x4D bytes z (λ value lt. pushdata2 lt refl) more r.1)
           | inr r ↦ elim (chosen (eqb opcode 0x4E) (data_at w32 bytes) None (Some z) r.1) [
             | inl s ↦ rw (eqb-true opcode 0x4E s.0) (data_takes w32 (2 ^ 32) wide32 0x4E bytes z (λ value lt. pushdata4 lt refl) more s.1)
-            | inr s ↦ absurd (none_some z s.1)
+            | inr s ↦ absurd (none-some z s.1)
           ]
         ]
       ]

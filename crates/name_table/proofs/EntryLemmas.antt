@@ -8,6 +8,7 @@ use Rattle.nmc_base.specs.Roomy.{Roomy}
 use Rattle.chain_names.specs.declared.coin.Item.{Item}
 use Rattle.chain_names.specs.Changes.{without_entry}
 use Rattle.chain_names.specs.Coins.{entry_of}
+use Rattle.chain_names.proofs.HistoryLemmas.{entry_of-more, without_entry-more}
 
 pub slice_get-last : (items : List Item) → slice_get items (length items - 1) ≡ entry_of items
 slice_get-last [] = refl
@@ -15,16 +16,6 @@ slice_get-last (item ∷ []) = refl
 slice_get-last (item ∷ next ∷ items) =
     let past : length (item ∷ next ∷ items) - 1 ≡ suc (length (next ∷ items) - 1) = omega arith in
     rw past (slice_get-last (next ∷ items))
-
-pub entry_of-push : (items : List Item) (item : Item) → entry_of (items ++ item ∷ []) ≡ Some item
-entry_of-push [] item = refl
-entry_of-push (first ∷ []) item = refl
-entry_of-push (first ∷ next ∷ items) item = entry_of-push (next ∷ items) item
-
-pub without_entry-push : (items : List Item) (item : Item) → without_entry (items ++ item ∷ []) ≡ items
-without_entry-push items item =
-    let len : length (items ++ item ∷ []) - 1 ≡ length items = omega (arith, length-append items (item ∷ [])) in
-    rw len (take-append_seam items (item ∷ []))
 
 pub is_some-entry_of : (items : List Item) → (items ≡ [] → ⊥) → is_some (entry_of items) ≡ true
 is_some-entry_of [] some = absurd (some refl)
@@ -37,12 +28,12 @@ is_some-entry_of (item ∷ next ∷ items) some = is_some-entry_of (next ∷ ite
 -- what `pop` takes, and what it leaves
 pub popped-entry : (result : Option Item) (old new : List Item) → IfSome result (λ item. old ≡ new ++ item ∷ []) → IfNone result (old ≡ [])
     → result ≡ entry_of old
-popped-entry (Some item) old new some none = sym (ap entry_of some ∙ entry_of-push new item)
+popped-entry (Some item) old new some none = sym (ap entry_of some ∙ entry_of-more new item)
 popped-entry None old new some none = sym (ap entry_of none)
 
 pub popped-rest : (result : Option Item) (old new : Roomy Item) → IfSome result (λ item. old.items ≡ new.items ++ item ∷ []) → IfNone result (old.items ≡ [])
     → IfNone result (new ≡ old) → new.items ≡ without_entry old.items
-popped-rest (Some item) old new some none same = sym (ap without_entry some ∙ without_entry-push new.items item)
+popped-rest (Some item) old new some none same = sym (ap without_entry some ∙ without_entry-more new.items item)
 popped-rest None old new some none same = ap (λ (history : Roomy Item). history.items) same ∙ none ∙ sym (ap without_entry none)
 
 pub empty_from_length : (items : List Item) → true ≡ (length items == 0) → items ≡ []

@@ -35,7 +35,3 @@ module _ {A V : Type 0} where
       by false other rest =
           let front : keys_of (by_bytes (insert_entry (λ x y. bytes_eq x.items y.items) (entry ∷ entries) key value)) ≡ entry.0.items ∷ keys_of (by_bytes (insert_entry (λ x y. bytes_eq x.items y.items) entries key value)) = rw other refl in
           front ∙ ap (λ keys. entry.0.items ∷ keys) rest ∙ later (keys_of (by_bytes entries)) entry.0.items key.items _ refl other
-
-pub none_from : {T : Type 0} (found : Option T) → is_some found ≡ false → found ≡ None
-none_from None h = refl
-none_from (Some x) h = absurd (true≢false h)

@@ -1,1 +1,4 @@
 pub mod HexDigits
+pub mod TruthLemmas
+pub mod ListLemmas
+pub mod OptionLemmas

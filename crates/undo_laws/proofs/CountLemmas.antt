@@ -3,6 +3,7 @@ use Rattle.std.proofs.Common.{◌≡◌, ℕ, suc, ◌+◌, ◌<◌, ◌≤◌, 
 use Rattle.std.specs.Prelude.{Option, Some, None, ◌==◌}
 use Rattle.std.specs.Cmp.{unsigned_Decides}
 use Rattle.std.specs.List.{list_any}
+use Rattle.std.proofs.lemmas.Bool.{or_left, or_right, or_cases}
 use Rattle.block_grammar.specs.Transaction.{TxOutput, Transaction, txid_of}
 use Rattle.nmc_base.specs.declared.hashes.OutPoint.{OutPoint}
 use Rattle.nmc_base.specs.declared.chain_ends.Profile.{Profile}
@@ -19,9 +20,9 @@ use Rattle.chain_names.specs.Verdict.{Verdict, plain, commits, opens, updates, r
 use Rattle.chain_names.specs.Changes.{after_verdict, after_transaction, after_all, with_spent, undo_of_verdict, undo_ops, without_expired}
 use Rattle.chain_names.proofs.Meanings.{verdict_means}
 use Rattle.chain_names.proofs.Shown.{true_is_not_false}
+use Rattle.chain_names.proofs.Points.{same_point-comm}
 use Rattle.undo_laws.specs.State.{HasFewNames}
 use Rattle.block_grammar.specs.Block.{count_outputs}
-use Rattle.undo_laws.proofs.PointLemmas.{or_first, or_second, or_either, same_point-comm}
 
 -- ---- the outpoints that operations made
 
@@ -45,14 +46,14 @@ IsMade ops point = list_any (same_point point) (points_made ops) ≡ true
 made_before : (ops more : List UndoOp) (point : OutPoint) → IsMade ops point → IsMade (ops ++ more) point
 made_before [] more point e = absurd (true_is_not_false (sym e))
 made_before (op ∷ ops) more point e =
-    ⊎_elim (λ here. or_first (same_point point (made_by op)) (list_any (same_point point) (points_made (ops ++ more))) here)
-    (λ there. or_second (same_point point (made_by op)) (list_any (same_point point) (points_made (ops ++ more))) (made_before ops more point there))
-    (or_either (same_point point (made_by op)) (list_any (same_point point) (points_made ops)) e)
+    ⊎_elim (λ here. or_left (same_point point (made_by op)) (list_any (same_point point) (points_made (ops ++ more))) here)
+    (λ there. or_right (same_point point (made_by op)) (list_any (same_point point) (points_made (ops ++ more))) (made_before ops more point there))
+    (or_cases (same_point point (made_by op)) (list_any (same_point point) (points_made ops)) e)
 
 made_after : (ops more : List UndoOp) (point : OutPoint) → IsMade more point → IsMade (ops ++ more) point
 made_after [] more point e = e
 made_after (op ∷ ops) more point e =
-    or_second (same_point point (made_by op)) (list_any (same_point point) (points_made (ops ++ more))) (made_after ops more point e)
+    or_right (same_point point (made_by op)) (list_any (same_point point) (points_made (ops ++ more))) (made_after ops more point e)
 
 -- ---- the names of one transaction
 
@@ -62,7 +63,7 @@ IsOldOrMade maps height ops row point = (is_named_at row (maps.coins point) ≡ 
 
 made_alone : (op : UndoOp) (made point : OutPoint) → made_by op ≡ made → same_point made point ≡ true → IsMade (op ∷ []) point
 made_alone op made point is e =
-    or_first (same_point point (made_by op)) false (ap (same_point point) is ∙ same_point-comm point made ∙ e)
+    or_left (same_point point (made_by op)) false (ap (same_point point) is ∙ same_point-comm point made ∙ e)
 
 moved_name : (maps : Maps) (height row : ℕ) (name : List ℕ) (point : OutPoint) (ops : List UndoOp) (m s : Bool) → (m ≡ true → IsMade ops point)
     → is_named_at row (cond m (Some (Named name height)) (cond s None (maps.coins point))) ≡ true → IsOldOrMade maps height ops row point

@@ -4,6 +4,7 @@ use Rattle.std.specs.Prelude.{Option, Some, None}
 use Rattle.block_grammar.specs.Transaction.{Transaction, txid_of}
 use Rattle.nmc_base.specs.declared.hashes.OutPoint.{OutPoint}
 use Rattle.nmc_base.specs.declared.chain_ends.Profile.{Profile}
+use Rattle.nmc_base.proofs.ListLemmas.{all-weaker}
 use Rattle.chain_names.specs.declared.coin.Coin.{Coin}
 use Rattle.chain_names.specs.declared.coin.Coin.TheVariants.{New, Named}
 use Rattle.chain_names.specs.declared.coin.HeldCoin.{HeldCoin}
@@ -16,16 +17,15 @@ use Rattle.chain_names.specs.Meaning.{Means}
 use Rattle.chain_names.specs.Verdict.{Verdict, plain, commits, opens, updates, refused, verdict}
 use Rattle.chain_names.specs.Changes.{moved, without_entry, with_spent, after_verdict, after_transaction, after_all, after_block, first_refused, undo_of_verdict, undo_ops, back_ops}
 use Rattle.chain_names.specs.Undo.{UndoRecord}
-use Rattle.chain_names.proofs.BlockLemmas.{all_back}
+use Rattle.chain_names.proofs.BlockLemmas.{no_refusal, all_back}
 use Rattle.chain_names.proofs.Changed.{changed_at, bytes_eq-self}
 use Rattle.chain_names.proofs.Meanings.{verdict_means}
-use Rattle.chain_names.proofs.Points.{same_point-Decides}
+use Rattle.chain_names.proofs.Points.{same_point-Decides, same_point-self}
 use Rattle.chain_names.proofs.UndoLemmas.{back_ops-append}
+use Rattle.chain_names.proofs.HistoryLemmas.{entry_of-more, without_entry-more}
 use Rattle.undo_laws.specs.Expired.{IsGone, IsDue}
 use Rattle.undo_laws.specs.Fits.{IsJustExpired, with_restored, IsMadeName, FitsOp, FitsOps, FitsState}
-use Rattle.undo_laws.proofs.OperationLemmas.{none_refused}
-use Rattle.undo_laws.proofs.PointLemmas.{all-weaker, same_point-refl, apart}
-use Rattle.undo_laws.proofs.HistoryLemmas.{entry_of-more, without_entry-more}
+use Rattle.undo_laws.proofs.PointLemmas.{apart}
 use Rattle.undo_laws.proofs.StandLemmas.{Stands}
 use Rattle.undo_laws.proofs.BlockLemmas.{live_left}
 use Rattle.undo_laws.proofs.RestoreLemmas.{due_restored}
@@ -50,7 +50,7 @@ moved_fits maps height spent made name value coin fresh held =
       last = record { value = value; last = ap entry_of items ∙ entry_of-more (maps.names name) item };
       before_is = ap (λ (is : List Item). entry_of (without_entry is)) items ∙ ap entry_of (without_entry-more (maps.names name) item);
       free = ap (λ b. cond b (Some (Named name height)) (cond (same_point spent spent) None (maps.coins spent))) (apart maps.coins made spent coin fresh held)
-          ∙ ap (λ b. cond b None (maps.coins spent)) (same_point-refl spent);
+          ∙ ap (λ b. cond b None (maps.coins spent)) (same_point-self spent);
     }
 
 with_spent_fits : (height : ℕ) (undo : Coin → UndoOp) (spent : Option Coin) (coin : Coin) (after : Maps) → spent ≡ Some coin → FitsOp height (undo coin) after
@@ -84,7 +84,7 @@ all_fit profile height index [] maps accepted = tt
 all_fit profile height index (t ∷ ts) maps accepted =
     let v = verdict profile maps height t in
     let next = after_transaction profile height t maps in
-    let later = (none_refused index v (first_refused profile height (suc index) ts next) accepted).1 in
+    let later = (no_refusal index v (first_refused profile height (suc index) ts next) accepted).1 in
     fits-append height (undo_of_verdict maps (txid_of t) v) (undo_ops profile height ts next) (after_all profile height ts next)
     (subst (FitsOps height (undo_of_verdict maps (txid_of t) v)) (sym (all_back profile height (suc index) ts next later))
     (verdict_fits profile height maps t v (verdict_means profile maps height t)))

@@ -9,14 +9,6 @@ use Rattle.chain_names.specs.Coins.{entry_of}
 use Rattle.chain_names.specs.Changes.{without_entry}
 use Rattle.undo_laws.specs.State.{IsUpTo, IsRising, IsLastItem}
 
-pub entry_of-more : (items : List Item) (item : Item) → entry_of (items ++ item ∷ []) ≡ Some item
-entry_of-more [] item = refl
-entry_of-more (first ∷ []) item = refl
-entry_of-more (first ∷ second ∷ items) item = entry_of-more (second ∷ items) item
-
-pub without_entry-more : (items : List Item) (item : Item) → without_entry (items ++ item ∷ []) ≡ items
-without_entry-more items item = grind (arith, common_steps)
-
 pub rising-more : (items : List Item) (item : Item) → IsRising items → AllByRecursion (IsUpTo item.height) items → IsRising (items ++ item ∷ [])
 rising-more [] item rising low = tt
 rising-more (first ∷ []) item rising low = (low.0, tt)

@@ -6,13 +6,16 @@ use Rattle.std.specs.Ordering.{ordering_reverse, is_eq}
 use Rattle.std.specs.declared.cmp.Ordering.{Ordering}
 use Rattle.std.specs.declared.cmp.Ordering.TheVariants.{Less, Equal, Greater}
 use Rattle.std.proofs.lemmas.Map.Keys.{sorted_head, sorted_tail}
+use Rattle.std.proofs.lemmas.Bool.{or_left, or_right}
 use Rattle.nmc_base.specs.declared.hashes.OutPoint.{OutPoint}
 use Rattle.nmc_base.specs.Hash.{outpoint_cmp}
+use Rattle.nmc_base.proofs.TruthLemmas.{or_more}
 use Rattle.chain_names.specs.declared.coin.HeldCoin.{HeldCoin}
 use Rattle.chain_names.specs.Points.{same_point}
 use Rattle.chain_names.proofs.Shown.{true_is_not_false}
+use Rattle.chain_names.proofs.Points.{same_point-self, same_point-comm}
 use Rattle.undo_laws.specs.Expired.{points_of, IsSortedByPoint, is_held_at}
-use Rattle.undo_laws.proofs.PointLemmas.{same_point-refl, same_point-comm, all-points, all-coins, or_first, or_second, or_more}
+use Rattle.undo_laws.proofs.PointLemmas.{all-points, all-coins}
 use Rattle.undo_laws.proofs.OrderLemmas.{outpoint_cmp-total, IsAbove, same_by_cmp}
 
 abbrev placed : HeldCoin → HeldCoin → List HeldCoin → List HeldCoin → Ordering → List HeldCoin
@@ -74,18 +77,18 @@ IsListed point helds = list_any (is_held_at point) helds ≡ true
 
 placed_here : (held first : HeldCoin) (rest more : List HeldCoin) (o : Ordering) → outpoint_cmp held.at first.at ≡ o → IsListed held.at more
     → IsListed held.at (placed held first rest more o)
-placed_here held first rest more Less is later = or_first (same_point held.at held.at) (list_any (is_held_at held.at) (first ∷ rest)) (same_point-refl held.at)
+placed_here held first rest more Less is later = or_left (same_point held.at held.at) (list_any (is_held_at held.at) (first ∷ rest)) (same_point-self held.at)
 placed_here held first rest more Equal is later =
-    or_first (same_point first.at held.at) (list_any (is_held_at held.at) rest) (same_point-comm first.at held.at ∙ sym (same_by_cmp held.at first.at) ∙ ap is_eq is)
-placed_here held first rest more Greater is later = or_second (same_point first.at held.at) (list_any (is_held_at held.at) more) later
+    or_left (same_point first.at held.at) (list_any (is_held_at held.at) rest) (same_point-comm first.at held.at ∙ sym (same_by_cmp held.at first.at) ∙ ap is_eq is)
+placed_here held first rest more Greater is later = or_right (same_point first.at held.at) (list_any (is_held_at held.at) more) later
 
 pub insert_here : (held : HeldCoin) (helds : List HeldCoin) → IsListed held.at (insert_held held helds)
-insert_here held [] = or_first (same_point held.at held.at) false (same_point-refl held.at)
+insert_here held [] = or_left (same_point held.at held.at) false (same_point-self held.at)
 insert_here held (first ∷ rest) = placed_here held first rest (insert_held held rest) (outpoint_cmp held.at first.at) refl (insert_here held rest)
 
 placed_there : (held first : HeldCoin) (rest more : List HeldCoin) (point : OutPoint) (o : Ordering) → (IsListed point rest → IsListed point more) → IsListed point (first ∷ rest)
     → IsListed point (placed held first rest more o)
-placed_there held first rest more point Less later e = or_second (same_point held.at point) (list_any (is_held_at point) (first ∷ rest)) e
+placed_there held first rest more point Less later e = or_right (same_point held.at point) (list_any (is_held_at point) (first ∷ rest)) e
 placed_there held first rest more point Equal later e = e
 placed_there held first rest more point Greater later e =
     or_more (same_point first.at point) (list_any (is_held_at point) rest) (list_any (is_held_at point) more) later e

@@ -7,6 +7,7 @@ use Rattle.block_grammar.specs.Transaction.{Transaction, txid_of}
 use Rattle.nmc_base.specs.declared.hashes.OutPoint.{OutPoint}
 use Rattle.nmc_base.specs.declared.chain_ends.Profile.{Profile}
 use Rattle.nmc_base.specs.Expiry.{expiry_depth}
+use Rattle.nmc_base.proofs.ListLemmas.{all-weaker, all-append}
 use Rattle.chain_names.specs.declared.coin.Coin.{Coin}
 use Rattle.chain_names.specs.declared.coin.Coin.TheVariants.{New, Named}
 use Rattle.chain_names.specs.declared.coin.HeldCoin.{HeldCoin}
@@ -26,7 +27,7 @@ use Rattle.undo_laws.specs.Expired.{IsSortedByPoint, IsGone, IsDue}
 use Rattle.undo_laws.specs.State.{FitsItem, HasFewNames}
 use Rattle.block_grammar.specs.Block.{count_outputs}
 use Rattle.undo_laws.specs.Limits.{IsShortBefore, IsWithinLimitsOp, HoldsName, IsNameCoin, IsWithinLimits}
-use Rattle.undo_laws.proofs.PointLemmas.{all-points, all-weaker, all-append}
+use Rattle.undo_laws.proofs.PointLemmas.{all-points}
 use Rattle.undo_laws.proofs.HistoryLemmas.{entry_has}
 use Rattle.undo_laws.proofs.StandLemmas.{Stands}
 use Rattle.undo_laws.proofs.BlockLemmas.{verdict_stands}

@@ -7,6 +7,7 @@ use Rattle.nmc_base.specs.declared.hashes.Hash20.{Hash20}
 use Rattle.nmc_base.specs.declared.hashes.OutPoint.{OutPoint}
 use Rattle.nmc_base.specs.declared.chain_ends.Profile.{Profile}
 use Rattle.nmc_base.specs.Expiry.{is_expired}
+use Rattle.nmc_base.proofs.ListLemmas.{all-append}
 use Rattle.chain_names.specs.declared.coin.Coin.{Coin}
 use Rattle.chain_names.specs.declared.coin.Coin.TheVariants.{New, Named}
 use Rattle.chain_names.specs.declared.coin.Item.{Item}
@@ -17,11 +18,12 @@ use Rattle.chain_names.specs.Verdict.{made_at}
 use Rattle.chain_names.specs.Changes.{moved}
 use Rattle.chain_names.proofs.Changed.{changed_at, bytes_eq-true, bytes_eq-self}
 use Rattle.chain_names.proofs.LogLemmas.{fresh_stands}
-use Rattle.chain_names.proofs.Points.{same_point-Decides}
+use Rattle.chain_names.proofs.Points.{same_point-Decides, same_point-true, same_point-self}
 use Rattle.chain_names.proofs.Shown.{true_is_not_false}
+use Rattle.chain_names.proofs.HistoryLemmas.{entry_of-more}
 use Rattle.undo_laws.specs.State.{IsUpTo, FitsItem, IsRising, IsStandingCoin}
-use Rattle.undo_laws.proofs.PointLemmas.{all-append, same_point-equal, same_point-refl, apart}
-use Rattle.undo_laws.proofs.HistoryLemmas.{entry_of-more, rising-more}
+use Rattle.undo_laws.proofs.PointLemmas.{apart}
+use Rattle.undo_laws.proofs.HistoryLemmas.{rising-more}
 use Rattle.undo_laws.proofs.StandLemmas.{Stands}
 
 -- ---- a commitment
@@ -77,7 +79,7 @@ module _ (profile : Profile) (height : ℕ) (maps : Maps) (spent point : OutPoin
       → cond m (Some (Named name height)) (cond s None (maps.coins q)) ≡ Some c → IsMade q c ⊎ Stays q c
   made_or_stays q c true s is _ e =
       let same : Named name height ≡ c = cc in
-      inl (same_point-equal point q is, same)
+      inl (same_point-true point q is, same)
   made_or_stays q c false true _ is e = absurd cc
   made_or_stays q c false false _ is e = inr (is, e)
 
@@ -113,7 +115,7 @@ module _ (profile : Profile) (height : ℕ) (maps : Maps) (spent point : OutPoin
   other_coin : (q : OutPoint) (n : List ℕ) (made : ℕ) → same_point spent q ≡ false → maps.coins q ≡ Some (Named n made) → IsStandingCoin profile height (Now.names n) made q
   other_coin q n made other there =
       each_history (λ m items. maps.coins q ≡ Some (Named m made) → IsStandingCoin profile height items made q)
-      (λ here. absurd (true_is_not_false (sym (ap (same_point spent) (only_here q made here) ∙ same_point-refl spent) ∙ other)))
+      (λ here. absurd (true_is_not_false (sym (ap (same_point spent) (only_here q made here) ∙ same_point-self spent) ∙ other)))
       (λ m other_name. stands.named_coins q m made)
       n there
 
@@ -125,7 +127,7 @@ module _ (profile : Profile) (height : ℕ) (maps : Maps) (spent point : OutPoin
     where
       by : (b : Bool) → same_point spent item.at ≡ b → cond b None (maps.coins item.at) ≡ Some (Named n item.height)
       by true is =
-          let both : Some coin ≡ Some (Named n item.height) = sym held ∙ ap maps.coins (same_point-equal spent item.at is) ∙ there in
+          let both : Some coin ≡ Some (Named n item.height) = sym held ∙ ap maps.coins (same_point-true spent item.at is) ∙ there in
           let same : coin ≡ Named n item.height = cc in
           absurd (true_is_not_false (sym (ap (bytes_eq name) (only_this n item.height same) ∙ bytes_eq-self name) ∙ other))
       by false is = there

@@ -11,15 +11,17 @@ use Rattle.std.proofs.lemmas.Map.Keys.{sorted_head, sorted_tail}
 use Rattle.nmc_base.specs.declared.chain_ends.Profile.{Profile}
 use Rattle.nmc_base.specs.declared.hashes.OutPoint.{OutPoint}
 use Rattle.nmc_base.specs.Hash.{outpoint_cmp}
+use Rattle.nmc_base.proofs.TruthLemmas.{same_truth}
+use Rattle.nmc_base.proofs.ListLemmas.{all-weaker}
 use Rattle.chain_names.specs.declared.coin.Coin.{Coin}
 use Rattle.chain_names.specs.declared.coin.HeldCoin.{HeldCoin}
 use Rattle.chain_names.specs.Points.{same_point}
 use Rattle.chain_names.specs.Log.{Log}
 use Rattle.chain_names.specs.Undo.{UndoRecord}
 use Rattle.chain_names.proofs.Shown.{true_is_not_false}
+use Rattle.chain_names.proofs.Points.{same_point-true, same_point-self, same_point-comm}
 use Rattle.undo_laws.specs.Expired.{points_of, IsSortedByPoint, is_held_at, IsGone, IsDue}
 use Rattle.undo_laws.specs.UndoOf.{IsUndoOf, AreUndos}
-use Rattle.undo_laws.proofs.PointLemmas.{all-weaker, same_point-equal, same_point-refl, same_point-comm}
 use Rattle.undo_laws.proofs.OrderLemmas.{outpoint_cmp-total, IsAbove, same_by_cmp}
 
 -- ---- sorted outpoints
@@ -28,7 +30,7 @@ use Rattle.undo_laws.proofs.OrderLemmas.{outpoint_cmp-total, IsAbove, same_by_cm
 not_above : (p q : OutPoint) → IsAbove p q → (b : Bool) → same_point p q ≡ b → b ≡ false
 not_above p q above false is = refl
 not_above p q above true is =
-    let bad : Less ≡ Equal = sym above ∙ ap (outpoint_cmp p) (sym (same_point-equal p q is)) ∙ tied_itself outpoint_cmp-total p in
+    let bad : Less ≡ Equal = sym above ∙ ap (outpoint_cmp p) (sym (same_point-true p q is)) ∙ tied_itself outpoint_cmp-total p in
     absurd cc
 
 none_above : (p : OutPoint) (qs : List OutPoint) → AllByRecursion (IsAbove p) qs → list_any (same_point p) qs ≡ false
@@ -36,7 +38,7 @@ none_above p [] above = refl
 none_above p (q ∷ qs) above = ap (λ b. b || list_any (same_point p) qs) (not_above p q above.0 (same_point p q) refl) ∙ none_above p qs above.1
 
 first_is : (p : OutPoint) (ps : List OutPoint) → list_any (same_point p) (p ∷ ps) ≡ true
-first_is p ps = ap (λ b. b || list_any (same_point p) ps) (same_point-refl p)
+first_is p ps = ap (λ b. b || list_any (same_point p) ps) (same_point-self p)
 
 -- so is one below the first
 below_first : (p q : OutPoint) (qs : List OutPoint) → IsAbove p q → IsStrictlySortedBy outpoint_cmp (q ∷ qs) → list_any (same_point p) (q ∷ qs) ≡ false
@@ -52,7 +54,7 @@ first_same : (p q : OutPoint) (ps qs : List OutPoint) → IsStrictlySortedBy out
     → (o : Ordering) → outpoint_cmp p q ≡ o → p ≡ q
 first_same p q ps qs left right same Less is =
     absurd (true_is_not_false (sym (first_is p ps) ∙ same p ∙ below_first p q qs is right))
-first_same p q ps qs left right same Equal is = same_point-equal p q (sym (same_by_cmp p q) ∙ ap is_eq is)
+first_same p q ps qs left right same Equal is = same_point-true p q (sym (same_by_cmp p q) ∙ ap is_eq is)
 first_same p q ps qs left right same Greater is =
     let back : IsAbove q p = outpoint_cmp-total.antisymm q p ∙ ap ordering_reverse is in
     absurd (true_is_not_false (sym (first_is q qs) ∙ sym (same q) ∙ below_first q p ps back left))
@@ -61,7 +63,7 @@ rest_at : (p r : OutPoint) (ps qs : List OutPoint) (b : Bool) → same_point r p
     → (b || list_any (same_point r) ps) ≡ (b || list_any (same_point r) qs) → list_any (same_point r) ps ≡ list_any (same_point r) qs
 rest_at p r ps qs false is left right same = same
 rest_at p r ps qs true is left right same =
-    let here = same_point-equal r p is in
+    let here = same_point-true r p is in
     ap (λ x. list_any (same_point x) ps) here ∙ left ∙ sym right ∙ ap (λ x. list_any (same_point x) qs) (sym here)
 
 rest_same : (p : OutPoint) (ps qs : List OutPoint) → IsStrictlySortedBy outpoint_cmp (p ∷ ps) → IsStrictlySortedBy outpoint_cmp (p ∷ qs) → SamePoints (p ∷ ps) (p ∷ qs)
@@ -118,14 +120,9 @@ listed_too now next (x ∷ xs) ys point due all e = by (same_point x.at point) r
     by : (b : Bool) → same_point x.at point ≡ b → (b || list_any (is_held_at point) xs) ≡ true
         → (list_any (is_held_at point) xs ≡ true → list_any (is_held_at point) ys ≡ true) → list_any (is_held_at point) ys ≡ true
     by true is e' later =
-        let here = same_point-equal x.at point is in
+        let here = same_point-true x.at point is in
         due.all point x.coin (ap now (sym here) ∙ all.0.now_is) (ap next (sym here) ∙ all.0.next_is)
     by false is e' later = later e'
-
-both_or_none : (a b : Bool) → (a ≡ true → b ≡ true) → (b ≡ true → a ≡ true) → a ≡ b
-both_or_none true b f g = sym (f refl)
-both_or_none false true f g = g refl
-both_or_none false false f g = refl
 
 -- the coins that are due, in order, are one list
 pub one_due : (now next : OutPoint → Option Coin) (xs ys : List HeldCoin) → IsDue now next xs → IsDue now next ys → IsSortedByPoint xs → IsSortedByPoint ys → xs ≡ ys
@@ -134,7 +131,7 @@ one_due now next xs ys left right left_sorted right_sorted =
     (all-weaker (IsGone now next) (IsThere now) ys (λ held gone. gone.now_is) right.each)
     (one_order (points_of xs) (points_of ys) left_sorted right_sorted
     (λ point. sym (any_point xs point)
-    ∙ both_or_none (list_any (is_held_at point) xs) (list_any (is_held_at point) ys) (listed_too now next xs ys point right left.each) (listed_too now next ys xs point left right.each)
+    ∙ same_truth (list_any (is_held_at point) xs) (list_any (is_held_at point) ys) (listed_too now next xs ys point right left.each) (listed_too now next ys xs point left right.each)
     ∙ any_point ys point))
 
 -- ---- records

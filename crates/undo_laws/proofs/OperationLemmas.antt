@@ -10,15 +10,8 @@ use Rattle.chain_names.specs.Changes.{Refused, refused_or, undo_of_verdict, undo
 use Rattle.chain_names.specs.Index.{refused_in}
 use Rattle.chain_names.proofs.LogLemmas.{transaction_follows}
 use Rattle.chain_names.proofs.Shown.{is_refused}
+use Rattle.chain_names.proofs.BlockLemmas.{no_refusal}
 use Rattle.undo_laws.specs.UndoOf.{undo_ops_in}
-
--- the first isn't refused, and neither is a later one
-pub none_refused : (index : ℕ) (v : Verdict) (later : Option Refused) → refused_or index v later ≡ None → (is_refused v ≡ false) × (later ≡ None)
-none_refused index plain later e = (refl, e)
-none_refused index (commits hash place) later e = (refl, e)
-none_refused index (opens name value place spent) later e = (refl, e)
-none_refused index (updates name value place spent) later e = (refl, e)
-none_refused index (refused refusal) later e = absurd cc
 
 pub undo_ops_in-maps : (profile : Profile) (height index : ℕ) (ts : List Transaction) (log : Log) → refused_in profile height index ts log ≡ None
     → undo_ops_in profile height ts log ≡ undo_ops profile height ts (maps_of profile log height)
@@ -26,7 +19,7 @@ undo_ops_in-maps profile height index [] log e = refl
 undo_ops_in-maps profile height index (t ∷ ts) log e =
     let maps = maps_of profile log height in
     let v = verdict profile maps height t in
-    let h = none_refused index v (refused_in profile height (suc index) ts (touches height t log)) e in
+    let h = no_refusal index v (refused_in profile height (suc index) ts (touches height t log)) e in
     ap (λ ops. undo_of_verdict maps (txid_of t) v ++ ops)
     (undo_ops_in-maps profile height (suc index) ts (touches height t log) h.1
     ∙ ap (undo_ops profile height ts) (transaction_follows profile height t log h.0))

@@ -18,8 +18,8 @@ use Rattle.nmc_base.specs.Hash.{outpoint_cmp}
 use Rattle.chain_names.specs.declared.coin.HeldCoin.{HeldCoin}
 use Rattle.chain_names.specs.Points.{same_point}
 use Rattle.chain_names.proofs.Shown.{true_is_not_false}
+use Rattle.chain_names.proofs.Points.{same_point-true}
 use Rattle.undo_laws.specs.Expired.{points_of, IsSortedByPoint}
-use Rattle.undo_laws.proofs.PointLemmas.{same_point-equal}
 
 pub outpoint_cmp-total : IsTotalOrder outpoint_cmp
 outpoint_cmp-total =
@@ -48,7 +48,7 @@ member_listed P (p ∷ points) q all e = by (eq_by_cmp outpoint_cmp q p) refl e 
   where
     by : (b : Bool) → eq_by_cmp outpoint_cmp q p ≡ b → (b || list_any (eq_by_cmp outpoint_cmp q) points) ≡ true
         → (is_member (eq_by_cmp outpoint_cmp) points q ≡ true → P q) → P q
-    by true is e' later = subst P (sym (same_point-equal q p (sym (same_by_cmp q p) ∙ is))) all.0
+    by true is e' later = subst P (sym (same_point-true q p (sym (same_by_cmp q p) ∙ is))) all.0
     by false is e' later = later e'
 
 any-same : (A : Type 0) (f g : A → Bool) (xs : List A) → ((x : A) → f x ≡ g x) → list_any f xs ≡ list_any g xs

@@ -16,11 +16,11 @@ use Rattle.chain_names.specs.Log.{Log, behind_coinbase, transactions_in}
 use Rattle.chain_names.specs.Undo.{UndoRecord}
 use Rattle.chain_names.proofs.DueLemmas.{unless_expired-row, unless_expired-none}
 use Rattle.chain_names.proofs.Shown.{true_is_not_false}
+use Rattle.chain_names.proofs.Points.{same_point-true}
 use Rattle.undo_laws.specs.Expired.{IsSortedByPoint, IsGone}
 use Rattle.undo_laws.specs.State.{HasFewNames}
 use Rattle.undo_laws.specs.Sound.{IsAccepted, AreAccepted}
 use Rattle.undo_laws.specs.UndoOf.{hash_in, IsUndoOf, AreUndos}
-use Rattle.undo_laws.proofs.PointLemmas.{same_point-equal}
 use Rattle.undo_laws.proofs.InsertLemmas.{IsListed, insert_held, insert_all, insert_sorted, insert_here, insert_there, sorted_nil}
 use Rattle.undo_laws.proofs.StandLemmas.{Stands}
 use Rattle.undo_laws.proofs.StateLemmas.{transactions_stand, transactions_few}
@@ -52,7 +52,7 @@ module _ (now next : OutPoint → Option Coin) where
       by : (point : OutPoint) (coin : Coin) → now point ≡ Some coin → next point ≡ None → (b : Bool) → same_point point at ≡ b → (b || list_any (same_point point) points) ≡ true
           → IsListed point found.helds
       by point coin held gone true is listed =
-          let bad : None ≡ Some coin = sym was_is ∙ ap now (sym (same_point-equal point at is)) ∙ held in
+          let bad : None ≡ Some coin = sym was_is ∙ ap now (sym (same_point-true point at is)) ∙ held in
           absurd cc
       by point coin held gone false is listed = found.all point coin held gone listed
   found_more at points (Some coin) (Some kept) was_is left_is found = record {
@@ -66,7 +66,7 @@ module _ (now next : OutPoint → Option Coin) where
       by : (point : OutPoint) (c : Coin) → now point ≡ Some c → next point ≡ None → (b : Bool) → same_point point at ≡ b → (b || list_any (same_point point) points) ≡ true
           → IsListed point found.helds
       by point c held gone true is listed =
-          let bad : None ≡ Some kept = sym gone ∙ ap next (same_point-equal point at is) ∙ left_is in
+          let bad : None ≡ Some kept = sym gone ∙ ap next (same_point-true point at is) ∙ left_is in
           absurd cc
       by point c held gone false is listed = found.all point c held gone listed
   found_more at points (Some coin) None was_is left_is found = record {
@@ -80,7 +80,7 @@ module _ (now next : OutPoint → Option Coin) where
       by : (point : OutPoint) (c : Coin) → now point ≡ Some c → next point ≡ None → (b : Bool) → same_point point at ≡ b → (b || list_any (same_point point) points) ≡ true
           → IsListed point (insert_held (record { at = at; coin = coin }) found.helds)
       by point c held gone true is listed =
-          subst (λ p. IsListed p (insert_held (record { at = at; coin = coin }) found.helds)) (sym (same_point-equal point at is))
+          subst (λ p. IsListed p (insert_held (record { at = at; coin = coin }) found.helds)) (sym (same_point-true point at is))
           (insert_here (record { at = at; coin = coin }) found.helds)
       by point c held gone false is listed = insert_there (record { at = at; coin = coin }) found.helds point (found.all point c held gone listed)
 

@@ -7,6 +7,7 @@ use Rattle.block_grammar.specs.Transaction.{Transaction}
 use Rattle.nmc_base.specs.declared.hashes.OutPoint.{OutPoint}
 use Rattle.nmc_base.specs.declared.chain_ends.Profile.{Profile}
 use Rattle.nmc_base.specs.Expiry.{is_expired}
+use Rattle.nmc_base.proofs.ListLemmas.{all-weaker}
 use Rattle.chain_names.specs.declared.coin.Coin.{Coin}
 use Rattle.chain_names.specs.declared.coin.Coin.TheVariants.{New, Named}
 use Rattle.chain_names.specs.declared.coin.HeldCoin.{HeldCoin}
@@ -16,11 +17,9 @@ use Rattle.chain_names.specs.Coins.{Maps, unless_expired}
 use Rattle.chain_names.specs.Changes.{after_all, after_block, first_refused, restored, undo_ops, undone, back_ops}
 use Rattle.chain_names.proofs.BlockLemmas.{all_back}
 use Rattle.chain_names.proofs.Shown.{true_is_not_false}
+use Rattle.chain_names.proofs.LogLemmas.{with_maps}
+use Rattle.chain_names.proofs.Points.{same_point-true}
 use Rattle.undo_laws.specs.Expired.{is_held_at, IsGone, IsDue}
-use Rattle.undo_laws.proofs.PointLemmas.{all-weaker, same_point-equal}
-
-abbrev maps_with : (OutPoint → Option Coin) → (List ℕ → List Item) → Maps
-maps_with coins names = record { coins = coins; names = names }
 
 -- ---- what is put back
 
@@ -31,7 +30,7 @@ restored_here : (coins target : OutPoint → Option Coin) (held : HeldCoin) (hel
     → ((list_any (is_held_at point) helds ≡ false → coins point ≡ target point) → restored helds coins point ≡ target point)
     → (b : Bool) → same_point held.at point ≡ b → ((b || list_any (is_held_at point) helds) ≡ false → coins point ≡ target point)
     → cond b (Some held.coin) (restored helds coins point) ≡ target point
-restored_here coins target held helds point here later true is rest = sym here ∙ ap target (same_point-equal held.at point is)
+restored_here coins target held helds point here later true is rest = sym here ∙ ap target (same_point-true held.at point is)
 restored_here coins target held helds point here later false is rest = later rest
 
 -- coins of the target put back where the others are the target's already
@@ -114,5 +113,5 @@ pub block_undone : (profile : Profile) (height index : ℕ) (ts : List Transacti
     → undone (undo_ops profile height ts maps) expired (after_block profile height ts maps) ≡ maps
 block_undone profile height index ts maps expired accepted due =
     let after = after_all profile height ts maps in
-    ap (λ coins. back_ops (undo_ops profile height ts maps) (maps_with coins after.names)) (due_restored profile (suc height) after.coins expired due)
+    ap (λ coins. back_ops (undo_ops profile height ts maps) (with_maps coins after.names)) (due_restored profile (suc height) after.coins expired due)
     ∙ all_back profile height index ts maps accepted

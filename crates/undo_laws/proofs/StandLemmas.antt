@@ -11,8 +11,8 @@ use Rattle.chain_names.specs.declared.coin.Item.{Item}
 use Rattle.chain_names.specs.Coins.{Maps, entry_of}
 use Rattle.chain_names.specs.Verdict.{made_at}
 use Rattle.nmc_base.specs.Heights.{highest}
+use Rattle.nmc_base.proofs.ListLemmas.{all-weaker}
 use Rattle.undo_laws.specs.State.{IsUpTo, FitsItem, IsRising, IsStandingCoin, HasFewNames, IsState}
-use Rattle.undo_laws.proofs.PointLemmas.{all-weaker}
 
 -- no coin and no item is higher than the top, and names stand at the height
 pub record Stands (profile : Profile) (height top : ℕ) (maps : Maps) : Type 0 where

@@ -3,11 +3,14 @@ use Rattle.std.proofs.Common.{◌≡◌, ℕ, suc, ◌<◌, ◌≤◌, ◌^◌, 
 use Rattle.std.specs.Prelude.{Some, None}
 use Rattle.std.specs.List.{AllByRecursion, list_any}
 use Rattle.std.specs.Str.{bytes_eq}
+use Rattle.std.proofs.lemmas.Option.{none-some}
+use Rattle.std.proofs.lemmas.Bool.{or_left, or_right}
 use Rattle.name_script.specs.NameScript.{NameOperation, name_new, name_firstupdate, name_update}
 use Rattle.nmc_base.specs.Heights.{highest}
 use Rattle.nmc_base.specs.declared.hashes.OutPoint.{OutPoint}
 use Rattle.nmc_base.specs.declared.chain_ends.Profile.{Profile}
 use Rattle.nmc_base.specs.Expiry.{is_expired}
+use Rattle.nmc_base.proofs.ListLemmas.{all-append}
 use Rattle.chain_names.specs.declared.coin.Coin.{Coin}
 use Rattle.chain_names.specs.declared.coin.Coin.TheVariants.{New, Named}
 use Rattle.chain_names.specs.declared.coin.Item.{Item}
@@ -19,12 +22,12 @@ use Rattle.chain_names.specs.Start.{IsOneValue, IsStartMake, AreStartMakes, IsSt
 use Rattle.chain_names.specs.Tables.{is_named_at}
 use Rattle.chain_names.specs.Verdict.{made_at}
 use Rattle.chain_names.proofs.Changed.{changed_at, changed_mapped, bytes_eq-true, bytes_eq-self}
-use Rattle.chain_names.proofs.Points.{same_point-Decides}
+use Rattle.chain_names.proofs.Points.{same_point-Decides, same_point-comm}
 use Rattle.chain_names.proofs.Shown.{true_is_not_false}
+use Rattle.chain_names.proofs.HistoryLemmas.{entry_of-more}
 use Rattle.undo_laws.specs.State.{IsUpTo, FitsItem, IsRising, IsStandingCoin, HasFewNames, IsState}
 use Rattle.undo_laws.specs.Sound.{IsSound}
-use Rattle.undo_laws.proofs.PointLemmas.{all-append, same_point-comm, apart, or_first, or_second}
-use Rattle.undo_laws.proofs.HistoryLemmas.{entry_of-more}
+use Rattle.undo_laws.proofs.PointLemmas.{apart}
 use Rattle.undo_laws.proofs.StandLemmas.{Stands, standing_state}
 use Rattle.undo_laws.proofs.MoveLemmas.{commitment_stands}
 use Rattle.undo_laws.proofs.BlockLemmas.{live_left}
@@ -144,12 +147,9 @@ module _ (profile : Profile) (base : ℕ) (below : Log) (point : OutPoint) (made
   make_stands (name_firstupdate name rand value) make = named_make (name_firstupdate name rand value) name value refl refl make.fits
   make_stands (name_update name value) make = named_make (name_update name value) name value refl refl make.fits
 
-no_coin : (coin : Coin) → None ≡ Some coin → ⊥
-no_coin coin e = cc
-
 makes_stand : (profile : Profile) (base : ℕ) (start : Log) → AreStartMakes profile base start → Stands profile (suc base) base (maps_of profile start (suc base))
 makes_stand profile base [] makes = record {
-  coin_heights = λ point coin e. absurd (no_coin coin e);
+  coin_heights = λ point coin e. absurd (none-some coin e);
   item_heights = λ name. tt;
   rising = λ name. tt;
   lengths = λ name. tt;
@@ -179,13 +179,13 @@ touched (Spend point ∷ log) row q e = by (same_point point q) refl e (touched 
     by : (b : Bool) → same_point point q ≡ b → is_named_at row (cond b None (coin_now log q)) ≡ true
         → (is_named_at row (coin_now log q) ≡ true → list_any (same_point q) (points_in log) ≡ true) → list_any (same_point q) (point ∷ points_in log) ≡ true
     by true is e' later = absurd (true_is_not_false (sym e'))
-    by false is e' later = or_second (same_point q point) (list_any (same_point q) (points_in log)) (later e')
+    by false is e' later = or_right (same_point q point) (list_any (same_point q) (points_in log)) (later e')
 touched (Make point operation height ∷ log) row q e = by (same_point point q) refl e (touched log row q)
   where
     by : (b : Bool) → same_point point q ≡ b → is_named_at row (cond b (Some (coin_of operation height)) (coin_now log q)) ≡ true
         → (is_named_at row (coin_now log q) ≡ true → list_any (same_point q) (points_in log) ≡ true) → list_any (same_point q) (point ∷ points_in log) ≡ true
-    by true is e' later = or_first (same_point q point) (list_any (same_point q) (points_in log)) (same_point-comm q point ∙ is)
-    by false is e' later = or_second (same_point q point) (list_any (same_point q) (points_in log)) (later e')
+    by true is e' later = or_left (same_point q point) (list_any (same_point q) (points_in log)) (same_point-comm q point ∙ is)
+    by false is e' later = or_right (same_point q point) (list_any (same_point q) (points_in log)) (later e')
 
 few_in : (profile : Profile) (height : ℕ) (log : Log) → length log < 2 ^ 32 → (row : ℕ) → HasFewNames (live_coin profile log height) row
 few_in profile height log few row = record {

@@ -9,6 +9,7 @@ use Rattle.block_grammar.specs.Fields.{number_at, piece_at}
 use Rattle.block_grammar.proofs.Readers.{IsBytes, Took, IsWide, wide16, wide32, number_reads, piece_reads}
 use Rattle.block_grammar.specs.Combinators.{then_from}
 use Rattle.block_grammar.proofs.ReaderLaws.{ok_is, err_is, bind_err, pair_text, PairFits}
+use Rattle.block_grammar.proofs.FieldLaws.{itself, HasLength, IsBelow, zeros, length-zeros, IsBytes-append, IsBytes-replicate}
 use Rattle.undo_records.specs.declared.fault.FaultKind.TheVariants.{BadTag}
 use Rattle.undo_records.specs.Reading.{Reads, number_from, piece_from, tagged_from, byte_from, name_from, checked_from, value_length_from, value_from, point_from}
 use Rattle.undo_records.specs.Text.{point_text, name_text}
@@ -16,15 +17,6 @@ use Rattle.undo_records.specs.Writable.{FitsPoint, FitsName}
 use Rattle.undo_records.specs.Faults.{IsProperFront, IsOther, IsLongLength}
 use Rattle.undo_records.proofs.Laws.{Spot, ended, Flaw, NoFlaw, Core, Ends, PairFlaw, in_first, in_second, then_core, then_ends, map_core, map_ends, said_core, said_ends, flaw_core, TagFlaw}
 use Rattle.undo_records.proofs.Choices.{no_cut, choice_from, ChoiceFlaw, unknown, behind_tag, choice_core, choice_ends, CheckFlaw, Passes, checked_core}
-
-abbrev pub itself : List ℕ → List ℕ
-itself bytes = bytes
-
-abbrev pub HasLength : ℕ → List ℕ → Type 0
-HasLength n bytes = length bytes ≡ n
-
-abbrev pub IsBelow : ℕ → ℕ → Type 0
-IsBelow limit n = n < limit
 
 -- ---- so many bytes, whatever they are
 
@@ -39,12 +31,6 @@ fewer_err false x e h = absurd cc
 -- a front that is longer than what stands before it
 proper_length : (xs bytes : List ℕ) (b : ℕ) (more : List ℕ) → xs ≡ bytes ++ b ∷ more → length bytes < length xs
 proper_length xs bytes b more e = let h : length xs ≡ length (bytes ++ b ∷ more) = ap length e in omega (arith, h, length-append bytes (b ∷ more))
-
-abbrev zeros : ℕ → List ℕ
-zeros n = replicate n 0
-
-length-zeros : (n : ℕ) → length (zeros n) ≡ n
-length-zeros n = length-replicate {A = ℕ} n 0
 
 -- bytes that are fewer than so many, made up to them
 filled : (n : ℕ) (bytes : List ℕ) → length bytes < n → length (bytes ++ 0 ∷ zeros (n - suc (length bytes))) ≡ n
@@ -83,17 +69,8 @@ piece_ends n = record {
 
 -- ---- numbers
 
-IsBytes-append : (xs ys : List ℕ) → IsBytes xs → IsBytes ys → IsBytes (xs ++ ys)
-IsBytes-append [] ys hx hy i = hy i
-IsBytes-append (x ∷ xs) ys hx hy zero = hx 0
-IsBytes-append (x ∷ xs) ys hx hy (suc i) = IsBytes-append xs ys (λ k. hx (suc k)) hy i
-
 IsBytes-zeros : (n : ℕ) → IsBytes (zeros n)
-IsBytes-zeros n i =
-    elim (cases_lt i n) [
-      | inl within ↦ rw (get_or-replicate {A = ℕ} n i 0 0 within) (omega arith)
-      | inr past ↦ rw (get_or_past (zeros n) i 0 (omega (arith, past, length-zeros n))) (omega arith)
-    ]
+IsBytes-zeros n = IsBytes-replicate n 0 (omega arith)
 
 module _ (w : Width) (limit : ℕ) (wide : IsWide w limit) where
   number_some : (bytes : List ℕ) (x : ℕ × List ℕ) → number_at w bytes ≡ Some x → number_from w bytes ≡ Ok x

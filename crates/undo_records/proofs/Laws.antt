@@ -5,7 +5,7 @@ use Rattle.std.specs.Prelude.{Ok, Err}
 use Rattle.std.specs.List.{flat_map, AllByRecursion}
 use Rattle.block_grammar.proofs.Readers.{IsBytes, Took}
 use Rattle.block_grammar.specs.Combinators.{◌>>=◌, then_from, map_from, many_from}
-use Rattle.block_grammar.proofs.ReaderLaws.{ok_is, ok_err, bind_ok, bind_err, made_err, pair_text, PairFits, ManyFit}
+use Rattle.block_grammar.proofs.ReaderLaws.{parted, ok_is, ok_err, bind_ok, bind_err, made_err, pair_text, PairFits, ManyFit}
 use Rattle.undo_records.specs.declared.fault.FaultKind.{FaultKind}
 use Rattle.undo_records.specs.declared.fault.FaultKind.TheVariants.{Cut, BadTag}
 use Rattle.undo_records.specs.Reading.{Reads}
@@ -222,10 +222,6 @@ pub record ManyFlaw {A : Type 0} (text : A → List ℕ) (Fits : A → Type 0) (
   pub inner : List ℕ
   pub parts : bytes ≡ flat_map text before ++ inner
   pub flaw : Flawed inner e
-
-parted : {A : Type 0} → A → List A → A × List A
-parted x [] = (x, [])
-parted x (y ∷ ys) = (y, ys)
 
 module _ {A : Type 0} (text : A → List ℕ) (Fits : A → Type 0) (read : Reads A) (sample : A) where
   none_again : (xs : List A) (rest : List ℕ) → ManyFit Fits 0 xs → many_from read 0 (flat_map text xs ++ rest) ≡ Ok (xs, rest)

@@ -10,6 +10,7 @@ use Rattle.chain_names.specs.declared.coin.Item.{Item}
 use Rattle.block_grammar.proofs.Readers.{Took}
 use Rattle.block_grammar.specs.Combinators.{then_from, map_from}
 use Rattle.block_grammar.proofs.ReaderLaws.{ok_is, pair_text, PairFits}
+use Rattle.block_grammar.proofs.FieldLaws.{itself, HasLength, IsBelow}
 use Rattle.undo_records.specs.declared.fault.FaultKind.TheVariants.{BadTag}
 use Rattle.undo_records.specs.Reading.{Reads, number_from, piece_from, name_from, value_from, point_from, new_coin_from, named_coin_from, item_from, before_from}
 use Rattle.undo_records.specs.Text.{point_text, name_text, coin_text, item_text, before_text}
@@ -17,7 +18,7 @@ use Rattle.undo_records.specs.Writable.{FitsPoint, FitsName, FitsNewCoin, FitsNa
 use Rattle.undo_records.specs.Faults.{IsLongLength, IsBadBefore, no_flag, long_value}
 use Rattle.undo_records.proofs.Laws.{Spot, Flaw, NoFlaw, Core, Ends, PairFlaw, in_first, in_second, then_core, then_ends, map_core, map_ends, said_core, said_ends, flaw_core, TagFlaw}
 use Rattle.undo_records.proofs.Choices.{choice_from, ChoiceFlaw, unknown, behind_tag, FitsAt, tagged_text, choice_core, choice_ends}
-use Rattle.undo_records.proofs.FieldLaws.{itself, HasLength, IsBelow, core32, ends32, piece_core, piece_ends, no_pair, name_core, name_ends, value_text, FitsValue, IsLongAt, value_core, value_ends, point_core, point_ends, IsOtherAt, tagged_core, tagged_ends}
+use Rattle.undo_records.proofs.FieldLaws.{core32, ends32, piece_core, piece_ends, no_pair, name_core, name_ends, value_text, FitsValue, IsLongAt, value_core, value_ends, point_core, point_ends, IsOtherAt, tagged_core, tagged_ends}
 
 -- ---- coins
 

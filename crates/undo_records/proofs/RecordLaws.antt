@@ -11,6 +11,7 @@ use Rattle.chain_names.specs.Undo.{UndoRecord}
 use Rattle.block_grammar.proofs.Readers.{IsBytes}
 use Rattle.block_grammar.specs.Combinators.{then_from, map_from, many_from}
 use Rattle.block_grammar.proofs.ReaderLaws.{ok_is, err_is, ok_err, pair_text, PairFits}
+use Rattle.block_grammar.proofs.FieldLaws.{itself, HasLength, IsBelow}
 use Rattle.undo_records.specs.declared.fault.FaultKind.{FaultKind}
 use Rattle.undo_records.specs.declared.fault.FaultKind.TheVariants.{Cut, BadTag, Unsorted}
 use Rattle.undo_records.specs.Reading.{Reads, number_from, piece_from, op_from, ops_from, is_after, coins_from, expired_from, undo_from}
@@ -19,7 +20,7 @@ use Rattle.undo_records.specs.Writable.{FitsOp, FitsHeld, IsAfter, AreAscending,
 use Rattle.undo_records.specs.Faults.{IsOther, IsBadOperation, last_point, ReachesOperation, ReachesCoin, IsBadTag, operation, expired_coin, IsUnsorted, IsCut}
 use Rattle.undo_records.proofs.Laws.{Spot, ended, Flaw, NoFlaw, Core, Ends, PairFlaw, in_first, in_second, then_core, then_ends, map_core, map_ends, flaw_core, TagFlaw, ManyFlaw, many_core, many_ends}
 use Rattle.undo_records.proofs.Choices.{no_cut}
-use Rattle.undo_records.proofs.FieldLaws.{itself, HasLength, IsBelow, core32, ends32, piece_core, piece_ends}
+use Rattle.undo_records.proofs.FieldLaws.{core32, ends32, piece_core, piece_ends}
 use Rattle.undo_records.proofs.OpLaws.{op_core, op_ends}
 use Rattle.undo_records.proofs.CoinLaws.{HeldFlaw, after_is, is_after_at, last_after, last_is, CoinsFlaw, coins_core, loose_held_from, LooseFlaw, loose_coins_core, loose_coins_ends, OrUnsorted, the_same, unsorted, bind_same, coins_same}
 

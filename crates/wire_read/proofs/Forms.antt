@@ -3,7 +3,8 @@ use Rattle.std.proofs.Common.{◌≡◌, ℕ, ◌+◌, ◌-◌, ◌<◌, ◌≤�
 use Rattle.std.specs.Int.{Width, w16, w32, w64, byte_len, from_le_bytes, to_le_bytes}
 use Rattle.std.proofs.lemmas.Bool.{cases_lt, ltb-true, ltb-false, lt-ltb, le-ltb, eqb-true, eqb-false, ne_eqb}
 use Rattle.std.proofs.lemmas.List.{take-append-drop, length-take, length-drop, drop_at, drop-drop}
-use Rattle.block_grammar.proofs.TruthLemmas.{chosen}
+use Rattle.std.proofs.lemmas.Option.{none-some}
+use Rattle.nmc_base.proofs.TruthLemmas.{chosen}
 use Rattle.block_grammar.specs.CompactSize.{compact_size}
 use Rattle.block_grammar.specs.Fields.{number_at, at_least, compact_size_at}
 use Rattle.block_grammar.proofs.Readers.{IsBytes, IsBytes-take, IsWide, wide16, wide32, wide64, IsBytes-rest}
@@ -60,14 +61,11 @@ behind bytes at len = sym (drop-drop len at bytes)
 
 -- ---- where none is read though the form is there, it is a longer one
 
-some_none : {A : Type 0} (x : A) → Some x ≡ None → ⊥
-some_none x e = cc
-
 unread : (least n : ℕ) (rest : List ℕ) → at_least least (Some (n, rest)) ≡ None → n < least
 unread least n rest e =
     elim (chosen (ltb n least) None (Some (n, rest)) None e) [
       | inl w ↦ ltb-true n least w.0
-      | inr w ↦ absurd (some_none (n, rest) w.1)
+      | inr w ↦ absurd (none-some (n, rest) (sym w.1))
     ]
 
 holds_less : (w : Width) (limit : ℕ) (wide : IsWide w limit) (mark least : ℕ) (rest : List ℕ) → IsBytes rest → byte_len w ≤ length rest → at_least least (number_at w rest) ≡ None
@@ -89,7 +87,7 @@ long_form (first ∷ rest) fits long e =
     let more = IsBytes-rest first rest fits in
     let byte : first < 256 = fits 0 in
     elim (chosen (ltb first 0xFD) (Some (first, rest)) (cond (eqb first 0xFD) (at_least 0xFD (number_at w16 rest)) (cond (eqb first 0xFE) (at_least (2 ^ 16) (number_at w32 rest)) (at_least (2 ^ 32) (number_at w64 rest)))) None e) [
-      | inl p ↦ absurd (some_none (first, rest) p.1)
+      | inl p ↦ absurd (none-some (first, rest) (sym p.1))
       | inr p ↦ elim (chosen (eqb first 0xFD) (at_least 0xFD (number_at w16 rest)) (cond (eqb first 0xFE) (at_least (2 ^ 16) (number_at w32 rest)) (at_least (2 ^ 32) (number_at w64 rest))) None p.1) [
         | inl q ↦
             let form : form_length (first ∷ rest) ≡ 3 = rw q.0 refl in

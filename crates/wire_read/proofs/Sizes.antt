@@ -3,6 +3,7 @@ use Rattle.std.proofs.Common.{◌≡◌, ℕ, ◌-◌, ◌<◌, ◌≤◌, ◌^�
 use Rattle.std.specs.Prelude.{Result, Ok, Err}
 use Rattle.std.specs.Int.{Width, w16, w32, w64, byte_len, from_le_bytes}
 use Rattle.std.proofs.lemmas.Bool.{cases_Bool, ltb-false, lt-ltb, le-ltb, eqb-true, eqb-false}
+use Rattle.std.proofs.lemmas.Option.{none-some}
 use Rattle.block_grammar.specs.Fields.{number_at, at_least, compact_size_at}
 use Rattle.block_grammar.proofs.Readers.{IsBytes}
 use Rattle.block_grammar.proofs.Sizes.{size_reads}
@@ -55,9 +56,6 @@ size_cut (first ∷ rest) short =
       ]
     ]
 
-none_some : {A : Type 0} (x : A) → Some x ≡ None → ⊥
-none_some x e = cc
-
 marked_long : (w : Width) (least : ℕ) (rest : List ℕ) → byte_len w ≤ length rest → at_least least (number_at w rest) ≡ None → marked_from w least rest ≡ Err (LongForm, drop (byte_len w - 1) rest)
 marked_long w least rest long e =
     let enough : ltb (length rest) (byte_len w) ≡ false = le-ltb (length rest) (byte_len w) long in
@@ -65,7 +63,7 @@ marked_long w least rest long e =
       | inl low ↦ rw (enough, low) refl
       | inr high ↦
           let read : at_least least (number_at w rest) ≡ Some (from_le_bytes w (take (byte_len w) rest), drop (byte_len w) rest) = rw (enough, high) refl in
-          absurd (none_some (from_le_bytes w (take (byte_len w) rest), drop (byte_len w) rest) (sym read ∙ e))
+          absurd (none-some (from_le_bytes w (take (byte_len w) rest), drop (byte_len w) rest) (sym e ∙ read))
     ]
 
 size_long : (bytes : List ℕ) → IsBytes bytes → form_length bytes ≤ length bytes → compact_size_at bytes ≡ None → size_from bytes ≡ Err (LongForm, drop (form_length bytes - 1) bytes)
@@ -76,7 +74,7 @@ size_long (first ∷ rest) fits long e =
     elim (cases_Bool (ltb first 0xFD)) [
       | inl small ↦
           let read : compact_size_at (first ∷ rest) ≡ Some (first, rest) = rw small refl in
-          absurd (none_some (first, rest) (sym read ∙ e))
+          absurd (none-some (first, rest) (sym e ∙ read))
       | inr big ↦ elim (cases_Bool (eqb first 0xFD)) [
         | inl a ↦
             let form : form_length (first ∷ rest) ≡ 3 = rw a refl in

@@ -9,7 +9,7 @@ returns-in-StagedBack-clause-turns g c =
     let old : Bridged = record { index = c.self.inside.chain; area = c.self.inside.area } in
     let new : Bridged = record { index = c.part-chain.result; area = c.self.inside.area + 38 } in
     subst (λ (x : Bridged). Turns x (Do (Disconnect c.args.hash.0)) c.part-chain.new.reply new) c.self.view_is
-    (disconnect_accepted old new c.args.hash.0 c.part-chain.new.reply c.in-StagedBack.staged c.in-StagedBack.ensures.stages c.part-chain.ensures.disconnected refl c.part-chain.ensures.told)
+    (disconnect_accepted old new c.args.hash.0 c.part-chain.new.reply c.in-StagedBack.staged c.in-StagedBack.ensures.stages c.part-chain.ensures.disconnected (record { area = refl; reply_is = c.part-chain.ensures.told }))
 
 pub returns-in-Refused-clause-turns : goal.returns-in-Refused-clause-turns
 returns-in-Refused-clause-turns g c =

@@ -1,7 +1,8 @@
 use Rattle.std.proofs.Common.{is_some}
 use Rattle.chain_names.specs.Points.{same_point}
 use Rattle.chain_names.specs.Tables.{is_filled}
-use Rattle.chain_names.proofs.Changed.{read_at-changed, read_at-kept, same_point-true}
+use Rattle.chain_names.proofs.Changed.{read_at-changed, read_at-kept}
+use Rattle.chain_names.proofs.Points.{same_point-true}
 use Rattle.std.proofs.Common.{true, ◌∙◌}
 use Rattle.indexmap.proofs.SetLemmas.{keys_insert_entry}
 use Rattle.expiry_queue.proofs.RowReadings.{placed_key}

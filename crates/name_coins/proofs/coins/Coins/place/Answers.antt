@@ -6,7 +6,8 @@ use Rattle.indexmap.proofs.SetLemmas.{keys_insert_entry}
 use Rattle.chain_names.specs.declared.coin.Coin.{Coin}
 use Rattle.chain_names.specs.Points.{same_point}
 use Rattle.chain_names.specs.Tables.{filled_by}
-use Rattle.chain_names.proofs.Changed.{read_at-changed, read_at-kept, same_point-true}
+use Rattle.chain_names.proofs.Changed.{read_at-changed, read_at-kept}
+use Rattle.chain_names.proofs.Points.{same_point-true}
 use Rattle.name_coins.proofs.coins.Coins.place.Goals as goal
 
 -- no place, and so no coin

@@ -1,7 +1,8 @@
 use Rattle.std.proofs.Common.{is_some, refl}
 use Rattle.chain_names.specs.Points.{same_point}
 use Rattle.chain_names.specs.Tables.{filled_by}
-use Rattle.chain_names.proofs.Changed.{read_at-changed, read_at-kept, same_point-true}
+use Rattle.chain_names.proofs.Changed.{read_at-changed, read_at-kept}
+use Rattle.chain_names.proofs.Points.{same_point-true}
 use Rattle.name_coins.proofs.coins.Coins.unplace.Goals as goal
 
 pub returns-then-has_empty-clause-coins : goal.returns-then-has_empty-clause-coins

@@ -7,7 +7,7 @@ use Rattle.name_table.proofs.EntryLemmas.{empty_from_length, filled_from_length}
 use Rattle.name_table.proofs.Readings.{reads, kept, has_entry, has_place}
 use Rattle.chain_names.specs.Coins.{entry_of}
 use Rattle.std.specs.Option.{is_some}
-use Rattle.name_table.proofs.KeyLemmas.{none_from}
+use Rattle.nmc_base.proofs.OptionLemmas.{none_there}
 use Rattle.name_table.proofs.ByBytesLemmas.{lookup-by_bytes}
 use Rattle.name_table.proofs.table.Table.unplace.Goals as goal
 
@@ -46,6 +46,6 @@ pub returns-then-is_empty-clause-list : goal.returns-then-is_empty-clause-list
 returns-then-is_empty-clause-list g c h =
     let empty = sym c.held.ensures ∙ empty_from_length c.held.result.now c.if-is_empty.ensures in
     let absent : name_places c.args.self.now c.args.name.now ≡ false = h ∙ ap (λ items. is_some (entry_of items)) empty in
-    let none : lookup (bytes_eq c.args.name.now) c.args.self.now ≡ None = none_from _ absent in
+    let none : lookup (bytes_eq c.args.name.now) c.args.self.now ≡ None = none_there _ absent in
     let result : c.swap_remove.result ≡ None = c.swap_remove.ensures.value ∙ sym (lookup-by_bytes c.args.name.now c.self.inside.places.entries) ∙ rw c.self.view_is none in
     rw (← c.self.view_is) (ap by_bytes (rw result at c.swap_remove.ensures.unchanged))
