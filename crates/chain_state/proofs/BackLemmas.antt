@@ -25,7 +25,7 @@ use Rattle.chain_state.specs.declared.work.Work.{Work}
 use Rattle.name_tables.proofs.ListLemmas.{or_left, or_right, or_both, all-less}
 use Rattle.chain_state.proofs.WorkLemmas.{list_any-more, fits-less}
 
--- ---- lists with one item fewer
+-- ---- one point more that may be empty
 
 pub any_point-more : (empty : List OutPoint) (made point : OutPoint) → list_any (same_point point) (empty ++ made ∷ []) ≡ false → (list_any (same_point point) empty ≡ false) × (same_point made point ≡ false)
 any_point-more empty made point e =

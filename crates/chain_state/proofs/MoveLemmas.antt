@@ -10,7 +10,6 @@ use Rattle.nmc_base.specs.declared.hashes.OutPoint.{OutPoint}
 use Rattle.nmc_base.proofs.ListLemmas.{all-more, all-weaker}
 use Rattle.chain_names.specs.declared.coin.Coin.{Coin}
 use Rattle.chain_names.specs.declared.coin.Coin.TheVariants.{Named}
-use Rattle.chain_names.specs.declared.coin.Item.{Item}
 use Rattle.chain_names.specs.declared.undo.UndoOp.{UndoOp}
 use Rattle.chain_names.specs.Points.{same_point, changed}
 use Rattle.chain_names.specs.Coins.{Maps, entry_of}
@@ -30,8 +29,6 @@ use Rattle.chain_state.specs.declared.work.Work.{Work}
 use Rattle.name_tables.proofs.ListLemmas.{or_left, or_right}
 use Rattle.name_tables.proofs.PlaceLemmas.{place-kept, coin-placed, queued-placed, rows-kept}
 use Rattle.chain_state.proofs.WorkLemmas.{list_any-more, fits-more, empty-weaker, empty_at-weaker, filled-made}
-
--- ---- what is held has a place
 
 -- ---- booleans
 

@@ -18,8 +18,6 @@ use Rattle.name_tables.proofs.ListLemmas.{or_both}
 use Rattle.chain_state.proofs.WorkLemmas.{list_any-more}
 use Rattle.name_tables.proofs.PlaceLemmas.{coins_all_filled, rows_all_filled}
 
--- ---- all places are filled
-
 -- ---- one place fewer that may be empty
 
 abbrev Listed : List OutPoint → OutPoint → Bool

@@ -47,8 +47,6 @@ fits-less height (first ∷ ops) op maps fits =
     let rest = fits-less height ops op maps fits.0 in
     ((rest.0, subst (IsUndoable height first) (back_ops-append ops (op ∷ []) maps) fits.1), rest.1)
 
--- ---- booleans
-
 -- ---- places that may be empty
 
 pub empty-weaker : (ops : List UndoOp) (op : UndoOp) (empty : List OutPoint) (point : OutPoint) → may_be_empty (ops ++ op ∷ []) empty point ≡ false → may_be_empty ops empty point ≡ false
