@@ -14,7 +14,7 @@ use Rattle.chain_names.specs.Points.{same_point, changed}
 use Rattle.chain_names.specs.Coins.{Maps}
 use Rattle.chain_names.specs.Changes.{without_entry, moved_back, back_op}
 use Rattle.chain_names.specs.Tables.{CoinSlots, NameSlots, QueueSlots, coins_in, coin_places, names_in, queued_in, queue_places, is_named_at, queue_of, FilledBut, AreNamesFilled}
-use Rattle.chain_names.proofs.Points.{same_point-Decides}
+use Rattle.chain_names.proofs.Points.{same_point-Decides, same_point-comm}
 use Rattle.chain_names.proofs.QueueLemmas.{queue_of-still}
 use Rattle.chain_names.proofs.Shown.{true_is_not_false}
 use Rattle.undo_laws.specs.Fits.{IsMadeUnnamed, IsMadeNamed, IsUndoable, AreUndoable}
@@ -25,20 +25,12 @@ use Rattle.chain_state.specs.declared.work.Work.{Work}
 use Rattle.name_tables.proofs.ListLemmas.{or_left, or_right, or_both, all-less}
 use Rattle.chain_state.proofs.WorkLemmas.{list_any-more, fits-less}
 
--- ---- lists with one item fewer
+-- ---- one point more that may be empty
 
-pub same_point-swap : (a b : OutPoint) → same_point a b ≡ false → same_point b a ≡ false
-same_point-swap a b e = swapped (same_point b a) refl
-  where
-    swapped : (c : Bool) → same_point b a ≡ c → c ≡ false
-    swapped true is = absurd (true_is_not_false (sym ((same_point-Decides a b).1 (sym ((same_point-Decides b a).0 is))) ∙ e))
-    swapped false is = refl
-
--- with one point more that may be empty
 pub any_point-more : (empty : List OutPoint) (made point : OutPoint) → list_any (same_point point) (empty ++ made ∷ []) ≡ false → (list_any (same_point point) empty ≡ false) × (same_point made point ≡ false)
 any_point-more empty made point e =
     let e' = sym (list_any-more (same_point point) empty made) ∙ e in
-    (or_left _ _ e', same_point-swap point made (or_right _ _ e'))
+    (or_left _ _ e', same_point-comm made point ∙ or_right _ _ e')
 
 and_here : (a b c : Bool) → a ≡ true → (a && b) ≡ false → b ≡ false
 and_here a b c t e = sym (ap (λ x. x && b) t) ∙ e
@@ -55,7 +47,7 @@ row_empty-less made height ops empty at point e =
     let split = ap (λ b. (made == height) && b) (sym (list_any-more (same_point point) empty at)) ∙ here in (
       or_left _ _ e,
       and_or_less (made == height) (list_any (same_point point) empty) (same_point point at) split,
-      λ t. same_point-swap point at (or_right _ _ (and_here _ _ false t split)),
+      λ t. same_point-comm at point ∙ or_right _ _ (and_here _ _ false t split),
     )
 
 -- the operation popped from the work; the point that it made may be empty from now on

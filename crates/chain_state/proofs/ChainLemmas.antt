@@ -42,11 +42,11 @@ use Rattle.chain_state.specs.Stage.{Begins, StagesWell, StagesNames, Stages}
 use Rattle.chain_state.specs.declared.stage.Refusal.TheVariants.{BadBlock, NotOnTip, HeightLimit, MerkleMismatch, Rule, JournalFull}
 use Rattle.chain_state.specs.declared.stage.StageOutcome.{StageOutcome}
 use Rattle.chain_state.specs.declared.stage.StageOutcome.TheVariants.{Staged, Refused, NoMemory}
-use Rattle.name_tables.proofs.ListLemmas.{all-weaker}
 use Rattle.chain_state.specs.Worked.{HandsBack}
 use Rattle.chain_state.proofs.WorkedLemmas.{applied_back}
 use Rattle.chain_state.specs.Whole.{Finishes, Commits, maps_before_block}
 use Rattle.nmc_base.specs.Heights.{highest}
+use Rattle.nmc_base.proofs.ListLemmas.{all-weaker}
 use Rattle.chain_state.specs.Chain.{rule_refused, Indexed, IsIndexed, SameIndex, IsStagedIndex, index_of, staged_of, staged_undo, newest_first, newest_hash}
 use Rattle.name_tables.specs.declared.tables.Tables.{Tables}
 use Rattle.chain_state.specs.declared.whole.Committed.{Committed}

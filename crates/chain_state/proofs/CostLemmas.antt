@@ -12,6 +12,7 @@ use Rattle.chain_names.specs.declared.coin.HeldCoin.{HeldCoin}
 use Rattle.chain_names.specs.declared.undo.UndoOp.{UndoOp}
 use Rattle.chain_names.specs.declared.undo.UndoOp.TheVariants.{New as undo_new, First as undo_first, Update as undo_update}
 use Rattle.chain_names.specs.Points.{same_point}
+use Rattle.chain_names.proofs.Points.{same_point-comm}
 use Rattle.chain_names.specs.Coins.{Maps}
 use Rattle.chain_names.specs.Verdict.{name_inputs, name_outputs}
 use Rattle.chain_names.specs.Meaning.{Commits, Opens, Updates}
@@ -31,7 +32,7 @@ use Rattle.chain_state.specs.declared.whole.Whole.{Whole}
 use Rattle.chain_state.specs.declared.work.Work.{Work}
 use Rattle.name_tables.specs.declared.tables.Tables.{Tables}
 use Rattle.name_tables.proofs.ExpiryLemmas.{any_key}
-use Rattle.name_tables.proofs.OrderLemmas.{same_point-IsEquivalence, same_point-flips}
+use Rattle.name_tables.proofs.OrderLemmas.{same_point-IsEquivalence}
 
 -- ---- one transaction
 
@@ -135,13 +136,13 @@ module _ (row : ℕ) (point : OutPoint) where
   spent_member [] e = e
   spent_member (undo_new made ∷ ops) e = spent_member ops e
   spent_member (undo_first made spent coin name before ∷ ops) e =
-      either _ _ (same_point point spent) _ (λ here. same_point-flips point spent ∙ second _ _ here) (spent_member ops) e
+      either _ _ (same_point point spent) _ (λ here. same_point-comm point spent ∙ second _ _ here) (spent_member ops) e
   spent_member (undo_update made spent coin name before ∷ ops) e =
-      either _ _ (same_point point spent) _ (λ here. same_point-flips point spent ∙ second _ _ here) (spent_member ops) e
+      either _ _ (same_point point spent) _ (λ here. same_point-comm point spent ∙ second _ _ here) (spent_member ops) e
 
 held_member : (point : OutPoint) (expired : List HeldCoin) → list_any (is_held_at point) expired ≡ true → list_any (same_point point) (points_of expired) ≡ true
 held_member point [] e = e
-held_member point (held ∷ expired) e = either _ _ (same_point point held.at) _ (λ here. same_point-flips point held.at ∙ here) (held_member point expired) e
+held_member point (held ∷ expired) e = either _ _ (same_point point held.at) _ (λ here. same_point-comm point held.at ∙ here) (held_member point expired) e
 
 or_left : (a b : Bool) → a ≡ true → (a || b) ≡ true
 or_left a b e = ap (λ x. x || b) e

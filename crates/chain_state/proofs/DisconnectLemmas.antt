@@ -12,6 +12,7 @@ use Rattle.nmc_base.specs.declared.chain_ends.Tip.{Tip}
 use Rattle.nmc_base.specs.declared.chain_ends.Profile.{Profile}
 use Rattle.nmc_base.specs.declared.hashes.Hash32.{Hash32}
 use Rattle.nmc_base.specs.declared.hashes.OutPoint.{OutPoint}
+use Rattle.nmc_base.proofs.ListLemmas.{all-weaker}
 use Rattle.chain_names.specs.declared.coin.HeldCoin.{HeldCoin}
 use Rattle.chain_names.specs.declared.undo.UndoOp.{UndoOp}
 use Rattle.chain_names.specs.Points.{same_point}
@@ -39,7 +40,7 @@ use Rattle.chain_state.specs.Back.{block_work, IsStagedBack}
 use Rattle.chain_state.specs.StageBack.{IsBackRefusal, IsDisconnected, back_commit_steps}
 use Rattle.chain_state.specs.declared.back.BackRefusal.TheVariants.{NotTip}
 use Rattle.name_tables.specs.declared.tables.Tables.{Tables}
-use Rattle.name_tables.proofs.ListLemmas.{all-weaker, or_left, or_right, or_both}
+use Rattle.name_tables.proofs.ListLemmas.{or_left, or_right, or_both}
 use Rattle.chain_state.proofs.ChainLemmas.{newest_more, returned_index}
 
 -- ---- the newest of the records

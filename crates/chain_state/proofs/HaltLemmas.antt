@@ -6,6 +6,7 @@ use Rattle.std.specs.Cmp.{unsigned_Decides}
 use Rattle.std.specs.List.{list_any, AllByRecursion}
 use Rattle.nmc_base.specs.Roomy.{Roomy}
 use Rattle.nmc_base.specs.declared.hashes.OutPoint.{OutPoint}
+use Rattle.nmc_base.proofs.ListLemmas.{all-weaker}
 use Rattle.chain_names.specs.declared.undo.UndoOp.{UndoOp}
 use Rattle.chain_names.specs.Points.{same_point, changed}
 use Rattle.chain_names.specs.Coins.{entry_of}
@@ -19,7 +20,7 @@ use Rattle.name_tables.specs.Places.{spends}
 use Rattle.chain_state.specs.Work.{HasSpentPlace, HasSpentRow, may_be_empty, may_be_empty_at, IsWork, Halts}
 use Rattle.name_tables.specs.declared.tables.Tables.{Tables}
 use Rattle.chain_state.specs.declared.work.Work.{Work}
-use Rattle.name_tables.proofs.ListLemmas.{all-weaker, or_left, or_right, or_both}
+use Rattle.name_tables.proofs.ListLemmas.{or_left, or_right, or_both}
 use Rattle.chain_state.proofs.BackLemmas.{any_point-more, row_empty-less}
 
 -- where two functions agree but for one key, and that is another one

@@ -14,6 +14,7 @@ use Rattle.nmc_base.specs.Expiry.{is_expired}
 use Rattle.nmc_base.specs.Hash.{outpoint_cmp}
 use Rattle.nmc_base.specs.declared.chain_ends.Profile.{Profile}
 use Rattle.nmc_base.specs.declared.hashes.OutPoint.{OutPoint}
+use Rattle.nmc_base.proofs.ListLemmas.{all-append, all-weaker}
 use Rattle.chain_names.specs.declared.coin.Coin.{Coin}
 use Rattle.chain_names.specs.declared.coin.Coin.TheVariants.{New, Named}
 use Rattle.chain_names.specs.declared.coin.HeldCoin.{HeldCoin}
@@ -31,7 +32,6 @@ use Rattle.chain_names.proofs.Points.{same_point-Decides}
 use Rattle.undo_laws.specs.Expired.{points_of, IsSortedByPoint, IsGone, IsDue}
 use Rattle.undo_laws.specs.Limits.{IsWithinLimitsOp, IsShortBefore, HoldsName, IsWithinLimits}
 use Rattle.undo_laws.proofs.HistoryLemmas.{entry_has}
-use Rattle.undo_laws.proofs.PointLemmas.{all-append, all-weaker}
 use Rattle.undo_records.specs.Writable.{FitsPoint, FitsNewCoin, FitsNamedCoin, FitsBefore, FitsOp, FitsHeld, AreAscending, IsWritable}
 use Rattle.chain_state.specs.Block.{HasFewOutputs}
 use Rattle.chain_state.specs.Measure.{IsMeasuredCoin, IsMeasuredItem, AreMeasured}

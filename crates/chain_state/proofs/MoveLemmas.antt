@@ -7,9 +7,9 @@ use Rattle.std.specs.Str.{bytes_eq}
 use Rattle.std.specs.Cmp.{unsigned_Decides}
 use Rattle.nmc_base.specs.Roomy.{Roomy}
 use Rattle.nmc_base.specs.declared.hashes.OutPoint.{OutPoint}
+use Rattle.nmc_base.proofs.ListLemmas.{all-more, all-weaker}
 use Rattle.chain_names.specs.declared.coin.Coin.{Coin}
 use Rattle.chain_names.specs.declared.coin.Coin.TheVariants.{Named}
-use Rattle.chain_names.specs.declared.coin.Item.{Item}
 use Rattle.chain_names.specs.declared.undo.UndoOp.{UndoOp}
 use Rattle.chain_names.specs.Points.{same_point, changed}
 use Rattle.chain_names.specs.Coins.{Maps, entry_of}
@@ -17,6 +17,7 @@ use Rattle.chain_names.specs.Changes.{moved, moved_back, back_op}
 use Rattle.chain_names.specs.Tables.{CoinSlots, NameSlots, QueueSlots, coins_in, coin_places, names_in, name_places, queued_in, queue_places, is_named_at, queue_of, FilledBut, AreNamesFilled}
 use Rattle.chain_names.proofs.Changed.{changed_at, changed_mapped}
 use Rattle.chain_names.proofs.Points.{same_point-Decides}
+use Rattle.chain_names.proofs.HistoryLemmas.{entry_of-more}
 use Rattle.chain_names.proofs.Filled.{filled-weaker, filled-taken}
 use Rattle.chain_names.proofs.Shown.{true_is_not_false}
 use Rattle.chain_names.proofs.UndoLemmas.{moved_and_back}
@@ -25,18 +26,9 @@ use Rattle.chain_state.specs.Tables.{maps_by}
 use Rattle.name_tables.specs.Places.{spends, spends_at}
 use Rattle.chain_state.specs.Work.{HasSpentPlace, HasSpentRow, may_be_empty, may_be_empty_at, IsWork, Advances}
 use Rattle.chain_state.specs.declared.work.Work.{Work}
-use Rattle.name_tables.proofs.ListLemmas.{all-more, all-weaker, or_left, or_right}
+use Rattle.name_tables.proofs.ListLemmas.{or_left, or_right}
 use Rattle.name_tables.proofs.PlaceLemmas.{place-kept, coin-placed, queued-placed, rows-kept}
 use Rattle.chain_state.proofs.WorkLemmas.{list_any-more, fits-more, empty-weaker, empty_at-weaker, filled-made}
-
--- ---- what is held has a place
-
--- ---- histories
-
-pub some_entry : (items : List Item) (item : Item) → is_some (entry_of (items ++ item ∷ [])) ≡ true
-some_entry [] item = refl
-some_entry (first ∷ []) item = refl
-some_entry (first ∷ next ∷ items) item = some_entry (next ∷ items) item
 
 -- ---- booleans
 
@@ -220,7 +212,7 @@ module _ (w : Work) (op : UndoOp) (made spent : OutPoint) (coin : Coin) (name va
 
   name_filled : (n : List ℕ) (b : Bool)
       → cond b true (name_places w.tables.names n) ≡ is_some (entry_of (cond b (names_in w.tables.names name ++ record { height = w.height; at = made; value = value } ∷ []) (names_in w.tables.names n)))
-  name_filled n true = sym (some_entry (names_in w.tables.names name) (record { height = w.height; at = made; value = value }))
+  name_filled n true = sym (ap is_some (entry_of-more (names_in w.tables.names name) (record { height = w.height; at = made; value = value })))
   name_filled n false = work.names_filled n
 
   move_names : AreNamesFilled names

@@ -8,7 +8,7 @@ use Rattle.nmc_base.specs.Roomy.{Roomy}
 use Rattle.nmc_base.specs.declared.hashes.OutPoint.{OutPoint}
 use Rattle.chain_names.specs.Points.{same_point, changed}
 use Rattle.chain_names.specs.Tables.{CoinSlots, QueueSlots, coins_in, coin_places, queued_in, queue_places, FilledBut, AreNamesFilled}
-use Rattle.chain_names.proofs.Points.{same_point-Decides}
+use Rattle.chain_names.proofs.Points.{same_point-Decides, same_point-comm}
 use Rattle.chain_names.proofs.Filled.{filled-unplaced, filled-weaker}
 use Rattle.chain_names.proofs.Shown.{true_is_not_false}
 use Rattle.name_tables.specs.Tables.{HoldSame, AreFilled}
@@ -17,9 +17,6 @@ use Rattle.chain_state.specs.declared.work.Work.{Work}
 use Rattle.name_tables.proofs.ListLemmas.{or_both}
 use Rattle.chain_state.proofs.WorkLemmas.{list_any-more}
 use Rattle.name_tables.proofs.PlaceLemmas.{coins_all_filled, rows_all_filled}
-use Rattle.chain_state.proofs.BackLemmas.{same_point-swap}
-
--- ---- all places are filled
 
 -- ---- one place fewer that may be empty
 
@@ -34,7 +31,7 @@ from_changed empty at point false is e = (e, is)
 listed-less : (empty : List OutPoint) (at point : OutPoint) → changed same_point (Listed empty) at true point ≡ false → Listed (empty ++ at ∷ []) point ≡ false
 listed-less empty at point e =
     let h = from_changed empty at point (same_point at point) refl e in
-    list_any-more (same_point point) empty at ∙ or_both _ _ h.0 (same_point-swap at point h.1)
+    list_any-more (same_point point) empty at ∙ or_both _ _ h.0 (same_point-comm point at ∙ h.1)
 
 pub unplaced_coin : (places held : OutPoint → Bool) (empty : List OutPoint) (at : OutPoint) → FilledBut (Listed (empty ++ at ∷ [])) places held
     → FilledBut (Listed empty) (changed same_point places at (held at)) held

@@ -5,6 +5,7 @@ use Rattle.std.specs.List.{AllByRecursion}
 use Rattle.std.specs.Str.{bytes_eq}
 use Rattle.nmc_base.specs.declared.hashes.OutPoint.{OutPoint}
 use Rattle.nmc_base.specs.declared.chain_ends.Profile.{Profile}
+use Rattle.nmc_base.proofs.ListLemmas.{all-more}
 use Rattle.chain_names.specs.declared.coin.Coin.{Coin}
 use Rattle.chain_names.specs.declared.coin.Coin.TheVariants.{New, Named}
 use Rattle.chain_names.specs.declared.coin.Item.{Item}
@@ -15,7 +16,6 @@ use Rattle.chain_names.specs.Changes.{moved, after_verdict}
 use Rattle.chain_names.proofs.Changed.{changed_mapped}
 use Rattle.chain_names.proofs.LogLemmas.{fresh_stands}
 use Rattle.chain_state.specs.Tables.{IsBelow, IsStanding}
-use Rattle.name_tables.proofs.ListLemmas.{all-more}
 
 -- an entry is no higher than its history
 pub entry_below : (next : ℕ) (items : List Item) (item : Item) → AllByRecursion (IsBelow next) items → entry_of items ≡ Some item → item.height < next

@@ -14,6 +14,7 @@ use Rattle.chain_names.specs.Changes.{back_op}
 use Rattle.chain_names.specs.Tables.{CoinSlots, coins_in, coin_places, names_in, queued_in, queue_places, is_named_at, queue_of, FilledBut}
 use Rattle.nmc_base.specs.Roomy.{Roomy}
 use Rattle.nmc_base.specs.declared.hashes.Hash20.{Hash20}
+use Rattle.nmc_base.proofs.ListLemmas.{all-more, all-weaker}
 use Rattle.chain_names.proofs.Changed.{changed_at, changed_back, changed_mapped}
 use Rattle.chain_names.proofs.Points.{same_point-Decides}
 use Rattle.chain_names.proofs.QueueLemmas.{queue_of-still}
@@ -25,7 +26,7 @@ use Rattle.chain_state.specs.Tables.{maps_by}
 use Rattle.name_tables.specs.Places.{spends, spends_at}
 use Rattle.chain_state.specs.Work.{HasSpentPlace, HasSpentRow, may_be_empty, may_be_empty_at, IsWork, Advances, with_commitment}
 use Rattle.chain_state.specs.declared.work.Work.{Work}
-use Rattle.name_tables.proofs.ListLemmas.{all-more, all-weaker, or_both, or_left, or_right}
+use Rattle.name_tables.proofs.ListLemmas.{or_both, or_left, or_right}
 use Rattle.name_tables.proofs.PlaceLemmas.{place-kept}
 
 -- ---- lists with one item more
@@ -45,8 +46,6 @@ fits-less height [] op maps fits = (tt, fits.1)
 fits-less height (first ∷ ops) op maps fits =
     let rest = fits-less height ops op maps fits.0 in
     ((rest.0, subst (IsUndoable height first) (back_ops-append ops (op ∷ []) maps) fits.1), rest.1)
-
--- ---- booleans
 
 -- ---- places that may be empty
 

@@ -9,6 +9,7 @@ use Rattle.std.specs.Prelude.{Option, Some, None, ◌||◌}
 use Rattle.nmc_base.specs.Hash.{outpoint_cmp}
 use Rattle.nmc_base.specs.Roomy.{Roomy}
 use Rattle.nmc_base.specs.declared.hashes.OutPoint.{OutPoint}
+use Rattle.nmc_base.proofs.ListLemmas.{all-more}
 use Rattle.chain_names.proofs.Changed.{changed_back, changed_kept}
 use Rattle.chain_names.proofs.DueLemmas.{cleared-row}
 use Rattle.chain_names.proofs.Points.{same_point-Decides}
@@ -19,7 +20,6 @@ use Rattle.chain_names.specs.Tables.{QueueSlots, row_at, row_points, coins_in, c
 use Rattle.chain_names.specs.declared.coin.Coin.{Coin}
 use Rattle.chain_names.specs.declared.coin.HeldCoin.{HeldCoin}
 use Rattle.undo_laws.specs.Expired.{is_held_at, points_of}
-use Rattle.name_tables.proofs.ListLemmas.{all-more}
 use Rattle.name_tables.proofs.OrderLemmas.{rising_but}
 use Rattle.name_tables.proofs.PlaceLemmas.{queued-placed}
 use Rattle.name_tables.specs.Expiring.{IsDueCoin, Expires}

@@ -8,14 +8,6 @@ use Rattle.chain_names.proofs.Shown.{true_is_not_false}
 
 -- ---- all of a list
 
-pub all-more : {A : Type 0} (P : A → Type 0) (xs : List A) (x : A) → AllByRecursion P xs → P x → AllByRecursion P (xs ++ x ∷ [])
-all-more P [] x all here = (here, tt)
-all-more P (y ∷ ys) x all here = (all.0, all-more P ys x all.1 here)
-
-pub all-weaker : {A : Type 0} (P Q : A → Type 0) (xs : List A) → ((x : A) → P x → Q x) → AllByRecursion P xs → AllByRecursion Q xs
-all-weaker P Q [] f all = tt
-all-weaker P Q (y ∷ ys) f all = (f y all.0, all-weaker P Q ys f all.1)
-
 pub all-less : {A : Type 0} (P : A → Type 0) (xs : List A) (x : A) → AllByRecursion P (xs ++ x ∷ []) → AllByRecursion P xs
 all-less P [] x all = tt
 all-less P (y ∷ ys) x all = (all.0, all-less P ys x all.1)

@@ -12,6 +12,7 @@ use Rattle.std.specs.Ordering.{eq_by_cmp, nat_cmp, is_eq}
 use Rattle.nmc_base.specs.Hash.{outpoint_cmp}
 use Rattle.nmc_base.specs.declared.hashes.OutPoint.{OutPoint}
 use Rattle.chain_names.specs.Points.{same_point}
+use Rattle.chain_names.proofs.Points.{same_point-comm}
 
 pub outpoint_cmp-IsTotalOrder : IsTotalOrder outpoint_cmp
 outpoint_cmp-IsTotalOrder = then_total (on_total (λ (p : OutPoint). p.txid.0) nat_list_cmp_total) (on_total (λ (p : OutPoint). p.index) nat_cmp_total)
@@ -33,14 +34,11 @@ same_point-IsEquivalence =
       congr = λ x y z e. sym (sym (same_point-is x z)) ∙ o.congr x y z (sym (same_point-is x y) ∙ e) ∙ sym (same_point-is y z);
     }
 
-pub same_point-flips : (a b : OutPoint) → same_point a b ≡ same_point b a
-same_point-flips a b = same_point-IsEquivalence.symm a b
-
 kept : (k : OutPoint) (xs : List OutPoint) → IsDistinct same_point (k ∷ xs) → dedup_from same_point k xs ≡ k ∷ xs
 unfolding IsDistinct
 kept k [] d = refl
 kept k (x ∷ xs) d =
-    ap (λ b. cond b (dedup_from same_point k xs) (k ∷ dedup_from same_point x xs)) (same_point-flips x k ∙ d.0.0)
+    ap (λ b. cond b (dedup_from same_point k xs) (k ∷ dedup_from same_point x xs)) (same_point-comm x k ∙ d.0.0)
     ∙ ap (λ l. k ∷ l) (kept x xs d.1)
 
 -- outpoints that are sorted and differ rise

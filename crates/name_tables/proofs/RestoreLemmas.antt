@@ -4,6 +4,7 @@ use Rattle.std.specs.Cmp.{unsigned_Decides}
 use Rattle.std.specs.List.{AllByRecursion}
 use Rattle.std.specs.Prelude.{Option, Some, ◌==◌}
 use Rattle.nmc_base.specs.declared.hashes.OutPoint.{OutPoint}
+use Rattle.nmc_base.proofs.ListLemmas.{all-weaker}
 use Rattle.chain_names.proofs.Shown.{true_is_not_false}
 use Rattle.chain_names.specs.Changes.{restored}
 use Rattle.chain_names.specs.Points.{same_point}
@@ -12,7 +13,7 @@ use Rattle.chain_names.specs.declared.coin.Coin.{Coin}
 use Rattle.chain_names.specs.declared.coin.Coin.TheVariants.{New, Named}
 use Rattle.chain_names.specs.declared.coin.HeldCoin.{HeldCoin}
 use Rattle.name_tables.proofs.ExpiryLemmas.{restored-more}
-use Rattle.name_tables.proofs.ListLemmas.{all-weaker, all-less, all-last}
+use Rattle.name_tables.proofs.ListLemmas.{all-less, all-last}
 use Rattle.name_tables.specs.Expiring.{CanReturn, Restores}
 use Rattle.name_tables.specs.Queueing.{PutsCoin}
 use Rattle.name_tables.specs.declared.tables.Tables.{Tables}

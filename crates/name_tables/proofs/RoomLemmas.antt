@@ -6,6 +6,7 @@ use Rattle.std.proofs.Math.Bool.{and_comm}
 use Rattle.std.specs.Prelude.{Option, Some, ◌||◌, ◌==◌, nat_eq}
 use Rattle.nmc_base.specs.declared.hashes.Hash20.{Hash20}
 use Rattle.nmc_base.specs.declared.hashes.OutPoint.{OutPoint}
+use Rattle.nmc_base.proofs.ListLemmas.{all-weaker}
 use Rattle.chain_names.proofs.Shown.{true_is_not_false}
 use Rattle.chain_names.specs.Points.{same_point, changed}
 use Rattle.chain_names.specs.Tables.{CoinSlots, QueueSlots, coins_in, coin_places, queued_in, queue_places, is_named_at, AreNamesFilled}
@@ -16,7 +17,7 @@ use Rattle.chain_names.specs.declared.coin.Item.{Item}
 use Rattle.chain_names.specs.declared.undo.UndoOp.{UndoOp}
 use Rattle.chain_names.specs.declared.undo.UndoOp.TheVariants.{New as undo_new, First as undo_first, Update as undo_update}
 use Rattle.undo_laws.specs.Expired.{is_held_at}
-use Rattle.name_tables.proofs.ListLemmas.{or_left, or_right, or_both, all-weaker}
+use Rattle.name_tables.proofs.ListLemmas.{or_left, or_right, or_both}
 use Rattle.name_tables.proofs.PlaceLemmas.{place-kept, row_changed}
 use Rattle.name_tables.specs.Places.{spends, spends_at, is_queued_at, AreFilledBut}
 use Rattle.name_tables.specs.Placing.{Grows, PlacesOnly}

@@ -3,8 +3,9 @@ use Rattle.std.specs.List.{list_any, IsDistinct}
 use Rattle.std.proofs.lemmas.List.Sorted.{list_any-IsPermutation, length_permutation}
 use Rattle.std.proofs.lemmas.Map.Keys.{IsDistinct-IsPermutation}
 use Rattle.chain_names.specs.Points.{same_point}
+use Rattle.chain_names.proofs.Points.{same_point-comm}
 use Rattle.name_tables.proofs.ExpiryLemmas.{queued_listed}
-use Rattle.name_tables.proofs.OrderLemmas.{rising, same_point-flips}
+use Rattle.name_tables.proofs.OrderLemmas.{rising}
 use Rattle.name_tables.proofs.tables.Tables.due_points.Goals as goal
 
 pub returns-clause-all : goal.returns-clause-all
@@ -17,7 +18,7 @@ returns-clause-all g c = λ point queued.
 pub returns-clause-rising : goal.returns-clause-rising
 returns-clause-rising g c =
     rising c.sort.new.self.items c.in_ok-sort.ensures.sorted
-    (IsDistinct-IsPermutation same_point same_point-flips c.in_ok-points.points.items c.sort.new.self.items c.in_ok-sort.ensures.permutation c.in_ok-points.ensures.distinct)
+    (IsDistinct-IsPermutation same_point same_point-comm c.in_ok-points.points.items c.sort.new.self.items c.in_ok-sort.ensures.permutation c.in_ok-points.ensures.distinct)
 
 pub returns-clause-count : goal.returns-clause-count
 returns-clause-count g c = length_permutation c.in_ok-points.points.items c.sort.new.self.items c.in_ok-sort.ensures.permutation ∙ ap length c.in_ok-points.ensures.points
