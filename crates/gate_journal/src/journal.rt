@@ -5,8 +5,8 @@ ghost use Rattle.gate_journal.specs.Stand.{IsAtGate, IsReadable};
 ghost use Rattle.gate_journal.specs.Calls.{Creates, Appends, Opens, ReadsNext};
 
 use crate::faults::{AppendFault, JournalFault};
-use crate::reading::record_size;
 use crate::gate::{CLOSED, open_behind};
+use crate::reading::record_size;
 use crate::staged::write_behind;
 use disk_model::{Disk, Failed};
 use nmc_base::Bytes;
