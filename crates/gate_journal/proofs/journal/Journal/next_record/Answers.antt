@@ -41,12 +41,12 @@ returns-then-count-size g c =
     let zeros_are : length c.zeros.new.self ≡ size = ap length c.in_ok-zeros.ensures.ok ∙ length-replicate size 0 in
     let room_is : room ≡ size = ap length c.as_mut_slice.ensures.value ∙ zeros_are in
     let start : (tells : IsTrue g.D.Disk.tells) → IsStartAt file (gate_of stand) stand.limit size = λ tells.
-        subst (λ (s : Stand). StartAnswer (seen old s.file) (s.length - 1) s.limit (Ok (Some size))) c.self.view_is
-        (subst (λ o. StartAnswer (seen old c.self.inside.file) (c.self.inside.length - 1) c.self.inside.limit (Ok o)) c.in-Some.is (c.in_ok-size.ensures.answer tells)) in
+    subst (λ (s : Stand). StartAnswer (seen old s.file) (s.length - 1) s.limit (Ok (Some size))) c.self.view_is
+    (subst (λ o. StartAnswer (seen old c.self.inside.file) (c.self.inside.length - 1) c.self.inside.limit (Ok o)) c.in-Some.is (c.in_ok-size.ensures.answer tells)) in
     let read : (tells : IsTrue g.D.Disk.tells) → IsRead file (gate_of stand + 5) room count buf = λ tells.
-        let same_file : seen m1 stand.file ≡ file = ap (λ (files : Files). (files stand.file).bytes) (last_moment (c.record_size.ensures.unchanged tells)) in
-        subst (λ (f : List ℕ). IsRead f (gate_of stand + 5) room count buf) same_file
-        (subst (λ (s : Stand). IsRead (seen m1 s.file) (s.length - 1 + 5) room count buf) c.self.view_is (c.in_ok-count.ensures.bytes tells)) in
+    let same_file : seen m1 stand.file ≡ file = ap (λ (files : Files). (files stand.file).bytes) (last_moment (c.record_size.ensures.unchanged tells)) in
+    subst (λ (f : List ℕ). IsRead f (gate_of stand + 5) room count buf) same_file
+    (subst (λ (s : Stand). IsRead (seen m1 s.file) (s.length - 1 + 5) room count buf) c.self.view_is (c.in_ok-count.ensures.bytes tells)) in
     record {
       answer = λ tells.
           let all = whole_count file buf (gate_of stand) stand.limit size room count (start tells) (read tells) room_is in
@@ -76,16 +76,16 @@ returns g c =
     let zeros_are : length c.zeros.new.self ≡ size = ap length c.in_ok-zeros.ensures.ok ∙ length-replicate size 0 in
     let room_is : room ≡ size = ap length c.as_mut_slice.ensures.value ∙ zeros_are in
     let start : (tells : IsTrue g.D.Disk.tells) → IsStartAt file (gate_of stand) stand.limit size = λ tells.
-        subst (λ (s : Stand). StartAnswer (seen old s.file) (s.length - 1) s.limit (Ok (Some size))) c.self.view_is
-        (subst (λ o. StartAnswer (seen old c.self.inside.file) (c.self.inside.length - 1) c.self.inside.limit (Ok o)) c.in-Some.is (c.in_ok-size.ensures.answer tells)) in
+    subst (λ (s : Stand). StartAnswer (seen old s.file) (s.length - 1) s.limit (Ok (Some size))) c.self.view_is
+    (subst (λ o. StartAnswer (seen old c.self.inside.file) (c.self.inside.length - 1) c.self.inside.limit (Ok o)) c.in-Some.is (c.in_ok-size.ensures.answer tells)) in
     let read : (tells : IsTrue g.D.Disk.tells) → IsRead file (gate_of stand + 5) room count buf = λ tells.
-        let same_file : seen m1 stand.file ≡ file = ap (λ (files : Files). (files stand.file).bytes) (last_moment (c.record_size.ensures.unchanged tells)) in
-        subst (λ (f : List ℕ). IsRead f (gate_of stand + 5) room count buf) same_file
-        (subst (λ (s : Stand). IsRead (seen m1 s.file) (s.length - 1 + 5) room count buf) c.self.view_is (c.in_ok-count.ensures.bytes tells)) in
+    let same_file : seen m1 stand.file ≡ file = ap (λ (files : Files). (files stand.file).bytes) (last_moment (c.record_size.ensures.unchanged tells)) in
+    subst (λ (f : List ℕ). IsRead f (gate_of stand + 5) room count buf) same_file
+    (subst (λ (s : Stand). IsRead (seen m1 s.file) (s.length - 1 + 5) room count buf) c.self.view_is (c.in_ok-count.ensures.bytes tells)) in
     let m2 = (g.D.Disk.seen c.read.new.self).moments in
     let whole : length buf ≡ size = c.read.auto.buf ∙ room_is in
     let found : (tells : IsTrue g.D.Disk.tells) → IsRecordAt file (gate_of stand) stand.limit buf = λ tells.
-        record_read file buf (gate_of stand) stand.limit size room count (start tells) (read tells) room_is whole in
+    record_read file buf (gate_of stand) stand.limit size room count (start tells) (read tells) room_is whole in
     let now_is : (tells : IsTrue g.D.Disk.tells) → m2.now ≡ old.now = λ tells. last_moment (unchanged_then (c.record_size.ensures.unchanged tells) (c.read.ensures.time tells)) in
     let all_read = written_over buf c.zeros.new.self (whole ∙ sym zeros_are) in
     let some : 0 < stand.length = subst (λ (s : Stand). 0 < s.length) c.self.view_is c.self.invariant.1 in
