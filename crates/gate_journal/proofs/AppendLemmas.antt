@@ -119,134 +119,168 @@ behind_is head body =
     append_assoc start head (body ++ 0 ∷ []) ∙ ap (λ (l : List ℕ). start ++ l) (sym (append_assoc head body (0 ∷ []))) ∙ sym (append_assoc start (head ++ body) (0 ∷ []))
     ∙ ap (λ (n : ℕ). (to_le_bytes w32 n ++ (head ++ body)) ++ 0 ∷ []) (sym (length-append head body))
 
-module _ (file gate : ℕ) (behind : List ℕ) (old m1 : Moments) (within : gate < length (seen old file)) (settled : IsSettled (old.now file)) (closed : IsClosed (seen old file) gate)
-    (kept : EachMoment (Changes file (KeepsBelow (gate + 1)) old.now) old m1) where
+-- a settled file holds a closed gate, and everything up to that gate was kept
+pub record IsStaged (file gate : ℕ) (old m1 : Moments) : Type 0 where
+  pub within : gate < length (seen old file)
+  pub settled : IsSettled (old.now file)
+  pub closed : IsClosed (seen old file) gate
+  pub kept : EachMoment (Changes file (KeepsBelow (gate + 1)) old.now) old m1
+
+-- and behind it these bytes were written, and a closed gate
+pub record IsWritten (file gate : ℕ) (behind : List ℕ) (old m1 : Moments) : Type 0 where
+  pub staged : IsStaged file gate old m1
+  pub wrote : seen m1 file ≡ put (seen old file) (gate + 1) (behind ++ 0 ∷ [])
+
+module _ (file gate : ℕ) (behind : List ℕ) (old m1 : Moments) (is : IsStaged file gate old m1) where
+  staying : (files : Files) → Changes file (KeepsBelow (gate + 1)) old.now files → IsBeforeOrAfter file (take gate (seen old file)) (take gate (seen old file) ++ (1 ∷ behind)) old.now files
+  staying files so = record { image = λ image shows. inl (kept_image gate (old.now file) (files file) image is.settled is.within is.closed so.here shows); others = so.others }
+
+  pub append_staged : EachMoment (IsBeforeOrAfter file (take gate (seen old file)) (take gate (seen old file) ++ (1 ∷ behind)) old.now) old m1
+  append_staged = weaken (IsBeforeOrAfter file (take gate (seen old file)) (take gate (seen old file) ++ (1 ∷ behind)) old.now) staying is.kept
+
+module _ (file gate : ℕ) (behind : List ℕ) (old m1 : Moments) (is : IsWritten file gate behind old m1) where
   abbrev before : List ℕ
   before = take gate (seen old file)
 
   abbrev later : List ℕ
   later = take gate (seen old file) ++ (1 ∷ behind)
 
-  abbrev BothWays : Files → Type 0
-  BothWays = IsBeforeOrAfter file (take gate (seen old file)) (take gate (seen old file) ++ (1 ∷ behind)) old.now
+  abbrev rest : List ℕ
+  rest = drop (gate + 1 + length (behind ++ 0 ∷ [])) (seen old file)
 
-  staying : (files : Files) → Changes file (KeepsBelow (gate + 1)) old.now files → IsBeforeOrAfter file (take gate (seen old file)) (take gate (seen old file) ++ (1 ∷ behind)) old.now files
-  staying files so = record { image = λ image is. inl (kept_image gate (old.now file) (files file) image settled within closed so.here is); others = so.others }
+  -- the file with its gate opened
+  pub opened_file : put (seen m1 file) gate (1 ∷ []) ≡ (take gate (seen old file) ++ (1 ∷ behind)) ++ 0 ∷ drop (gate + 1 + length (behind ++ 0 ∷ [])) (seen old file)
+  opened_file = ap (λ (l : List ℕ). put l gate (1 ∷ [])) is.wrote ∙ appended_is (seen old file) behind gate is.staged.within
 
-  pub append_staged : EachMoment (IsBeforeOrAfter file (take gate (seen old file)) (take gate (seen old file) ++ (1 ∷ behind)) old.now) old m1
-  append_staged = weaken BothWays staying kept
+  m1_files : Changes file (KeepsBelow (gate + 1)) old.now m1.now
+  m1_files = last_moment is.staged.kept
 
-  pub append_unmade : EachMoment (IsBeforeOrAfter file (take gate (seen old file)) (take gate (seen old file) ++ (1 ∷ behind)) old.now) old old
-  append_unmade = start (staying old.now (record { here = KeepsBelow-refl (gate + 1) (old.now file); others = λ other differ. refl }))
+  m1_long : gate < length (seen m1 file)
+  m1_long = omega (arith, is.staged.within, ap length is.wrote, length-put (seen old file) (behind ++ 0 ∷ []) (gate + 1) (omega (arith, is.staged.within)))
 
-  module _ (m2 : Moments) (wrote : seen m1 file ≡ put (seen old file) (gate + 1) (behind ++ 0 ∷ [])) (opens : EachMoment (OpensSettled file gate (seen m1 file) m1.now) m1 m2) where
-    abbrev rest : List ℕ
-    rest = drop (gate + 1 + length (behind ++ 0 ∷ [])) (seen old file)
+  -- what stood before the gate stands there still
+  m1_front : take gate (seen m1 file) ≡ take gate (seen old file)
+  m1_front = same_front gate (seen m1 file) (seen old file) (omega (arith, m1_long)) (omega (arith, is.staged.within))
+      (λ p low. (m1_files.here.kept p (omega arith) (is.staged.settled.each p (omega (arith, is.staged.within)))).same)
 
-    -- the file with its gate opened
-    pub opened_file : put (seen m1 file) gate (1 ∷ []) ≡ (take gate (seen old file) ++ (1 ∷ behind)) ++ 0 ∷ drop (gate + 1 + length (behind ++ 0 ∷ [])) (seen old file)
-    opened_file = ap (λ (l : List ℕ). put l gate (1 ∷ [])) wrote ∙ appended_is (seen old file) behind gate within
+  shut_after : (image : List ℕ) → length image ≡ length (seen m1 file) → ((p : ℕ) → p < length (seen m1 file) → p ≢ gate → slice_index image p ≡ slice_index (seen m1 file) p) → IsClosed image gate
+      → ClosedAfter before image
+  shut_after image size same shut =
+      let long : length before ≡ gate = omega (arith, length-take gate (seen old file), is.staged.within) in
+      record {
+        begins = ap (λ (n : ℕ). take n image) long
+            ∙ same_front gate image (seen m1 file) (omega (arith, m1_long)) (omega (arith, m1_long)) (λ p low. let differ : p ≢ gate = omega arith in same p (omega (arith, m1_long)) differ)
+            ∙ m1_front;
+        inside = omega (arith, long, size, m1_long);
+        closed = subst (λ n. IsClosed image n) (sym long) shut;
+      }
 
-    m1_files : Changes file (KeepsBelow (gate + 1)) old.now m1.now
-    m1_files = last_moment kept
+  either : (image : List ℕ) (new : FileState) → IsSettledBut gate (seen m1 file) new → IsFileImage new image → ClosedAfter before image ⊎ ClosedAfter later image
+  either image new but shows =
+      let size = but_size gate (seen m1 file) new image but shows in
+      let same = but_image gate (seen m1 file) new image but shows in
+      elim (cases_eq (slice_index image gate) 1) [
+        | inl is_open ↦ inr (subst (ClosedAfter later) (sym (opened_is gate (seen m1 file) image m1_long size same is_open ∙ opened_file)) (closed_front later rest 0 (omega arith)))
+        | inr shut ↦ inl (shut_after image size same shut)
+      ]
 
-    m1_long : gate < length (seen m1 file)
-    m1_long = omega (arith, ap length wrote, length-put (seen old file) (behind ++ 0 ∷ []) (gate + 1) (omega arith))
+  opening : (files : Files) → OpensSettled file gate (seen m1 file) m1.now files → IsBeforeOrAfter file (take gate (seen old file)) (take gate (seen old file) ++ (1 ∷ behind)) old.now files
+  opening files (inl synced) =
+      staying file gate behind old m1 is.staged files (changes_then (KeepsBelow (gate + 1)) file old.now m1.now files (λ a b. KeepsBelow-sync (gate + 1) (old.now file) (m1.now file) (files file) a b) m1_files synced)
+  opening files (inr but) = record {
+    image = λ image shows. either image (files file) but.here shows;
+    others = λ other differ. but.others other differ ∙ m1_files.others other differ;
+  }
 
-    -- what stood before the gate stands there still
-    m1_front : take gate (seen m1 file) ≡ take gate (seen old file)
-    m1_front = same_front gate (seen m1 file) (seen old file) (omega (arith, m1_long)) (omega (arith, within))
-        (λ p low. (m1_files.here.kept p (omega arith) (settled.each p (omega (arith, within)))).same)
+  pub append_opened : (m2 : Moments) → EachMoment (OpensSettled file gate (seen m1 file) m1.now) m1 m2
+      → EachMoment (IsBeforeOrAfter file (take gate (seen old file)) (take gate (seen old file) ++ (1 ∷ behind)) old.now) old m2
+  append_opened m2 opens =
+      join (append_staged file gate behind old m1 is.staged) (weaken (IsBeforeOrAfter file (take gate (seen old file)) (take gate (seen old file) ++ (1 ∷ behind)) old.now) opening opens)
 
-    either : (image : List ℕ) (new : FileState) → IsSettledBut gate (seen m1 file) new → IsFileImage new image → ClosedAfter before image ⊎ ClosedAfter later image
-    either image new but is =
-        let size = but_size gate (seen m1 file) new image but is in
-        let same = but_image gate (seen m1 file) new image but is in
-        elim (cases_eq (slice_index image gate) 1) [
-          | inl is_open ↦ inr (subst (ClosedAfter later) (sym (opened_is gate (seen m1 file) image m1_long size same is_open ∙ opened_file)) (closed_front later rest 0 (omega arith)))
-          | inr shut ↦ inl (shut_after image size same shut)
-        ]
-      where
-        shut_after : (image : List ℕ) → length image ≡ length (seen m1 file) → ((p : ℕ) → p < length (seen m1 file) → p ≢ gate → slice_index image p ≡ slice_index (seen m1 file) p) → IsClosed image gate → ClosedAfter before image
-        shut_after image size same shut =
-            let long : length before ≡ gate = omega (arith, length-take gate (seen old file), within) in
-            record {
-              begins = ap (λ (n : ℕ). take n image) long
-                  ∙ same_front gate image (seen m1 file) (omega (arith, m1_long)) (omega (arith, m1_long)) (λ p low. let differ : p ≢ gate = omega arith in same p (omega (arith, m1_long)) differ)
-                  ∙ m1_front;
-              inside = omega (arith, long, size, m1_long);
-              closed = subst (λ n. IsClosed image n) (sym long) shut;
-            }
+-- a journal stands at its closed gate, and what stood up to there was kept
+pub record Stages (stand : Stand) (old m1 : Moments) : Type 0 where
+  pub some : 0 < stand.length
+  pub at : IsAtGate stand (old.now stand.file)
+  pub kept : EachMoment (Changes stand.file (KeepsBelow stand.length) old.now) old m1
 
-    opening : (files : Files) → OpensSettled file gate (seen m1 file) m1.now files → IsBeforeOrAfter file (take gate (seen old file)) (take gate (seen old file) ++ (1 ∷ behind)) old.now files
-    opening files (inl synced) = staying files (changes_then (KeepsBelow (gate + 1)) file old.now m1.now files (λ a b. KeepsBelow-sync (gate + 1) (old.now file) (m1.now file) (files file) a b) m1_files synced)
-    opening files (inr but) = record {
-      image = λ image is. either image (files file) but.here is;
-      others = λ other differ. but.others other differ ∙ m1_files.others other differ;
-    }
+-- the record was written behind the gate, and the gate is opened
+pub record OpensRecord (stand : Stand) (head body : List ℕ) (old m1 m2 : Moments) : Type 0 where
+  pub stages : Stages stand old m1
+  pub wrote : seen m1 stand.file ≡ put (seen old stand.file) stand.length ((to_le_bytes w32 (length head + length body) ++ head) ++ (body ++ 0 ∷ []))
+  pub opens : EachMoment (OpensSettled stand.file (stand.length - 1) (seen m1 stand.file) m1.now) m1 m2
 
-    pub append_opened : EachMoment (IsBeforeOrAfter file (take gate (seen old file)) (take gate (seen old file) ++ (1 ∷ behind)) old.now) old m2
-    append_opened = join append_staged (weaken BothWays opening opens)
+-- and the gate is open
+pub record HasOpened (stand : Stand) (head body : List ℕ) (old m1 m2 : Moments) : Type 0 where
+  pub opens : OpensRecord stand head body old m1 m2
+  pub opened : seen m2 stand.file ≡ put (seen m1 stand.file) (stand.length - 1) (1 ∷ [])
+  pub settled : IsSettled (m2.now stand.file)
 
--- the same of a journal that stands at its closed gate
-module _ (stand : Stand) (head body : List ℕ) (old : Moments) (some : 0 < stand.length) (at : IsAtGate stand (old.now stand.file)) where
-  abbrev text : List ℕ
-  text = text_before stand (seen old stand.file)
+-- nothing was done yet
+pub nothing_staged : (stand : Stand) (old : Moments) → 0 < stand.length → IsAtGate stand (old.now stand.file) → Stages stand old old
+nothing_staged stand old some at = record {
+  some = some;
+  at = at;
+  kept = start (record { here = KeepsBelow-refl stand.length (old.now stand.file); others = λ other differ. refl });
+}
 
+next_to : (stand : Stand) → 0 < stand.length → gate_of stand + 1 ≡ stand.length
+next_to stand some = omega arith
+
+staged_of : (stand : Stand) (old m1 : Moments) → Stages stand old m1 → IsStaged stand.file (gate_of stand) old m1
+staged_of stand old m1 is = record {
+  within = omega (arith, is.at.inside, is.some);
+  settled = is.at.settled;
+  closed = is.at.closed;
+  kept = subst (λ n. EachMoment (Changes stand.file (KeepsBelow n) old.now) old m1) (sym (next_to stand is.some)) is.kept;
+}
+
+written_of : (stand : Stand) (head body : List ℕ) (old m1 m2 : Moments) → OpensRecord stand head body old m1 m2 → IsWritten stand.file (gate_of stand) (behind_gate (head ++ body)) old m1
+written_of stand head body old m1 m2 is = record {
+  staged = staged_of stand old m1 is.stages;
+  wrote = is.wrote ∙ (λ i. put (seen old stand.file) (sym (next_to stand is.stages.some) i) (behind_is head body i));
+}
+
+pub stand_staged : (stand : Stand) (head body : List ℕ) (old m1 : Moments) → Stages stand old m1
+    → EachMoment (IsBeforeOrAfter stand.file (text_before stand (seen old stand.file)) (text_before stand (seen old stand.file) ++ record_text (head ++ body)) old.now) old m1
+stand_staged stand head body old m1 is = append_staged stand.file (gate_of stand) (behind_gate (head ++ body)) old m1 (staged_of stand old m1 is)
+
+pub stand_opened : (stand : Stand) (head body : List ℕ) (old m1 m2 : Moments) → OpensRecord stand head body old m1 m2
+    → EachMoment (IsBeforeOrAfter stand.file (text_before stand (seen old stand.file)) (text_before stand (seen old stand.file) ++ record_text (head ++ body)) old.now) old m2
+stand_opened stand head body old m1 m2 is = append_opened stand.file (gate_of stand) (behind_gate (head ++ body)) old m1 (written_of stand head body old m1 m2 is) m2 is.opens
+
+-- the file byte for byte, what each image has, and the gate that the journal has come to
+module _ (stand : Stand) (head body : List ℕ) (old m1 m2 : Moments) (is : HasOpened stand head body old m1 m2) where
   abbrev with_record : List ℕ
   with_record = text_before stand (seen old stand.file) ++ record_text (head ++ body)
 
-  next_to : gate_of stand + 1 ≡ stand.length
-  next_to = omega (arith, some)
+  abbrev rest_of : List ℕ
+  rest_of = drop (gate_of stand + 1 + length (behind_gate (head ++ body) ++ 0 ∷ [])) (seen old stand.file)
 
-  stand_within : gate_of stand < length (seen old stand.file)
-  stand_within = omega (arith, at.inside, some)
+  file_is : seen m2 stand.file ≡ with_record ++ 0 ∷ rest_of
+  file_is = is.opened ∙ opened_file stand.file (gate_of stand) (behind_gate (head ++ body)) old m1 (written_of stand head body old m1 m2 is.opens)
 
-  pub stand_unmade : EachMoment (IsBeforeOrAfter stand.file (text_before stand (seen old stand.file)) (text_before stand (seen old stand.file) ++ record_text (head ++ body)) old.now) old old
-  stand_unmade = append_unmade stand.file (gate_of stand) (behind_gate (head ++ body)) old old stand_within at.settled at.closed
-      (start (record { here = KeepsBelow-refl (gate_of stand + 1) (old.now stand.file); others = λ other differ. refl }))
+  closed_now : ClosedAfter with_record (seen m2 stand.file)
+  closed_now = subst (ClosedAfter with_record) (sym file_is) (closed_front with_record rest_of 0 (omega arith))
 
-  module _ (m1 : Moments) (kept : EachMoment (Changes stand.file (KeepsBelow stand.length) old.now) old m1) where
-    kept_gate : EachMoment (Changes stand.file (KeepsBelow (gate_of stand + 1)) old.now) old m1
-    kept_gate = subst (λ n. EachMoment (Changes stand.file (KeepsBelow n) old.now) old m1) (sym next_to) kept
+  size_of : length with_record ≡ gate_of stand + (1 + (4 + (length head + length body)))
+  size_of =
+      let within : gate_of stand < length (seen old stand.file) = omega (arith, is.opens.stages.at.inside, is.opens.stages.some) in
+      omega (arith, length-append (text_before stand (seen old stand.file)) (record_text (head ++ body)), length-take (gate_of stand) (seen old stand.file), within, length-append head body)
 
-    pub stand_staged : EachMoment (IsBeforeOrAfter stand.file (text_before stand (seen old stand.file)) (text_before stand (seen old stand.file) ++ record_text (head ++ body)) old.now) old m1
-    stand_staged = append_staged stand.file (gate_of stand) (behind_gate (head ++ body)) old m1 stand_within at.settled at.closed kept_gate
+  place_of : length with_record ≡ stand.length + 5 + length head + length body - 1
+  place_of = omega (arith, size_of, is.opens.stages.some)
 
-    module _ (m2 : Moments) (wrote : seen m1 stand.file ≡ put (seen old stand.file) stand.length ((to_le_bytes w32 (length head + length body) ++ head) ++ (body ++ 0 ∷ [])))
-        (opens : EachMoment (OpensSettled stand.file (stand.length - 1) (seen m1 stand.file) m1.now) m1 m2) where
-      wrote_gate : seen m1 stand.file ≡ put (seen old stand.file) (gate_of stand + 1) (behind_gate (head ++ body) ++ 0 ∷ [])
-      wrote_gate = wrote ∙ (λ i. put (seen old stand.file) (sym next_to i) (behind_is head body i))
+  pub stand_whole : seen m2 stand.file ≡ put (put (seen old stand.file) stand.length (behind_gate (head ++ body) ++ 0 ∷ [])) (gate_of stand) (1 ∷ [])
+  stand_whole = is.opened ∙ ap (λ (l : List ℕ). put l (gate_of stand) (1 ∷ [])) (is.opens.wrote ∙ ap (λ (l : List ℕ). put (seen old stand.file) stand.length l) (behind_is head body))
 
-      pub stand_opened : EachMoment (IsBeforeOrAfter stand.file (text_before stand (seen old stand.file)) (text_before stand (seen old stand.file) ++ record_text (head ++ body)) old.now) old m2
-      stand_opened = append_opened stand.file (gate_of stand) (behind_gate (head ++ body)) old m1 stand_within at.settled at.closed kept_gate m2 wrote_gate opens
+  pub stand_durable : (image : List ℕ) → IsFileImage (m2.now stand.file) image → ClosedAfter (text_before stand (seen old stand.file) ++ record_text (head ++ body)) image
+  stand_durable image shows = subst (ClosedAfter with_record) (sym (IsSettled-image (m2.now stand.file) image is.settled shows)) closed_now
 
-      module _ (opened : seen m2 stand.file ≡ put (seen m1 stand.file) (stand.length - 1) (1 ∷ [])) (settled : IsSettled (m2.now stand.file)) where
-        abbrev rest_of : List ℕ
-        rest_of = drop (gate_of stand + 1 + length (behind_gate (head ++ body) ++ 0 ∷ [])) (seen old stand.file)
+  pub stand_inside : stand.length + 5 + length head + length body ≤ length (seen m2 stand.file)
+  stand_inside = omega (arith, closed_now.inside, place_of, is.opens.stages.some)
 
-        file_is : seen m2 stand.file ≡ (text_before stand (seen old stand.file) ++ record_text (head ++ body)) ++ 0 ∷ drop (gate_of stand + 1 + length (behind_gate (head ++ body) ++ 0 ∷ [])) (seen old stand.file)
-        file_is = opened ∙ opened_file stand.file (gate_of stand) (behind_gate (head ++ body)) old m1 stand_within at.settled at.closed kept_gate m2 wrote_gate opens
+  pub stand_closed : IsClosed (seen m2 stand.file) (stand.length + 5 + length head + length body - 1)
+  stand_closed = subst (λ p. IsClosed (seen m2 stand.file) p) place_of closed_now.closed
 
-        -- byte for byte
-        pub stand_whole : seen m2 stand.file ≡ put (put (seen old stand.file) stand.length (behind_gate (head ++ body) ++ 0 ∷ [])) (gate_of stand) (1 ∷ [])
-        stand_whole = opened ∙ ap (λ (l : List ℕ). put l (gate_of stand) (1 ∷ [])) (wrote ∙ ap (λ (l : List ℕ). put (seen old stand.file) stand.length l) (behind_is head body))
-
-        closed_now : ClosedAfter with_record (seen m2 stand.file)
-        closed_now = subst (ClosedAfter with_record) (sym file_is) (closed_front with_record rest_of 0 (omega arith))
-
-        pub stand_durable : (image : List ℕ) → IsFileImage (m2.now stand.file) image → ClosedAfter (text_before stand (seen old stand.file) ++ record_text (head ++ body)) image
-        stand_durable image is = subst (ClosedAfter with_record) (sym (IsSettled-image (m2.now stand.file) image settled is)) closed_now
-
-        size_of : length with_record ≡ gate_of stand + (1 + (4 + (length head + length body)))
-        size_of = omega (arith, length-append text (record_text (head ++ body)), length-take (gate_of stand) (seen old stand.file), stand_within, length-append head body)
-
-        -- the gate that the journal has come to
-        pub stand_next : (n : ℕ) → n ≡ stand.length + 5 + length head + length body → (n ≤ length (seen m2 stand.file)) × IsClosed (seen m2 stand.file) (n - 1)
-            × (take (n - 1) (seen m2 stand.file) ≡ text_before stand (seen old stand.file) ++ record_text (head ++ body))
-        stand_next n is =
-            let place : length with_record ≡ n - 1 = omega (arith, size_of, some) in (
-              omega (arith, closed_now.inside, place, some),
-              subst (λ p. IsClosed (seen m2 stand.file) p) place closed_now.closed,
-              subst (λ p. take p (seen m2 stand.file) ≡ with_record) place closed_now.begins,
-            )
+  pub stand_text : take (stand.length + 5 + length head + length body - 1) (seen m2 stand.file) ≡ text_before stand (seen old stand.file) ++ record_text (head ++ body)
+  stand_text = subst (λ p. take p (seen m2 stand.file) ≡ with_record) place_of closed_now.begins

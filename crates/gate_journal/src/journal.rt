@@ -5,8 +5,8 @@ ghost use Rattle.gate_journal.specs.Stand.{IsAtGate, IsReadable};
 ghost use Rattle.gate_journal.specs.Calls.{Creates, Appends, Opens, ReadsNext};
 
 use crate::faults::{AppendFault, JournalFault};
-use crate::reading::record_size;
 use crate::gate::{CLOSED, open_behind};
+use crate::reading::record_size;
 use crate::staged::write_behind;
 use disk_model::{Disk, Failed};
 use nmc_base::Bytes;
@@ -60,6 +60,8 @@ impl Journal {
     }
 
     /// Begins a journal: writes a closed gate at this place and syncs the file. That gate is reached.
+    ///
+    /// The error is a fault of the disk. The gate's byte may hold anything then.
     pub fn create<D: Disk>(disk: &mut D, file: u8, at: u64, limit: u64) -> Result<Journal, Failed>
         requires file { file < 3 }
         requires within { at < limit }
@@ -73,6 +75,9 @@ impl Journal {
 
     /// Appends a record of this head and body. A crash at any moment of the call leaves the records from
     /// before it, with the new one or without; after Ok each crash leaves the new one too.
+    ///
+    /// `Full` comes exactly where the record and a gate behind it would pass the limit; then the disk was not
+    /// asked. A body of at most 4 KiB takes two writes, a longer one four; no memory is taken.
     pub fn append<D: Disk>(
         &mut self,
         disk: &mut D,
@@ -98,7 +103,8 @@ impl Journal {
 
     /// Opens the journal whose first gate stands at this place. The file was synced and not written since.
     ///
-    /// The gate is not looked at yet: read the records up to the first closed gate.
+    /// The gate is not looked at yet: read the records up to the first closed gate. `Damaged` comes exactly
+    /// where that first gate does not lie inside the file. No memory is taken.
     pub fn open<D: Disk>(
         disk: &mut D,
         file: u8,
@@ -121,7 +127,8 @@ impl Journal {
     }
 
     /// Reads the next record, head and body joined, into the list. False at a closed gate, which is then
-    /// reached. A record that does not fit the file or the limit is damage at its gate, and costs no memory.
+    /// reached. A record that does not fit the file or the limit is damage at its gate, and costs no memory:
+    /// `NoMemory` comes only for one that fits.
     /// After an error the journal stands where it stood; what the list holds then is not said.
     pub fn next_record<D: Disk>(
         &mut self,

@@ -12,7 +12,7 @@ ghost use Rattle.gate_journal.specs.Writes.{KeepsBelow};
 use crate::gate::CLOSED;
 use disk_model::{Disk, Failed};
 
-/// The longest body that goes out in one write with its length, its head and the gate behind it.
+/// The longest body that goes out in one write with its length, its head and the gate behind it: 4 KiB.
 const SMALL: usize = 4096;
 
 /// Puts a piece into the array from a place on, and says where it ends.

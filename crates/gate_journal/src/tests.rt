@@ -315,9 +315,16 @@ fn begins_none(rt: &impl Abort, alloc: Global, call: u64) -> Result<(), Fail> {
 fn fails_to_read(rt: &impl Abort, alloc: Global, call: u64) -> Result<(), Fail> {
     let mut disk = MemoryDisk::new(alloc, &[call])?;
     acknowledges(rt, &mut disk, Some(2));
-    let is_fault = matches!(records(alloc, &mut disk, 64), Err(JournalFault::DiskFault));
+    let is_fault = is_disk_fault(alloc, &mut disk);
     assert!(rt; is_fault);
     Ok(())
+}
+
+fn is_disk_fault(alloc: Global, disk: &mut MemoryDisk) -> bool {
+    match records(alloc, disk, 64) {
+        Ok(_) => false,
+        Err(fault) => fault == JournalFault::DiskFault,
+    }
 }
 
 /// The call that fails comes after the records were read.
@@ -470,6 +477,14 @@ fn opened(disk: &mut MemoryDisk) -> Result<(), Failed> {
     open_gate(disk, 0, 0)
 }
 
+/// File 0 in the image after so many calls, in a buffer of nines.
+fn first_bytes(alloc: Global, disk: &MemoryDisk, calls: usize, fill: u8) -> Result<[u8; 4], Fail> {
+    let mut image = disk.image(alloc, calls, Choice::Fill(fill))?;
+    let mut buf = [9; 4];
+    image.read(0, 0, &mut buf)?;
+    Ok(buf)
+}
+
 /// The image after so many calls of `opened` has this first byte in file 0, and the other two.
 fn shows_gate(
     rt: &impl Abort,
@@ -478,12 +493,21 @@ fn shows_gate(
     row: &(usize, u8, u8),
 ) -> Result<(), Fail> {
     let (calls, fill, gate) = *row;
-    let mut image = disk.image(alloc, calls, Choice::Fill(fill))?;
-    let mut buf = [9; 4];
-    let count = image.read(0, 0, &mut buf)?;
-    assert!(rt; count == 3);
-    assert!(rt; buf == [gate, b'a', b'b', 9]);
+    let bytes = first_bytes(alloc, disk, calls, fill)?;
+    assert!(rt; bytes == [gate, b'a', b'b', 9]);
     Ok(())
+}
+
+fn shows_gates(rt: &impl Abort, alloc: Global, disk: &MemoryDisk) -> Result<(), Fail> {
+    for row in &GATES {
+        shows_gate(rt, alloc, disk, row)?;
+    }
+    Ok(())
+}
+
+fn opens(rt: &impl Abort, disk: &mut MemoryDisk, done: bool) {
+    let is_open = opened(disk).is_ok();
+    assert!(rt; is_open == done);
 }
 
 /// So many calls, what stands where nothing is settled, and the gate that is left.
@@ -492,21 +516,21 @@ static GATES: [(usize, u8, u8); 5] = [(2, 7, 0), (3, 7, 7), (3, 1, 1), (4, 7, 1)
 #[test]
 fn a_gate_is_open_or_closed(rt: HostRuntime) -> Result<(), Fail> {
     let mut disk = MemoryDisk::new(rt.alloc(), &[])?;
-    let is_open = opened(&mut disk).is_ok();
-    assert!(rt; is_open);
-    for row in &GATES {
-        shows_gate(&rt, rt.alloc(), &disk, row)?;
-    }
+    opens(&rt, &mut disk, true);
+    shows_gates(&rt, rt.alloc(), &disk)
+}
+
+/// This of its calls fails.
+fn opens_none(rt: &impl Abort, alloc: Global, call: u64) -> Result<(), Fail> {
+    let mut disk = MemoryDisk::new(alloc, &[call])?;
+    opens(rt, &mut disk, false);
     Ok(())
 }
 
-/// Each of its calls failing.
 #[test]
 fn a_failing_call_opens_no_gate(rt: HostRuntime) -> Result<(), Fail> {
     for call in 1..5u64 {
-        let mut disk = MemoryDisk::new(rt.alloc(), &[call])?;
-        let is_open = opened(&mut disk).is_ok();
-        assert!(rt; !is_open);
+        opens_none(&rt, rt.alloc(), call)?;
     }
     Ok(())
 }

@@ -1,4 +1,3 @@
-use Rattle.std.proofs.Common.{rules}
 use Rattle.disk_model.specs.DiskSeen.{bytes_in}
 use Rattle.gate_journal.proofs.AppendLemmas.{holds_gate}
 use Rattle.gate_journal.proofs.gate.open_gate.Goals as goal

@@ -1,4 +1,3 @@
-use Rattle.disk_model.specs.DiskSeen.{bytes_in}
 use Rattle.gate_journal.proofs.WriteLemmas.{gate_written, gate_synced}
 use Rattle.gate_journal.proofs.gate.write_gate.Goals as goal
 

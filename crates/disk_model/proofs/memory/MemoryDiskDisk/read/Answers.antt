@@ -24,7 +24,7 @@ returns-clause-reads c =
     ∙ ap (λ (log : DiskLog). seen (moments_of log) c.args.file) c.self.view_is ∙ look_seen c.args.self.now c.look.new.self c.args.file c.args.file c.look.result c.look.ensures.kept in
     record {
       bound = c.read_at.ensures.bound;
-  bytes = λ tells. subst (λ (l : List ℕ). IsRead l c.args.at (length c.args.buf.now) c.read_at.result c.read_at.new.buf) (c.deref.ensures.value ∙ stored) c.read_at.ensures.bytes;
+      bytes = λ tells. subst (λ (l : List ℕ). IsRead l c.args.at (length c.args.buf.now) c.read_at.result c.read_at.new.buf) (c.deref.ensures.value ∙ stored) c.read_at.ensures.bytes;
       time = λ tells. look_time c.args.self.now c.look.new.self c.args.file c.look.result c.look.ensures.kept;
       cause = search rules;
     }
