@@ -1,13 +1,12 @@
 -- Lists of elements.
-use Rattle.std.proofs.Common.{◌≡◌, ℕ, ◌+◌, ◌-◌, ◌/◌, ◌<◌, ◌≤◌, List, [], ◌∷◌, ◌++◌, length, take, drop, map, suc, append_assoc, length-drop, Option, Some, None, refl, sym, ap, ◌∙◌, arith, Bool, true, false}
-use Rattle.std.specs.List.{filter_map, list_all}
-use Rattle.std.specs.Str.{IsUtf8}
-use Rattle.serde_json.specs.Data.{Data, null, boolean, number, string, array, object, Items, no_items, item}
+use Rattle.std.proofs.Common.{◌≡◌, ℕ, ◌-◌, ◌/◌, ◌<◌, List, [], ◌∷◌, ◌++◌, length, take, drop, suc, append_assoc, length-drop, Option, Some, None, refl, sym, ap, ◌∙◌, arith}
+use Rattle.std.specs.List.{filter_map}
+use Rattle.serde_json.specs.Data.{Data, null, boolean, number, string, array, object, Items}
 use Rattle.serde_json.specs.Find.{as_array}
 use Rattle.serde_json.specs.View.{view, items_view}
 use Rattle.serde_json.specs.declared.value.Value.{Value}
 use Rattle.ifa_value.specs.Shapes.{strings, cut_after, txt}
-use Rattle.ifa_value.specs.Elements.{each, onto, one_or_list, list_only, alone}
+use Rattle.ifa_value.specs.Elements.{each, onto, one_or_list, list_only}
 
 pub onto_step : {A B : Type 0} (f : B → Option A) (x : B) (xs : List B) (r : Option A) → f x ≡ r → filter_map f (x ∷ xs) ≡ onto r (filter_map f xs)
 onto_step f x xs (Some a) e = rw e refl
