@@ -1,5 +1,5 @@
 -- Host texts (IFA-0001), and their names.
-use Rattle.std.specs.Prelude.{◌≡◌, ◌≢◌, ℕ, ◌≤◌, ◌-◌, ◌==◌, if◌then◌else◌, Bool, true, false, List, [], ◌∷◌, ◌++◌, length, take, drop, nat_eq, Option, Some, None, is_some, ◌⊎◌, IsTrue}
+use Rattle.std.specs.Prelude.{◌≡◌, ◌≢◌, ℕ, ◌≤◌, ◌-◌, ◌==◌, if◌then◌else◌, Bool, true, false, List, [], ◌∷◌, ◌++◌, length, take, drop, nat_eq, Option, Some, None, is_some, IsTrue}
 use Rattle.std.specs.Option.{option_and_then}
 use Rattle.std.specs.Cmp.Lexicographic.{pointwise}
 use Rattle.std.specs.List.{list_all, join_with_byte, slice_split}
@@ -85,3 +85,12 @@ host_of text =
 -- the name of a host text at a node
 abbrev pub host_name : List ℕ → List ℕ → List ℕ → Option (List ℕ)
 host_name own top text = option_and_then (host_at own top) (host_of text)
+
+-- the name of an absolute host text
+abbrev pub absolute_of : Form → List (List ℕ) → Option (List ℕ)
+absolute_of Absolute labels = if_fits (wire_of labels)
+absolute_of AtTop labels = None
+absolute_of AtOwn labels = None
+
+abbrev pub absolute_name_of : List ℕ → Option (List ℕ)
+absolute_name_of text = option_and_then (λ host. absolute_of host.form host.labels) (host_of text)

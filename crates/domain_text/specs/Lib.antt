@@ -1,5 +1,6 @@
 pub mod Host
 pub mod Ipv4
+pub mod Ipv6
 pub mod Label
 pub mod Names
 pub mod Reading

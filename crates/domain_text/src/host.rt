@@ -4,7 +4,7 @@ ghost use Rattle.std.specs.Prelude.{◌≡◌, ◌∷◌, [], Some, List, ℕ, M
 ghost use Rattle.std.specs.List.{list_all};
 ghost use Rattle.std.specs.Option.{option_map};
 ghost use Rattle.domain_text.specs.Label.{is_label as is_label_of};
-ghost use Rattle.domain_text.specs.Host.{HostText, IsHost, IsAbsoluteHost, host_of, host_at, parts, labelled as labelled_of, is_top as is_top_of, before_end as before_end_of, by_end as by_end_of};
+ghost use Rattle.domain_text.specs.Host.{HostText, IsHost, IsAbsoluteHost, absolute_of, absolute_name_of, host_of, host_at, parts, labelled as labelled_of, is_top as is_top_of, before_end as before_end_of, by_end as by_end_of};
 
 use crate::ipv4::read_ipv4;
 use crate::label::{cut, is_label};
@@ -40,8 +40,9 @@ impl<'a> Model for Host<'a> {
     ghost invariant = { λ h. AreLabels (parts_of h.labels.now) };
 }
 
-/// Whether labels, joined by dots, make the text.
-fn are_labels(text: &[u8]) -> bool
+/// Whether labels, joined by dots, make the text: each part between dots is a label of 1 to 63 letters, digits,
+/// `-` and `_`.
+pub fn are_labels(text: &[u8]) -> bool
     ensures { result ≡ list_all is_label_of (parts text.now) }
 {
     let mut text = text;
@@ -131,12 +132,14 @@ pub fn absolute_name(text: &[u8]) -> Option<Name>
     ensures cases { MatchOption result ((name : List ℕ) → ¬ (IsAbsoluteHost text.now name)) (λ name. IsAbsoluteHost text.now name) }
     ensures one { (name : List ℕ) → IsAbsoluteHost text.now name → result ≡ Some name }
 {
+    root_name(text)
+}
+
+fn root_name(text: &[u8]) -> Option<Name>
+    ensures { result ≡ absolute_name_of text.now }
+{
     let host = read_host(text)?;
-    match host.form {
-        Form::Absolute => Name::root().with_labels(host.labels),
-        Form::AtTop => None,
-        Form::AtOwn => None,
-    }
+    host.below_root()
 }
 
 impl<'a> Host<'a> {
@@ -145,6 +148,17 @@ impl<'a> Host<'a> {
         ensures { result ≡ self.now.form }
     {
         self.form
+    }
+
+    /// The name of the host, where the text was absolute.
+    fn below_root(&self) -> Option<Name>
+        ensures { result ≡ absolute_of self.now.form self.now.labels }
+    {
+        match self.form {
+            Form::Absolute => Name::root().with_labels(self.labels),
+            Form::AtTop => None,
+            Form::AtOwn => None,
+        }
     }
 
     /// The name of the host at a node: `own` is the node's domain name, and `top` that of the name whose value

@@ -1,23 +1,40 @@
-ghost use Rattle.std.specs.Prelude.{◌≡◌, Some, option_map, nat_lt, ◌<◌};
-ghost use Rattle.domain_text.specs.Reading.{after};
-ghost use Rattle.domain_text.specs.Ipv4.{ipv4_of, octet_at, digits_at as digits_at_of, below_256 as below_256_of};
+//! The texts of IPv4 addresses.
 
-/// The address that the text is, if it is one: four numbers up to 255 without leading zeros.
-#[tactic(auto, unfolding(crate::specs::Ipv4::ipv4_of))]
+ghost use Rattle.std.specs.Prelude.{◌≡◌, ◌<◌, List, ℕ, Some, MatchOption};
+ghost use Rattle.std.specs.Option.{option_map};
+ghost use Rattle.domain_text.specs.Reading.{after};
+ghost use Rattle.domain_text.specs.Ipv4.{IsIpv4, ipv4_of, octet_at, dotted_at, digits_at as digits_at_of, below_256 as below_256_of};
+
+/// The four bytes of the address that the text is, None exactly where it is none: four numbers up to 255 without
+/// leading zeros, joined by dots.
+#[tactic(auto, using(crate::proofs::Ipv4Laws::ipv4_found, crate::proofs::Ipv4Laws::ipv4_only))]
 pub fn read_ipv4(text: &[u8]) -> Option<[u8; 4]>
+    ensures cases { MatchOption result ((address : List ℕ) → ¬ (IsIpv4 text.now address)) (λ address. IsIpv4 text.now address) }
+    ensures one { (address : List ℕ) → IsIpv4 text.now address → result ≡ Some address }
     ensures exact { result ≡ ipv4_of text.now }
 {
+    octets(text)
+}
+
+#[tactic(auto, unfolding(crate::specs::Ipv4::ipv4_of))]
+fn octets(text: &[u8]) -> Option<[u8; 4]>
+    ensures { result ≡ ipv4_of text.now }
+{
     let (a, rest) = octet(text)?;
-    let rest = skip(b'.', rest)?;
-    let (b, rest) = octet(rest)?;
-    let rest = skip(b'.', rest)?;
-    let (c, rest) = octet(rest)?;
-    let rest = skip(b'.', rest)?;
-    let (d, rest) = octet(rest)?;
+    let (b, rest) = dotted(rest)?;
+    let (c, rest) = dotted(rest)?;
+    let (d, rest) = dotted(rest)?;
     match rest.split_first() {
         None => Some([a, b, c, d]),
         Some(_) => None,
     }
+}
+
+fn dotted(bytes: &[u8]) -> Option<(u8, &[u8])>
+    ensures { option_map (λ r. (r.0, r.1.now)) result ≡ dotted_at bytes.now }
+{
+    let rest = skip(b'.', bytes)?;
+    octet(rest)
 }
 
 fn skip(byte: u8, bytes: &[u8]) -> Option<&[u8]>

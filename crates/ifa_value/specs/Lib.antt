@@ -1,0 +1,4 @@
+pub mod Elements
+pub mod Object
+pub mod Shapes
+pub mod Values

@@ -1,0 +1,12 @@
+//! The items of a name's value (IFA-0001): the object that it is, the well-shaped elements of each item, and the entries of its map.
+#![tactic(auto)]
+
+mod elements;
+mod import;
+mod item;
+mod object;
+mod shape;
+mod text;
+
+pub use item::{Element, Elements, Key};
+pub use object::{IfaObject, read_value};
