@@ -19,7 +19,7 @@ use Rattle.dns_message.specs.declared.numbers.TheConstants.{HEADER_SIZE, TYPE_AN
 use Rattle.dns_message.proofs.BufferLemmas.{length-take}
 use Rattle.dns_message.proofs.HeaderLaws.{AreBytes, AreBytes-drop, word_fits, drop-word_at, header_found, header_at-header_text}
 
-below : (a b : ℕ) → b ≤ a → nat_lt a b ≡ false
+pub below : (a b : ℕ) → b ≤ a → nat_lt a b ≡ false
 below a b h = grind arith
 
 not_below : (a b : ℕ) → nat_lt a b ≡ false → b ≤ a
@@ -179,7 +179,7 @@ none_asked h rest are none false e o a = refl
 none_asked h rest are none true e None a = refl
 none_asked h rest are none true e (Some q) a = absurd (none q (query_found h rest q are (was_same h.questions 1 e) a))
 
-behind_response : (h : Header) (rest : List ℕ) → qr_of h.flags ≡ 1 → reading_behind h rest ≡ Dropped
+pub behind_response : (h : Header) (rest : List ℕ) → qr_of h.flags ≡ 1 → reading_behind h rest ≡ Dropped
 unfolding reading_behind
 behind_response h rest is = rw (same_number (qr_of h.flags) 1 is) refl
 
