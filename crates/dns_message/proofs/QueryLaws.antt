@@ -1,13 +1,13 @@
 -- What comes of a message is what the rules say.
-use Rattle.std.proofs.Common.{◌≡◌, ◌≢◌, ℕ, ◌+◌, ◌^◌, ◌<◌, ◌≤◌, ◌==◌, List, [], ◌∷◌, ◌++◌, length, take, drop, Bool, true, false, refl, sym, ap, subst, ◌∙◌, arith, nat_le, nat_lt, if◌then◌else◌, append_assoc, Option, Some, None}
+use Rattle.std.proofs.Common.{◌≡◌, ◌≢◌, ℕ, ◌^◌, ◌<◌, ◌≤◌, ◌==◌, List, ◌++◌, length, take, drop, Bool, true, false, refl, sym, ap, subst, ◌∙◌, arith, nat_lt, if◌then◌else◌, append_assoc, Option, Some, None}
 use Rattle.std.proofs.lemmas.List.{drop_at, take_at, take-append-drop, nil_from_length}
 use Rattle.std.proofs.lemmas.Nat.{from_be_bytes-to_be_bytes_2}
 use Rattle.domain_text.specs.Names.{IsName, wire_of}
 use Rattle.domain_text.specs.Reading.{name_length}
 use Rattle.domain_text.specs.declared.limits.TheConstants.{LONGEST_WIRE}
 use Rattle.domain_text.proofs.NameLaws.{guard, name_found, name_only}
-use Rattle.dns_message.specs.Header.{word_text, header_text, qr_of, opcode_of, IsHeader}
-use Rattle.dns_message.specs.Query.{Query, Reading, question_text, HasHeader, IsStandardQuery, HasOneQuestion, IsQuery, IfQuery, ReadsAs, query_of, asked_of}
+use Rattle.dns_message.specs.Header.{word_text, header_text, qr_of, opcode_of}
+use Rattle.dns_message.specs.Query.{Query, Reading, HasHeader, IsStandardQuery, HasOneQuestion, IsQuery, IfQuery, ReadsAs, query_of, asked_of}
 use Rattle.dns_message.specs.Query.Reading.{Dropped, NotImplemented, FormatError, Asks}
 use Rattle.dns_message.specs.Query.ReadsAs.{no_header, response, other_opcode, no_question, question}
 use Rattle.dns_message.specs.Reading.{word_at, header_at, question_at, query_of_length, query_at, one_question, reading_behind, reading_of}
