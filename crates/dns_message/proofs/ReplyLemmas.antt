@@ -82,6 +82,26 @@ not_added section rec t r buf h may full =
       over = λ c. omega (arith, more, full);
     }
 
+-- of a buffer its room and its front count
+pub Holds-front : (t : Contents) (r : Reply) (old new : List ℕ) → Holds t r old → r.limit ≤ length new → take r.len new ≡ take r.len old → Holds t r new
+Holds-front t r old new h room same =
+    let start : take r.start new ≡ take r.start old = sym (take-take r.start r.len new h.from) ∙ ap (take r.start) same ∙ take-take r.start r.len old h.from in
+    record {
+      room = room;
+      small = h.small;
+      id = h.id;
+      flags = h.flags;
+      start = h.start;
+      from = h.from;
+      within = h.within;
+      question = ap (drop HEADER_SIZE) start ∙ h.question;
+      few = h.few;
+      answers = h.answers;
+      authorities = h.authorities;
+      text = λ c. ap (drop HEADER_SIZE) same ∙ h.text c;
+      over = h.over;
+    }
+
 -- where the text ends
 pub held_length : (t : Contents) (r : Reply) (buf : List ℕ) → Holds t r buf → r.truncated ≡ false → HEADER_SIZE + length (body_text t) ≡ r.len
 held_length t r buf h whole =

@@ -56,13 +56,13 @@ fn put_fixed(buf: &mut [u8], at: usize, kind: u16, len: u16) -> usize
 {
     let [kind_high, kind_low] = kind.to_be_bytes();
     let [class_high, class_low] = CLASS_IN.to_be_bytes();
-    let [days, hours, minutes, seconds] = TIME_TO_LIVE.to_be_bytes();
+    let [ttl_3, ttl_2, ttl_1, ttl_0] = TIME_TO_LIVE.to_be_bytes();
     let [len_high, len_low] = len.to_be_bytes();
     put(
         buf,
         at,
         &[
-            kind_high, kind_low, class_high, class_low, days, hours, minutes, seconds, len_high,
+            kind_high, kind_low, class_high, class_low, ttl_3, ttl_2, ttl_1, ttl_0, len_high,
             len_low,
         ],
     )
