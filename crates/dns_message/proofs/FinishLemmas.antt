@@ -1,10 +1,8 @@
 -- The text of a finished reply.
-use Rattle.std.proofs.Common.{◌≡◌, ℕ, ◌+◌, ◌<◌, ◌≤◌, List, ◌++◌, length, take, drop, Bool, true, false, refl, sym, ap, ◌∙◌, arith, length-append, nat_le}
+use Rattle.std.proofs.Common.{◌≡◌, ℕ, ◌+◌, ◌<◌, ◌≤◌, List, ◌++◌, length, take, drop, Bool, true, false, refl, ◌∙◌, arith, length-append, nat_le}
 use Rattle.dns_message.specs.Header.{header_text, flags_of_reply}
-use Rattle.dns_message.specs.Query.{question_text}
-use Rattle.dns_message.specs.Replies.{Contents, header_by, body_text, whole_text, truncated_text, reply_text}
+use Rattle.dns_message.specs.Replies.{Contents, header_by, body_text, whole_text, reply_text}
 use Rattle.dns_message.specs.Holding.{Holds}
-use Rattle.dns_message.specs.declared.header.Header.{Header}
 use Rattle.dns_message.specs.declared.numbers.TheConstants.{HEADER_SIZE}
 use Rattle.dns_message.specs.declared.reply.Reply.{Reply}
 use Rattle.dns_message.proofs.BufferLemmas.{under_header}

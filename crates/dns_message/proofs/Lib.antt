@@ -4,3 +4,4 @@ pub mod ReplyLemmas
 pub mod FinishLemmas
 pub mod HeaderLaws
 pub mod QueryLaws
+pub mod ReplyLaws

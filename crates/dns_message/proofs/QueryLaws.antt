@@ -1,13 +1,13 @@
 -- What comes of a message is what the rules say.
-use Rattle.std.proofs.Common.{◌≡◌, ◌≢◌, ℕ, ◌+◌, ◌^◌, ◌<◌, ◌≤◌, ◌==◌, List, [], ◌∷◌, ◌++◌, length, take, drop, Bool, true, false, refl, sym, ap, subst, ◌∙◌, arith, nat_le, nat_lt, if◌then◌else◌, append_assoc, Option, Some, None}
+use Rattle.std.proofs.Common.{◌≡◌, ◌≢◌, ℕ, ◌^◌, ◌<◌, ◌≤◌, ◌==◌, List, ◌++◌, length, take, drop, Bool, true, false, refl, sym, ap, subst, ◌∙◌, arith, nat_lt, if◌then◌else◌, append_assoc, Option, Some, None}
 use Rattle.std.proofs.lemmas.List.{drop_at, take_at, take-append-drop, nil_from_length}
 use Rattle.std.proofs.lemmas.Nat.{from_be_bytes-to_be_bytes_2}
 use Rattle.domain_text.specs.Names.{IsName, wire_of}
 use Rattle.domain_text.specs.Reading.{name_length}
 use Rattle.domain_text.specs.declared.limits.TheConstants.{LONGEST_WIRE}
 use Rattle.domain_text.proofs.NameLaws.{guard, name_found, name_only}
-use Rattle.dns_message.specs.Header.{word_text, header_text, qr_of, opcode_of, IsHeader}
-use Rattle.dns_message.specs.Query.{Query, Reading, question_text, HasHeader, IsStandardQuery, HasOneQuestion, IsQuery, IfQuery, ReadsAs, query_of, asked_of}
+use Rattle.dns_message.specs.Header.{word_text, header_text, qr_of, opcode_of}
+use Rattle.dns_message.specs.Query.{Query, Reading, HasHeader, IsStandardQuery, HasOneQuestion, IsQuery, IfQuery, ReadsAs, query_of, asked_of}
 use Rattle.dns_message.specs.Query.Reading.{Dropped, NotImplemented, FormatError, Asks}
 use Rattle.dns_message.specs.Query.ReadsAs.{no_header, response, other_opcode, no_question, question}
 use Rattle.dns_message.specs.Reading.{word_at, header_at, question_at, query_of_length, query_at, one_question, reading_behind, reading_of}
@@ -19,7 +19,7 @@ use Rattle.dns_message.specs.declared.numbers.TheConstants.{HEADER_SIZE, TYPE_AN
 use Rattle.dns_message.proofs.BufferLemmas.{length-take}
 use Rattle.dns_message.proofs.HeaderLaws.{AreBytes, AreBytes-drop, word_fits, drop-word_at, header_found, header_at-header_text}
 
-below : (a b : ℕ) → b ≤ a → nat_lt a b ≡ false
+pub below : (a b : ℕ) → b ≤ a → nat_lt a b ≡ false
 below a b h = grind arith
 
 not_below : (a b : ℕ) → nat_lt a b ≡ false → b ≤ a
@@ -179,7 +179,7 @@ none_asked h rest are none false e o a = refl
 none_asked h rest are none true e None a = refl
 none_asked h rest are none true e (Some q) a = absurd (none q (query_found h rest q are (was_same h.questions 1 e) a))
 
-behind_response : (h : Header) (rest : List ℕ) → qr_of h.flags ≡ 1 → reading_behind h rest ≡ Dropped
+pub behind_response : (h : Header) (rest : List ℕ) → qr_of h.flags ≡ 1 → reading_behind h rest ≡ Dropped
 unfolding reading_behind
 behind_response h rest is = rw (same_number (qr_of h.flags) 1 is) refl
 

@@ -1,6 +1,6 @@
 -- What a reply says, with more records of a section.
-use Rattle.std.proofs.Common.{◌≡◌, ℕ, ◌+◌, ◌<◌, ◌≤◌, List, [], ◌∷◌, ◌++◌, length, refl, sym, ap, ◌∙◌, arith, append_assoc, length-append}
-use Rattle.std.proofs.lemmas.List.{append-nil}
+use Rattle.std.proofs.Common.{◌≡◌, ℕ, ◌+◌, ◌<◌, List, [], ◌∷◌, ◌++◌, length, get_or, map, take, refl, sym, ap, ◌∙◌, arith, append_assoc, length-append}
+use Rattle.std.proofs.lemmas.List.{append-nil, map_more}
 use Rattle.std.proofs.lemmas.List.Concat.{flat_map-append}
 use Rattle.std.specs.List.{flat_map}
 use Rattle.dns_message.specs.Records.{Record, record_text}
@@ -13,6 +13,12 @@ use Rattle.dns_message.specs.declared.counts.Section.TheVariants.{Answer, Author
 pub with_record-with_records : (s : Section) (rs : List Record) (r : Record) (t : Contents) → with_record s r (with_records s rs t) ≡ with_records s (rs ++ r ∷ []) t
 with_record-with_records Answer rs r t = ap (λ w. record { query = t.query; answer = w; authority = t.authority }) (append_assoc t.answer rs (r ∷ []))
 with_record-with_records Authority rs r t = ap (λ w. record { query = t.query; answer = t.answer; authority = w }) (append_assoc t.authority rs (r ∷ []))
+
+-- those of a list, each a record by this function
+pub with_record-one_more : {A : Type 0} (s : Section) (f : A → Record) (xs : List A) (i : ℕ) (d : A) (t : Contents) → i < length xs
+    → with_record s (f (get_or xs i d)) (with_records s (map f (take i xs)) t) ≡ with_records s (map f (take (i + 1) xs)) t
+with_record-one_more s f xs i d t within =
+    with_record-with_records s (map f (take i xs)) (f (get_or xs i d)) t ∙ ap (λ more. with_records s more t) (sym (map_more f xs i d within))
 
 -- a section stays open while it is added to
 pub MayAdd-with_records : (s : Section) (rs : List Record) (t : Contents) → MayAdd s t → MayAdd s (with_records s rs t)

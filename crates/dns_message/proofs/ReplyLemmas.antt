@@ -1,5 +1,5 @@
 -- A reply that is being written, with one record more.
-use Rattle.std.proofs.Common.{◌≡◌, ℕ, ◌+◌, ◌-◌, ◌<◌, ◌≤◌, List, [], ◌∷◌, ◌++◌, length, take, drop, true, false, refl, sym, ap, ◌∙◌, arith, length-append, length-drop}
+use Rattle.std.proofs.Common.{◌≡◌, ℕ, ◌+◌, ◌-◌, ◌<◌, ◌≤◌, List, ◌++◌, length, take, drop, true, false, refl, sym, ap, ◌∙◌, arith, length-append, length-drop}
 use Rattle.std.proofs.lemmas.List.{take_at}
 use Rattle.std.proofs.lemmas.Grind.{common_steps}
 use Rattle.dns_message.specs.Query.{Query, question_text}
@@ -80,6 +80,26 @@ not_added section rec t r buf h may full =
       authorities = λ c. absurd (cc);
       text = λ c. absurd (cc);
       over = λ c. omega (arith, more, full);
+    }
+
+-- of a buffer its room and its front count
+pub Holds-front : (t : Contents) (r : Reply) (old new : List ℕ) → Holds t r old → r.limit ≤ length new → take r.len new ≡ take r.len old → Holds t r new
+Holds-front t r old new h room same =
+    let start : take r.start new ≡ take r.start old = sym (take-take r.start r.len new h.from) ∙ ap (take r.start) same ∙ take-take r.start r.len old h.from in
+    record {
+      room = room;
+      small = h.small;
+      id = h.id;
+      flags = h.flags;
+      start = h.start;
+      from = h.from;
+      within = h.within;
+      question = ap (drop HEADER_SIZE) start ∙ h.question;
+      few = h.few;
+      answers = h.answers;
+      authorities = h.authorities;
+      text = λ c. ap (drop HEADER_SIZE) same ∙ h.text c;
+      over = h.over;
     }
 
 -- where the text ends

@@ -1,5 +1,5 @@
 -- The header of a message (RFC 1035, 4.1.1), and the fields of its flags.
-use Rattle.std.specs.Prelude.{ℕ, ◌+◌, ◌*◌, ◌/◌, ◌%◌, ◌<◌, ◌≤◌, ◌^◌, if◌then◌else◌, Bool, List, ◌++◌}
+use Rattle.std.specs.Prelude.{ℕ, ◌+◌, ◌*◌, ◌/◌, ◌%◌, ◌<◌, ◌^◌, if◌then◌else◌, Bool, List, ◌++◌}
 use Rattle.std.specs.Int.{w16, to_be_bytes}
 use Rattle.dns_message.specs.declared.header.Header.{Header}
 

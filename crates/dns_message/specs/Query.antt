@@ -1,5 +1,5 @@
 -- What comes of a message, by the rules of RFC 1035, 4.1.
-use Rattle.std.specs.Prelude.{◌≡◌, ◌≢◌, ℕ, ◌<◌, ◌≤◌, ◌^◌, List, ◌++◌, length}
+use Rattle.std.specs.Prelude.{◌≡◌, ◌≢◌, ℕ, ◌<◌, ◌^◌, List, ◌++◌, length}
 use Rattle.domain_text.specs.Names.{IsName}
 use Rattle.dns_message.specs.Header.{word_text, header_text, qr_of, opcode_of, IsHeader}
 use Rattle.dns_message.specs.declared.header.Header.{Header}

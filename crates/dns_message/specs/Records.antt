@@ -12,6 +12,9 @@ pub record Record : Type 0 where
   pub kind : ℕ
   pub rdata : List ℕ
 
+abbrev pub record_of : List ℕ → ℕ → List ℕ → Record
+record_of owner kind rdata = record { owner = owner; kind = kind; rdata = rdata }
+
 -- a pointer to a name at an offset: two bits 1, and the offset (RFC 1035, 4.1.4)
 abbrev pub pointer_to : ℕ → List ℕ
 pointer_to offset = word_text (2 ^ 15 + 2 ^ 14 + offset)

@@ -1,5 +1,5 @@
 -- Replies (RFC 1035, 4.1): header, question, answer and authority.
-use Rattle.std.specs.Prelude.{ℕ, nat_le, if◌then◌else◌, Bool, true, false, List, ◌++◌, length}
+use Rattle.std.specs.Prelude.{ℕ, nat_le, if◌then◌else◌, Bool, true, false, List, [], ◌++◌, length}
 use Rattle.std.specs.List.{flat_map}
 use Rattle.dns_message.specs.Header.{header_text, flags_of_reply}
 use Rattle.dns_message.specs.Query.{Query, question_text}
@@ -11,6 +11,9 @@ pub record Contents : Type 0 where
   pub query : Query
   pub answer : List Record
   pub authority : List Record
+
+abbrev pub without_records : Query → Contents
+without_records q = record { query = q; answer = []; authority = [] }
 
 -- a header of one question and so many records (4.1.1)
 abbrev pub header_by : ℕ → ℕ → ℕ → ℕ → Header

@@ -3,6 +3,7 @@
 
 mod counts;
 mod header;
+mod law;
 mod name;
 mod numbers;
 mod query;
@@ -12,6 +13,7 @@ mod reply;
 mod write;
 
 pub use counts::Section;
+pub use law::{replies_end, same_front};
 pub use numbers::{GREATEST_LIMIT, HEADER_SIZE, LEAST_LIMIT, TIME_TO_LIVE};
 pub use query::{Asked, Question, read_query};
 pub use reply::{Reply, bare};

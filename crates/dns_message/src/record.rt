@@ -2,7 +2,7 @@ ghost use Rattle.std.specs.Prelude.{◌≡◌, ◌+◌, ◌≤◌, ◌<◌, ◌^
 ghost use Rattle.std.specs.Str.{bytes_eq};
 ghost use Rattle.domain_text.specs.Names.{lower};
 ghost use Rattle.dns_message.specs.Query.{question_text, query_of};
-ghost use Rattle.dns_message.specs.Records.{owner_by, fixed_text, text_by};
+ghost use Rattle.dns_message.specs.Records.{owner_by, fixed_text, text_by, record_of};
 ghost use Rattle.dns_message.specs.declared.numbers.TheConstants.{HEADER_SIZE, FIXED_SIZE, GREATEST_LIMIT};
 
 use crate::numbers::{CLASS_IN, FIXED_SIZE, GREATEST_LIMIT, HEADER_SIZE, POINTER, TIME_TO_LIVE};
@@ -56,13 +56,13 @@ fn put_fixed(buf: &mut [u8], at: usize, kind: u16, len: u16) -> usize
 {
     let [kind_high, kind_low] = kind.to_be_bytes();
     let [class_high, class_low] = CLASS_IN.to_be_bytes();
-    let [days, hours, minutes, seconds] = TIME_TO_LIVE.to_be_bytes();
+    let [ttl_3, ttl_2, ttl_1, ttl_0] = TIME_TO_LIVE.to_be_bytes();
     let [len_high, len_low] = len.to_be_bytes();
     put(
         buf,
         at,
         &[
-            kind_high, kind_low, class_high, class_low, days, hours, minutes, seconds, len_high,
+            kind_high, kind_low, class_high, class_low, ttl_3, ttl_2, ttl_1, ttl_0, len_high,
             len_low,
         ],
     )
@@ -82,8 +82,9 @@ pub(crate) fn append_record(
     requires room { limit ≤ length buf.old }
     requires within { len ≤ limit }
     requires limit { limit ≤ GREATEST_LIMIT }
-    ensures some { IfSome result (λ n. (n ≤ limit) × (take n buf.new ≡ take len buf.old ++ text_by is_asked (record { owner = owner.now; kind = kind; rdata = rdata.now }))) }
-    ensures none { IfNone result (limit < len + length (text_by is_asked (record { owner = owner.now; kind = kind; rdata = rdata.now }))) }
+    ensures some { IfSome result (λ end. (end ≤ limit)
+        × (take end buf.new ≡ take len buf.old ++ text_by is_asked (record_of owner.now kind rdata.now))) }
+    ensures none { IfNone result (limit < len + length (text_by is_asked (record_of owner.now kind rdata.now))) }
     ensures same { IfNone result (buf.new ≡ buf.old) }
 {
     let size = owner_size(is_asked, owner);

@@ -1,8 +1,8 @@
-ghost use Rattle.std.specs.Prelude.{◌≡◌, ◌+◌, ◌≤◌, ◌<◌, [], take};
-ghost use Rattle.std.specs.Prelude.{length};
+ghost use Rattle.std.specs.Prelude.{◌≡◌, ◌≤◌, length, take};
 ghost use Rattle.domain_text.specs.Names.{IsName};
 ghost use Rattle.dns_message.specs.Query.{query_of};
-ghost use Rattle.dns_message.specs.Replies.{Contents, reply_text, bare_text};
+ghost use Rattle.dns_message.specs.Records.{record_of};
+ghost use Rattle.dns_message.specs.Replies.{Contents, without_records, reply_text, bare_text};
 ghost use Rattle.dns_message.specs.Holding.{Holds, with_record, MayAdd};
 ghost use Rattle.dns_message.specs.declared.numbers.TheConstants.{HEADER_SIZE, LEAST_LIMIT, GREATEST_LIMIT};
 
@@ -14,7 +14,7 @@ use crate::record::{append_record, is_asked, put_question};
 use domain_text::Name;
 
 /// A reply that is being written into a buffer. It keeps lengths and counts, and no buffer: each call is given the
-/// buffer again, with the bytes that the call before left at its front. Its header is written last.
+/// buffer again, which begins with the bytes that the call before left. The header is written last.
 #[derive(Drop)]
 pub struct Reply {
     id: u16,
@@ -31,13 +31,13 @@ pub struct Reply {
 }
 
 impl Reply {
-    /// A reply to this query without records, of at most so many bytes.
+    /// A reply to this query, without records yet, of at most so many bytes: 512 to 65,535.
     pub fn new(buf: &mut [u8], limit: usize, asked: &Question<'_>) -> Reply
         requires room { limit ≤ length buf.old }
         requires least { LEAST_LIMIT ≤ limit }
         requires greatest { limit ≤ GREATEST_LIMIT }
         requires name { IsName asked.now.name.now }
-        ensures holds { Holds (record { query = query_of asked.now; answer = []; authority = [] }) result buf.new }
+        ensures holds { Holds (without_records (query_of asked.now)) result buf.new }
         ensures limit { result.limit ≡ limit }
     {
         let end = put_question(buf, asked);
@@ -52,12 +52,12 @@ impl Reply {
         }
     }
 
-    /// Adds a record of class IN (RFC 1035, 4.1.3) to a section, answers before authority. Where it passes the limit,
-    /// the reply has no records and TC.
+    /// Adds a record of class IN (RFC 1035, 4.1.3) to a section, answers before authority. A reply whose records
+    /// pass the limit will have none, and TC.
     pub fn add(&mut self, buf: &mut [u8], section: Section, owner: &Name, kind: u16, rdata: &[u8])
         requires holds { (t : Contents) × Holds t self.old buf.old × MayAdd section t }
         ensures holds { (t : Contents) → Holds t self.old buf.old → MayAdd section t
-            → Holds (with_record section (record { owner = owner.now; kind = kind; rdata = rdata.now }) t) self.new buf.new }
+            → Holds (with_record section (record_of owner.now kind rdata.now) t) self.new buf.new }
         ensures limit { self.new.limit ≡ self.old.limit }
     {
         self.add_wire(buf, section, owner.wire(), kind, rdata);
@@ -67,7 +67,7 @@ impl Reply {
     fn add_wire(&mut self, buf: &mut [u8], section: Section, owner: &[u8], kind: u16, rdata: &[u8])
         requires holds { (t : Contents) × Holds t self.old buf.old × MayAdd section t }
         ensures holds { (t : Contents) → Holds t self.old buf.old → MayAdd section t
-            → Holds (with_record section (record { owner = owner.now; kind = kind; rdata = rdata.now }) t) self.new buf.new }
+            → Holds (with_record section (record_of owner.now kind rdata.now) t) self.new buf.new }
         ensures limit { self.new.limit ≡ self.old.limit }
     {
         if self.truncated {
@@ -86,7 +86,8 @@ impl Reply {
     /// Writes the header, and gives the bytes of the reply. Of RCODE the four low bits are written.
     pub fn finish(self, buf: &mut [u8], rcode: u8, aa: bool) -> usize
         requires { (t : Contents) × Holds t self buf.old }
-        ensures text { (t : Contents) → Holds t self buf.old → take result buf.new ≡ reply_text self.limit t rcode aa }
+        ensures text { (t : Contents) → Holds t self buf.old
+            → take result buf.new ≡ reply_text self.limit t rcode aa }
         ensures within { result ≤ self.limit }
     {
         let Reply {

@@ -1,4 +1,4 @@
-use Rattle.std.proofs.Common.{◌≡◌, ◌∙◌, ◌++◌, ap, ap₂, take, drop, true, false}
+use Rattle.std.proofs.Common.{◌∙◌, ◌++◌, ap, ap₂, take, drop}
 use Rattle.dns_message.specs.Header.{header_text, flags_of_reply}
 use Rattle.dns_message.specs.Replies.{header_by}
 use Rattle.dns_message.specs.declared.numbers.TheConstants.{HEADER_SIZE}
