@@ -10,7 +10,7 @@ pub struct Failed;
 ///
 /// Places and lengths are in bytes. Until a sync of a file succeeds, a crash may leave any bytes where
 /// writes and cuts touched it, and any length between the least and the greatest since the last sync.
-/// A disk need not tell its files; then only the clauses on its faults say something.
+/// A disk need not tell its files; then only what is said of its faults and of the count of a read holds.
 pub trait Disk {
     /// Whether a disk of this type tells its files.
     ghost tells: { Bool };
