@@ -45,6 +45,10 @@ fn host_shown(alloc: Global, text: &[u8], own: &[u8]) -> Result<String, Fail> {
     Ok(format!(in alloc; "{} {}", word(host.form()), name)?)
 }
 
+fn same_bytes(rt: &impl Abort, got: &[u8], want: &[u8]) {
+    assert_eq!(rt; got, want);
+}
+
 fn same(rt: &impl Abort, got: &str, want: &str) {
     assert_eq!(rt; got, want);
 }
@@ -93,23 +97,28 @@ fn addresses(rt: HostRuntime) -> Result<(), Fail> {
     Ok(())
 }
 
-/// Names of one, of no and of too many bytes; labels of too many, cut off, and of any bytes.
+/// Whether bytes are a name.
+fn is_name(rt: &impl Abort, wire: &[u8], want: bool) {
+    let got = Name::from_wire(wire).is_some();
+    assert!(rt; got == want, "{}", wire.len());
+}
+
+/// Names of one byte and of the most, labels of any bytes; labels and names of too many, cut off, and with more behind.
 #[test]
 fn names(rt: HostRuntime) {
-    let long = [1; 256];
-    let mut most = [1; 255];
-    most[254] = 0;
-    assert!(rt; Name::from_wire(&[0]).is_some());
-    assert!(rt; Name::from_wire(&most).is_some());
-    assert!(rt; Name::from_wire(&long).is_none());
-    let (mut all, mut label) = ([1; 257], [64; 66]);
-    all[256] = 0;
+    let mut bytes = [1; 258];
+    bytes[254] = 0;
+    bytes[257] = 0;
+    is_name(&rt, &bytes[..255], true);
+    is_name(&rt, &bytes[1..], false);
+    is_name(&rt, &[0], true);
+    is_name(&rt, &[], false);
+    is_name(&rt, b"\x03www", false);
+    is_name(&rt, b"\x01a\0\0", false);
+    is_name(&rt, b"\x02\0\xff\0", true);
+    let mut label = [64; 66];
     label[65] = 0;
-    assert!(rt; Name::from_wire(&all).is_none());
-    assert!(rt; Name::from_wire(&label).is_none());
-    assert!(rt; Name::from_wire(b"\x03www").is_none());
-    assert!(rt; Name::from_wire(b"\x01a\0\0").is_none());
-    assert!(rt; Name::from_wire(b"\x02\0\xff\0").is_some());
+    is_name(&rt, &label, false);
 }
 
 /// Case is that of ASCII alone.
@@ -117,7 +126,7 @@ fn names(rt: HostRuntime) {
 fn cases(rt: HostRuntime) -> Result<(), Fail> {
     let name = Name::from_wire(b"\x03WwZ\x02\xc3\x80\0").ok_or("no name")?;
     let low = name.lower();
-    assert!(rt; low.wire() == b"\x03wwz\x02\xc3\x80\0".as_slice());
+    same_bytes(&rt, low.wire(), b"\x03wwz\x02\xc3\x80\0");
     assert!(rt; name.same(&low) && !name.same(&Name::root()));
     Ok(())
 }
@@ -125,7 +134,7 @@ fn cases(rt: HostRuntime) -> Result<(), Fail> {
 #[test]
 fn absolute_hosts(rt: HostRuntime) -> Result<(), Fail> {
     let name = absolute_name(b"ns.example.").ok_or("no name")?;
-    assert!(rt; name.wire() == b"\x02ns\x07example\0".as_slice());
+    same_bytes(&rt, name.wire(), b"\x02ns\x07example\0");
     assert!(rt; absolute_name(b"ns.example").is_none());
     Ok(())
 }

@@ -1,13 +1,12 @@
 -- Lists of elements.
-use Rattle.std.proofs.Common.{◌≡◌, ℕ, ◌+◌, ◌-◌, ◌/◌, ◌<◌, ◌≤◌, List, [], ◌∷◌, ◌++◌, length, take, drop, map, suc, append_assoc, length-drop, Option, Some, None, refl, sym, ap, ◌∙◌, arith, Bool, true, false}
-use Rattle.std.specs.List.{filter_map, list_all}
-use Rattle.std.specs.Str.{IsUtf8}
-use Rattle.serde_json.specs.Data.{Data, null, boolean, number, string, array, object, Items, no_items, item}
+use Rattle.std.proofs.Common.{◌≡◌, ℕ, ◌-◌, ◌/◌, ◌<◌, List, [], ◌∷◌, ◌++◌, length, take, drop, suc, append_assoc, length-drop, Option, Some, None, refl, sym, ap, ◌∙◌, arith}
+use Rattle.std.specs.List.{filter_map}
+use Rattle.serde_json.specs.Data.{Data, null, boolean, number, string, array, object, Items}
 use Rattle.serde_json.specs.Find.{as_array}
 use Rattle.serde_json.specs.View.{view, items_view}
 use Rattle.serde_json.specs.declared.value.Value.{Value}
-use Rattle.ifa_value.specs.Shapes.{strings, cut_after}
-use Rattle.ifa_value.specs.Elements.{each, onto, one_or_list, list_only, alone}
+use Rattle.ifa_value.specs.Shapes.{strings, cut_after, txt}
+use Rattle.ifa_value.specs.Elements.{each, onto, one_or_list, list_only}
 
 pub onto_step : {A B : Type 0} (f : B → Option A) (x : B) (xs : List B) (r : Option A) → f x ≡ r → filter_map f (x ∷ xs) ≡ onto r (filter_map f xs)
 onto_step f x xs (Some a) e = rw e refl
@@ -40,3 +39,11 @@ cut_step rest h =
 
 pub strings_step : (out rest front more : List ℕ) → 255 < length rest → front ≡ take 255 rest → more ≡ drop 255 rest → ((out ++ 255 ∷ []) ++ front) ++ strings more ≡ out ++ strings rest
 strings_step out rest front more h f m = rw (cut_step rest h, f, m) (simp append_assoc)
+
+pub txt-array : (d : Data) (ds : Items) → Some ds ≡ as_array d → txt d ≡ txt (array ds)
+txt-array null ds e = absurd (cc)
+txt-array (boolean b) ds e = absurd (cc)
+txt-array (number n) ds e = absurd (cc)
+txt-array (string s) ds e = absurd (cc)
+txt-array (array es) ds e = let same : es ≡ ds = cc in ap (λ xs. txt (array xs)) same
+txt-array (object ms) ds e = absurd (cc)

@@ -1,6 +1,6 @@
 //! Shapes that elements of several items share.
 
-ghost use Rattle.std.specs.Prelude.{◌≡◌, Some, None, IfOk};
+ghost use Rattle.std.specs.Prelude.{◌≡◌, ◌≤◌, Some, None, IfOk, IfSome};
 ghost use Rattle.std.specs.Option.{option_map};
 ghost use Rattle.serde_json.specs.View.{view};
 ghost use Rattle.ifa_value.specs.Shapes.{whole as whole_of, digest as digest_of, host as host_of, two as two_of, three as three_of, four as four_of};
@@ -12,28 +12,33 @@ use nmc_base::{Bytes, NoMemory};
 use serde_json::Value;
 use std::alloc::Global;
 
+/// A whole number up to the greatest.
+fn whole(value: &Value, greatest: u64) -> Option<u64>
+    ensures value { result ≡ whole_of greatest (view value.now) }
+    ensures bound { IfSome result (λ n. n ≤ greatest) }
+{
+    let number = value.as_u64()?;
+    if number <= greatest {
+        Some(number)
+    } else {
+        None
+    }
+}
+
 /// A whole number of 16 bits.
 pub(crate) fn whole16(value: &Value) -> Option<u16>
     ensures { result ≡ whole_of 65535 (view value.now) }
 {
-    let number = value.as_u64()?;
-    if number <= 65535 {
-        Some(number as u16)
-    } else {
-        None
-    }
+    let number = whole(value, 65535)?;
+    Some(number as u16)
 }
 
 /// A whole number of 8 bits.
 pub(crate) fn whole8(value: &Value) -> Option<u8>
     ensures { result ≡ whole_of 255 (view value.now) }
 {
-    let number = value.as_u64()?;
-    if number <= 255 {
-        Some(number as u8)
-    } else {
-        None
-    }
+    let number = whole(value, 255)?;
+    Some(number as u8)
 }
 
 /// The bytes of padded base64 text, at least one.

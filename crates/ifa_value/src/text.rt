@@ -1,6 +1,7 @@
 //! Texts, cut into strings of up to 255 bytes (RFC 1035, 3.3).
 
 ghost use Rattle.std.specs.Prelude.{◌≡◌, ◌++◌, IfOk, OnOk};
+ghost use Rattle.serde_json.specs.Data.{array};
 ghost use Rattle.serde_json.specs.View.{view, items_view};
 ghost use Rattle.ifa_value.specs.Shapes.{strings as strings_of, texts as texts_of, txt as txt_of};
 
@@ -49,6 +50,16 @@ fn one_text(alloc: Global, text: &[u8]) -> Result<Bytes, NoMemory>
     Ok(out)
 }
 
+/// The strings of the texts of a list, which isn't empty.
+fn list_of_texts(alloc: Global, values: &[Value]) -> Result<Option<Bytes>, NoMemory>
+    ensures { IfOk result (λ t. t ≡ txt_of (array (items_view values.now))) }
+{
+    match values.split_first() {
+        Some(_) => texts(alloc, values),
+        None => Ok(None),
+    }
+}
+
 /// The data of one record: a text, or the texts of a list that isn't empty.
 pub(crate) fn txt(alloc: Global, value: &Value) -> Result<Option<Bytes>, NoMemory>
     ensures { IfOk result (λ t. t ≡ txt_of (view value.now)) }
@@ -58,12 +69,7 @@ pub(crate) fn txt(alloc: Global, value: &Value) -> Result<Option<Bytes>, NoMemor
         None => {}
     }
     match value.as_array() {
-        Some(list) => {
-            if list.len() == 0 {
-                return Ok(None);
-            }
-            texts(alloc, list.as_slice())
-        }
+        Some(list) => list_of_texts(alloc, list.as_slice()),
         None => Ok(None),
     }
 }

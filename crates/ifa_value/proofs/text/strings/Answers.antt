@@ -1,5 +1,4 @@
-use Rattle.std.proofs.Common.{sym, ◌∙◌, rules, arith}
-use Rattle.std.proofs.lemmas.Grind.{common_steps}
+use Rattle.std.proofs.Common.{◌∙◌}
 use Rattle.ifa_value.proofs.ListLemmas.{strings_step}
 use Rattle.ifa_value.proofs.text.strings.Goals as goal
 
