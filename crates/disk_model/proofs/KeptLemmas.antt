@@ -81,34 +81,47 @@ widens_files file failed files widens image is k low =
       | false ↦ is k low
     ]
 
-module _ (change : FileState → FileState → Type 0) (old new : DiskLog) (file : ℕ) (first : new.first ≡ old.first) (none : change ((moments_of old).now file) ((moments_of old).now file)) where
-  abbrev Goes : Moments → Type 0
-  Goes m = EachMoment (Changes file change (moments_of old).now) (moments_of old) m
+-- from a moment to the next one, where a fact of the files holds before a call and after it
+time_listed : (P : Files → Type 0) (old new : Moments) (call : DiskCall) → new ≡ after old (after_call call old.now) → P old.now → P (after_call call old.now) → EachMoment P old new
+time_listed P old new call is before later = subst (λ (m : Moments). EachMoment P old m) (sym is) (more old (after_call call old.now) (start before) later)
 
-  started : EachMoment (Changes file change (moments_of old).now) (moments_of old) (moments_of old)
-  started = start (record { here = none; others = λ other differ. refl })
+-- at the same moment, where the failed call leaves each image possible
+time_together : (P : Files → Type 0) (old new : Moments) (failed : DiskCall) → new ≡ instead old (after_call failed old.now) → Widens old.now (after_call failed old.now) → P old.now
+    → P (after_call failed old.now) → EachMoment P old new
+time_together P old new failed is widens before later = subst (λ (m : Moments). EachMoment P old m) (sym is) (wider old (after_call failed old.now) widens (start before) later)
 
-  time_listed : (effect : Effect) → KeptInList (call_on file effect) old new → change ((moments_of old).now file) (effect_on effect ((moments_of old).now file))
-      → EachMoment (Changes file change (moments_of old).now) (moments_of old) (moments_of new)
-  time_listed effect kept so =
-      subst Goes (sym (moments_listed old new (call_on file effect) first kept))
-      (more (moments_of old) (after_call (call_on file effect) (moments_of old).now) started (changes_by change file effect (moments_of old).now so))
+-- a call on a file: what it does, and what it touches where it fails
+record FileCall : Type 0 where
+  file : ℕ
+  done : Effect
+  failed : Effect
 
-  time_together : (failed : Effect) → WidensFile failed → KeptTogether (call_on file failed) old new → change ((moments_of old).now file) (effect_on failed ((moments_of old).now file))
-      → EachMoment (Changes file change (moments_of old).now) (moments_of old) (moments_of new)
-  time_together failed widens kept so =
-      subst Goes (sym (moments_together old new (call_on file failed) first kept))
-      (wider (moments_of old) (after_call (call_on file failed) (moments_of old).now) (widens_files file failed (moments_of old).now widens) started
-      (changes_by change file failed (moments_of old).now so))
+-- The change is made by the call, done or failed, and by nothing too; where it fails, each image stays possible.
+record Makes (change : FileState → FileState → Type 0) (call : FileCall) (s : FileState) : Type 0 where
+  none : change s s
+  by_done : change s (effect_on call.done s)
+  by_failed : change s (effect_on call.failed s)
+  widens : WidensFile call.failed
 
-  pub time_kept : {T E : Type 0} (done failed : Effect) → WidensFile failed → (result : Result T E) → KeepsCall (call_on file done) (call_on file failed) old new result
-      → change ((moments_of old).now file) (effect_on done ((moments_of old).now file)) → change ((moments_of old).now file) (effect_on failed ((moments_of old).now file))
-      → EachMoment (Changes file change (moments_of old).now) (moments_of old) (moments_of new)
-  time_kept done failed widens (Ok x) keeps so not_so = time_listed done keeps.ok.kept so
-  time_kept done failed widens (Err e) keeps so not_so = elim keeps.err.kept [
-    | inl listed ↦ time_listed failed listed not_so
-    | inr together ↦ time_together failed widens together not_so
-  ]
+time_kept : {T E : Type 0} (change : FileState → FileState → Type 0) (call : FileCall) (old new : DiskLog) (result : Result T E)
+    → KeepsCall (call_on call.file call.done) (call_on call.file call.failed) old new result → Makes change call ((moments_of old).now call.file)
+    → EachMoment (Changes call.file change (moments_of old).now) (moments_of old) (moments_of new)
+time_kept change call old new (Ok x) keeps makes =
+    let files = (moments_of old).now in
+    let done = call_on call.file call.done in
+    time_listed (Changes call.file change files) (moments_of old) (moments_of new) done (moments_listed old new done keeps.first keeps.ok.kept)
+    (record { here = makes.none; others = λ other differ. refl }) (changes_by change call.file call.done files makes.by_done)
+time_kept change call old new (Err e) keeps makes =
+    let files = (moments_of old).now in
+    let failed = call_on call.file call.failed in
+    let before : Changes call.file change files files = record { here = makes.none; others = λ other differ. refl } in
+    let later = changes_by change call.file call.failed files makes.by_failed in
+    elim keeps.err.kept [
+      | inl listed ↦ time_listed (Changes call.file change files) (moments_of old) (moments_of new) failed (moments_listed old new failed keeps.first listed) before later
+      | inr together ↦
+          time_together (Changes call.file change files) (moments_of old) (moments_of new) failed (moments_together old new failed keeps.first together)
+          (widens_files call.file call.failed files makes.widens) before later
+    ]
 
 module _ {T E : Type 0} (old new : DiskLog) (file : ℕ) (result : Result T E) where
   pub write_time : (at : ℕ) (bytes : List ℕ) → at ≤ length (seen (moments_of old) file)
@@ -116,22 +129,34 @@ module _ {T E : Type 0} (old new : DiskLog) (file : ℕ) (result : Result T E) w
       → EachMoment (Changes file (AfterWrite at (length bytes)) (moments_of old).now) (moments_of old) (moments_of new)
   write_time at bytes inside keeps =
       let s = (moments_of old).now file in
-      time_kept (AfterWrite at (length bytes)) old new file keeps.first (AfterWrite_refl at (length bytes) s) (written at bytes) (write_failed at (length bytes))
-      (widens_write at (length bytes)) result keeps (AfterWrite-written at bytes s inside) (AfterWrite-failed at (length bytes) s)
+      time_kept (AfterWrite at (length bytes)) (record { file = file; done = written at bytes; failed = write_failed at (length bytes) }) old new result keeps (record {
+        none = AfterWrite_refl at (length bytes) s;
+        by_done = AfterWrite-written at bytes s inside;
+        by_failed = AfterWrite-failed at (length bytes) s;
+        widens = widens_write at (length bytes);
+      })
 
   pub cut_time : (count : ℕ) → KeepsCall (call_on file (cut_to count)) (call_on file (cut_failed count)) old new result
       → EachMoment (Changes file (AfterCut count) (moments_of old).now) (moments_of old) (moments_of new)
   cut_time count keeps =
       let s = (moments_of old).now file in
-      time_kept (AfterCut count) old new file keeps.first (AfterCut_refl count s) (cut_to count) (cut_failed count) (widens_cut count) result keeps
-      (AfterCut-cut count s) (AfterCut-failed count s)
+      time_kept (AfterCut count) (record { file = file; done = cut_to count; failed = cut_failed count }) old new result keeps (record {
+        none = AfterCut_refl count s;
+        by_done = AfterCut-cut count s;
+        by_failed = AfterCut-failed count s;
+        widens = widens_cut count;
+      })
 
   pub sync_time : KeepsCall (call_on file synced) (call_on file looked) old new result
       → EachMoment (Changes file AfterSync (moments_of old).now) (moments_of old) (moments_of new)
   sync_time keeps =
       let s = (moments_of old).now file in
-      time_kept AfterSync old new file keeps.first (AfterSync_refl s) synced looked widens_look result keeps
-      (AfterSync-synced (last_of old file) s (sound_of old file)) (AfterSync_refl s)
+      time_kept AfterSync (record { file = file; done = synced; failed = looked }) old new result keeps (record {
+        none = AfterSync_refl s;
+        by_done = AfterSync-synced (last_of old file) s (sound_of old file);
+        by_failed = AfterSync_refl s;
+        widens = widens_look;
+      })
 
 -- a look leaves the files
 same_either : (b : Bool) (s : FileState) → (if b then s else s) ≡ s

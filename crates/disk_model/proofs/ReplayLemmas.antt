@@ -1,15 +1,13 @@
 -- How a file that is built again goes on with one call more, and what its images are.
-use Rattle.std.proofs.Common.{◌≡◌, ◌≢◌, ℕ, min, ◌+◌, ◌<◌, ◌≤◌, List, [], ◌∷◌, ◌++◌, length, take, get_or, Bool, true, false, ◌==◌, Vec, refl, sym, ◌∙◌, ap, subst, arith}
-use Rattle.std.specs.Prelude.{if◌then◌else◌, ◌&&◌, nat_lt, slice_index, slice_index_or, None, Some, Result, Ok, Err, IfOk}
-use Rattle.std.specs.declared.alloc.Global.{Global}
+use Rattle.std.proofs.Common.{◌≡◌, ◌≢◌, ℕ, min, ◌+◌, ◌<◌, ◌≤◌, List, [], ◌∷◌, ◌++◌, length, take, get_or, Bool, true, false, ◌==◌, refl, sym, ◌∙◌, ap, subst, arith}
+use Rattle.std.specs.Prelude.{if◌then◌else◌, ◌&&◌, nat_lt, slice_index, slice_index_or, Option, None, Some, Result, Ok, Err, IfOk}
 use Rattle.std.proofs.lemmas.Bool.Decides.{nat_tests}
 use Rattle.std.proofs.lemmas.List.{map-append, take_more, take_min, take_all, take-map}
-use Rattle.fault_counts.specs.Counts.{Counts}
 use Rattle.disk_model.specs.FileState.{FileState, IsFileImage, synced_file}
-use Rattle.disk_model.specs.Moments.{Moments, after, IsImage}
+use Rattle.disk_model.specs.Moments.{Files, Moments, after, IsImage}
 use Rattle.disk_model.specs.Calls.{DiskCall, effect_on, left_by, step, after_call, file_from, last_sync, moments_from}
 use Rattle.disk_model.specs.Touched.{Touched, touched_at, touch}
-use Rattle.disk_model.specs.Kept.{effect_of, call_of, calls_of}
+use Rattle.disk_model.specs.Kept.{call_of, calls_of}
 use Rattle.disk_model.specs.MemoryLog.{DiskLog, first_files, moments_after, moments_touched, moments_of, files_at, synced_at}
 use Rattle.disk_model.specs.Chosen.{IsChosen}
 use Rattle.disk_model.specs.Sound.{IsSound, sound_from, sound_of, sound_synced}
@@ -40,38 +38,40 @@ same_test a b same = grind (arith, nat_tests)
 other_test : (a b : ℕ) → a ≢ b → (a == b) ≡ false
 other_test a b differ = grind (arith, nat_tests)
 
-module _ (first : List ℕ) (file : ℕ) (calls : List KeptCall) (i : ℕ) (call : KeptCall) (low : i < length calls) (is : call ≡ get_or calls i call) where
-  abbrev start : FileState
-  start = synced_file first
+-- one call more of those that are kept
+pub one_more : (calls : List KeptCall) (i : ℕ) (call : KeptCall) → i < length calls → call ≡ get_or calls i call
+    → calls_of (take (i + 1) calls) ≡ calls_of (take i calls) ++ call_of call ∷ []
+one_more calls i call low is =
+    ap calls_of (take_more calls i call low) ∙ map-append call_of (take i calls) (get_or calls i call ∷ [])
+    ∙ ap (λ (k : KeptCall). calls_of (take i calls) ++ call_of k ∷ []) (sym is)
 
+-- it is the file after these calls, of which a disk held this first
+abbrev pub ReplayedTo : Replay → List ℕ → ℕ → List DiskCall → Type 0
+ReplayedTo r first file calls = IsReplayed r (last_sync file first (synced_file first) calls) (file_from file (synced_file first) calls)
+
+module _ (first : List ℕ) (file : ℕ) (calls : List DiskCall) (call : DiskCall) (r : Replay) where
   abbrev state : FileState
-  state = file_from file (synced_file first) (calls_of (take i calls))
+  state = file_from file (synced_file first) calls
 
   abbrev last : List ℕ
-  last = last_sync file first (synced_file first) (calls_of (take i calls))
+  last = last_sync file first (synced_file first) calls
 
-  one_more : calls_of (take (i + 1) calls) ≡ calls_of (take i calls) ++ call_of call ∷ []
-  one_more =
-      ap calls_of (take_more calls i call low) ∙ map-append call_of (take i calls) (get_or calls i call ∷ [])
-      ∙ ap (λ (k : KeptCall). calls_of (take i calls) ++ call_of k ∷ []) (sym is)
+  goes_on : (b : Bool) → (call.file == file) ≡ b
+      → IsReplayed r (if b then left_by call.effect (file_from file (synced_file first) calls) (last_sync file first (synced_file first) calls) else last_sync file first (synced_file first) calls)
+      (if b then effect_on call.effect (file_from file (synced_file first) calls) else file_from file (synced_file first) calls)
+      → ReplayedTo r first file (calls ++ call ∷ [])
+  goes_on b test so =
+      let at_test = subst (λ x. IsReplayed r (if x then left_by call.effect state last else last) (if x then effect_on call.effect state else state)) (sym test) so in
+      subst (λ (l : List ℕ). IsReplayed r l (file_from file (synced_file first) (calls ++ call ∷ []))) (sym (last_sync-push file first (synced_file first) calls call))
+      (subst (λ (s : FileState). IsReplayed r (if call.file == file then left_by call.effect state last else last) s) (sym (file_from-push file (synced_file first) calls call)) at_test)
 
-  goes_on : (r : Replay) (b : Bool) → (call.file == file) ≡ b
-      → IsReplayed r (if b then left_by (effect_of call.effect) (file_from file (synced_file first) (calls_of (take i calls))) (last_sync file first (synced_file first) (calls_of (take i calls))) else (last_sync file first (synced_file first) (calls_of (take i calls)))) (if b then effect_on (effect_of call.effect) (file_from file (synced_file first) (calls_of (take i calls))) else (file_from file (synced_file first) (calls_of (take i calls))))
-      → IsReplayed r (last_sync file first (synced_file first) (calls_of (take (i + 1) calls))) (file_from file (synced_file first) (calls_of (take (i + 1) calls)))
-  goes_on r b test so =
-      let at_test = subst (λ x. IsReplayed r (if x then left_by (effect_of call.effect) state last else last) (if x then effect_on (effect_of call.effect) state else state)) (sym test) so in
-      let file_is = ap (λ (l : List DiskCall). file_from file start l) one_more ∙ file_from-push file start (calls_of (take i calls)) (call_of call) in
-      let last_is = ap (λ (l : List DiskCall). last_sync file first start l) one_more ∙ last_sync-push file first start (calls_of (take i calls)) (call_of call) in
-      subst (λ (l : List ℕ). IsReplayed r l (file_from file (synced_file first) (calls_of (take (i + 1) calls)))) (sym last_is)
-      (subst (λ (s : FileState). IsReplayed r (if call.file == file then left_by (effect_of call.effect) state last else last) s) (sym file_is) at_test)
+  pub replay_hit : call.file ≡ file
+      → IsReplayed r (left_by call.effect (file_from file (synced_file first) calls) (last_sync file first (synced_file first) calls)) (effect_on call.effect (file_from file (synced_file first) calls))
+      → ReplayedTo r first file (calls ++ call ∷ [])
+  replay_hit here so = goes_on true (same_test call.file file here) so
 
-  pub replay_hit : (r : Replay) → call.file ≡ file
-      → IsReplayed r (left_by (effect_of call.effect) (file_from file (synced_file first) (calls_of (take i calls))) (last_sync file first (synced_file first) (calls_of (take i calls)))) (effect_on (effect_of call.effect) (file_from file (synced_file first) (calls_of (take i calls))))
-      → IsReplayed r (last_sync file first (synced_file first) (calls_of (take (i + 1) calls))) (file_from file (synced_file first) (calls_of (take (i + 1) calls)))
-  replay_hit r here so = goes_on r true (same_test call.file file here) so
-
-  pub replay_miss : (r : Replay) → call.file ≢ file → IsReplayed r (last_sync file first (synced_file first) (calls_of (take i calls))) (file_from file (synced_file first) (calls_of (take i calls))) → IsReplayed r (last_sync file first (synced_file first) (calls_of (take (i + 1) calls))) (file_from file (synced_file first) (calls_of (take (i + 1) calls)))
-  replay_miss r differ so = goes_on r false (other_test call.file file differ) so
+  pub replay_miss : call.file ≢ file → ReplayedTo r first file calls → ReplayedTo r first file (calls ++ call ∷ [])
+  replay_miss differ so = goes_on false (other_test call.file file differ) so
 
 over_list : (listed calls : ℕ) → nat_lt listed calls ≡ true → listed ≤ calls
 over_list listed calls test = grind (arith, nat_tests)
@@ -98,58 +98,32 @@ IsChosen-image (Fill byte) file last image sound is = record {
       is.bytes p within ∙ ap (λ b. if b then slice_index file.bytes p else byte) settled;
 }
 
+-- a file of those in use, after all calls or after few of them
+by_cases : (m : Moments) (few : FileState) (touched : List Touched) (file : ℕ) → file < 3 → (full past_list : Bool) → (past_list ≡ true → m.now file ≡ few)
+    → (if past_list then (moments_touched (if full then Some touched else None) m).now file else few) ≡ (if full && past_list then touch (touched_at touched file) few else few)
+by_cases m few touched file low true true all =
+    ap (λ b. if b then touch (touched_at touched file) (m.now file) else m.now file) (low_test file low) ∙ ap (touch (touched_at touched file)) (all refl)
+by_cases m few touched file low true false all = refl
+by_cases m few touched file low false true all = all refl
+by_cases m few touched file low false false all = refl
+
 -- What was taken of the calls that are kept together leads to the files after so many calls.
-module _ (choice : Choice) (first : List (List ℕ)) (calls_in : List DiskCall) (is_full : Bool) (touched : List Touched) (calls file : ℕ) (low : file < 3) where
-  abbrev before : Moments
-  before = record { now = first_files first; past = [] }
-
-  listed_is : (moments_after first (take calls calls_in)).now file ≡ file_from file (synced_file (slice_index_or first file [])) (take calls calls_in)
-  listed_is = now_from file before (take calls calls_in)
-
-  all_are : length calls_in ≤ calls → (moments_after first calls_in).now file ≡ file_from file (synced_file (slice_index_or first file [])) (take calls calls_in)
-  all_are over = ap (λ (l : List DiskCall). (moments_after first l).now file) (sym (take_all calls calls_in over)) ∙ listed_is
-
-  inside : (t : FileState) → (if nat_lt file 3 then t else (moments_after first calls_in).now file) ≡ t
-  inside t = ap (λ b. if b then t else (moments_after first calls_in).now file) (low_test file low)
-
-  by_cases : (full past_list : Bool) → nat_lt (length calls_in) calls ≡ past_list
-      → (if past_list then (moments_touched (if full then Some touched else None) (moments_after first calls_in)).now else (moments_after first (take calls calls_in)).now) file
-      ≡ (if full && past_list then touch (touched_at touched file) (file_from file (synced_file (slice_index_or first file [])) (take calls calls_in)) else file_from file (synced_file (slice_index_or first file [])) (take calls calls_in))
-  by_cases true true test =
-      inside (touch (touched_at touched file) ((moments_after first calls_in).now file)) ∙ ap (touch (touched_at touched file)) (all_are (over_list (length calls_in) calls test))
-  by_cases true false test = listed_is
-  by_cases false true test = all_are (over_list (length calls_in) calls test)
-  by_cases false false test = listed_is
-
-  -- the file after so many calls
-  pub file_at : (counts : Counts) (image last : List ℕ)
-      → IsChosen choice (if is_full && nat_lt (length calls_in) calls
-      then touch (touched_at touched file) (file_from file (synced_file (slice_index_or first file [])) (take calls calls_in))
-      else file_from file (synced_file (slice_index_or first file [])) (take calls calls_in)) last image
-      → IsChosen choice (files_at (record { first = first; calls = calls_in; together = if is_full then Some touched else None; counts = counts }) calls file) last image
-  file_at counts image last takes =
-      subst (λ s. IsChosen choice s last image) (sym (by_cases is_full (nat_lt (length calls_in) calls) refl)) takes
-
--- what the code makes of one file
-pub chosen_of : {E : Type 0} (choice : Choice) (first : List (List ℕ)) (calls_in kept : List DiskCall) (is_full is_beside : Bool) (touched : List Touched) (apart : Touched)
-    (calls file : ℕ) (held : List ℕ) (counts : Counts) (log : DiskLog) (result : Result (Vec ℕ Global) E) → file < 3
-    → held ≡ slice_index_or first file [] → kept ≡ take calls calls_in → is_beside ≡ (is_full && nat_lt (length calls_in) calls) → apart ≡ touched_at touched file
-    → record { first = first; calls = calls_in; together = (if is_full then Some touched else None); counts = counts } ≡ log
-    → IfOk result (λ image. IsChosen choice (if is_beside then touch apart (file_from file (synced_file held) kept) else file_from file (synced_file held) kept)
-    (last_sync file held (synced_file held) kept) image.items)
-    → IfOk result (λ image. IsChosen choice (files_at log calls file) (synced_at log calls file) image.items)
-chosen_of choice first calls_in kept is_full is_beside touched apart calls file held counts log (Err e) low held_is kept_is beside_is touched_is log_is takes = tt
-chosen_of choice first calls_in kept is_full is_beside touched apart calls file held counts log (Ok image) low held_is kept_is beside_is touched_is log_is takes =
-    subst (λ (l : DiskLog). IsChosen choice (files_at l calls file) (synced_at l calls file) image.items) log_is
-    (file_at choice first calls_in is_full touched calls file low counts image.items (last_sync file (slice_index_or first file []) (synced_file (slice_index_or first file [])) (take calls calls_in))
-    (subst (λ (l : List ℕ). IsChosen choice (if is_full && nat_lt (length calls_in) calls then touch (touched_at touched file) (file_from file (synced_file l) (take calls calls_in)) else file_from file (synced_file l) (take calls calls_in))
-    (last_sync file l (synced_file l) (take calls calls_in)) image.items) held_is
-    (subst (λ (l : List DiskCall). IsChosen choice (if is_full && nat_lt (length calls_in) calls then touch (touched_at touched file) (file_from file (synced_file held) l) else file_from file (synced_file held) l)
-    (last_sync file held (synced_file held) l) image.items) kept_is
-    (subst (λ t. IsChosen choice (if is_full && nat_lt (length calls_in) calls then touch t (file_from file (synced_file held) kept) else file_from file (synced_file held) kept)
-    (last_sync file held (synced_file held) kept) image.items) touched_is
-    (subst (λ b. IsChosen choice (if b then touch apart (file_from file (synced_file held) kept) else file_from file (synced_file held) kept)
-    (last_sync file held (synced_file held) kept) image.items) beside_is takes)))))
+pub file_at : (log : DiskLog) (is_full : Bool) (touched : List Touched) (calls file : ℕ) → file < 3 → log.together ≡ (if is_full then Some touched else None)
+    → files_at log calls file
+    ≡ (if is_full && nat_lt (length log.calls) calls then touch (touched_at touched file) (file_from file (synced_file (slice_index_or log.first file [])) (take calls log.calls)) else file_from file (synced_file (slice_index_or log.first file [])) (take calls log.calls))
+file_at log is_full touched calls file low together =
+    let past_list = nat_lt (length log.calls) calls in
+    let all = moments_after log.first log.calls in
+    let some = moments_after log.first (take calls log.calls) in
+    let over : past_list ≡ true → all.now file ≡ some.now file = λ test. ap (λ (l : List DiskCall). (moments_after log.first l).now file) (sym (take_all calls log.calls (over_list (length log.calls) calls test))) in
+    few_or_all past_list (moments_of log).now some.now file
+    ∙ ap (λ (t : Option (List Touched)). if past_list then (moments_touched t all).now file else some.now file) together
+    ∙ by_cases all (some.now file) touched file low is_full past_list over
+    ∙ ap (λ (s : FileState). if is_full && past_list then touch (touched_at touched file) s else s) (now_from file (record { now = first_files log.first; past = [] }) (take calls log.calls))
+  where
+    few_or_all : (b : Bool) (a s : Files) (k : ℕ) → (if b then a else s) k ≡ (if b then a k else s k)
+    few_or_all true a s k = refl
+    few_or_all false a s k = refl
 
 module _ (choice : Choice) (log : DiskLog) (calls : ℕ) where
   sound_at : (file : ℕ) (past_list : Bool) → nat_lt (length log.calls) calls ≡ past_list

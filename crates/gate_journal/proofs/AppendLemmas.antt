@@ -13,7 +13,7 @@ use Rattle.disk_model.proofs.ImageLemmas.{IsSettled-image}
 use Rattle.gate_journal.specs.Gate.{IsClosed, ClosedAfter, behind_gate, record_text}
 use Rattle.gate_journal.specs.Stand.{Stand, gate_of, text_before, IsAtGate}
 use Rattle.gate_journal.specs.Writes.{KeepsBelow, IsSettledBut, OpensSettled, IsBeforeOrAfter, IsOpenedOrClosed, HoldsGate}
-use Rattle.gate_journal.proofs.WriteLemmas.{KeepsBelow-sync, KeepsBelow-refl, changes_then, length-put}
+use Rattle.gate_journal.proofs.WriteLemmas.{HoldsPlace, KeepsBelow-sync, KeepsBelow-refl, changes_then, length-put}
 
 -- a text, a closed gate, and anything
 pub closed_front : (text rest : List ℕ) (gate : ℕ) → gate ≢ 1 → ClosedAfter text (text ++ gate ∷ rest)
@@ -41,11 +41,12 @@ same_front n a b in_a in_b same = ext_get_or 0 (take n a) (take n b) (omega (ari
     (λ p low. let below : p < n = omega (arith, length-take n a) in get_or-take n a p 0 below ∙ same p below ∙ sym (get_or-take n b p 0 below))
 
 -- where the first bytes of a file stay, with a closed gate after the text, each image has the text and the gate
-pub kept_image : (gate : ℕ) (old new : FileState) (image : List ℕ) → IsSettled old → gate < length old.bytes → IsClosed old.bytes gate → KeepsBelow (gate + 1) old new → IsFileImage new image
+pub kept_image : (gate : ℕ) (old new : FileState) (image : List ℕ) → HoldsPlace gate old → IsClosed old.bytes gate → KeepsBelow (gate + 1) old new → IsFileImage new image
     → ClosedAfter (take gate old.bytes) image
-kept_image gate old new image settled within closed keeps is =
+kept_image gate old new image holds closed keeps is =
+    let within = holds.inside in
     let size : length (take gate old.bytes) ≡ gate = omega (arith, length-take gate old.bytes) in
-    let stays = λ (p : ℕ) (low : p < gate + 1). keeps.kept p low (settled.each p (omega arith)) in
+    let stays = λ (p : ℕ) (low : p < gate + 1). keeps.kept p low (holds.settled.each p (omega arith)) in
     let at_gate = stays gate (omega arith) in
     let long : gate < length image = is.inside gate at_gate.settled in
     let same : (p : ℕ) → p < gate + 1 → slice_index image p ≡ slice_index old.bytes p = λ p low. is.kept p (stays p low).settled ∙ (stays p low).same in
@@ -55,18 +56,23 @@ kept_image gate old new image settled within closed keeps is =
       closed = subst (λ n. IsClosed image n) (sym size) (subst (λ v. v ≢ 1) (sym (same gate (omega arith))) closed);
     }
 
--- where each byte but the gate's is settled, an image is the file with some gate
-pub but_image : (gate : ℕ) (bytes : List ℕ) (file : FileState) (image : List ℕ) → IsSettledBut gate bytes file → IsFileImage file image → (p : ℕ) → p < length bytes → p ≢ gate
-    → slice_index image p ≡ slice_index bytes p
-but_image gate bytes file image but is p low differ = is.kept p (but.settled p low differ) ∙ but.same p low differ
+-- as many bytes, and the same ones but at the gate
+record IsSameBut (gate : ℕ) (bytes image : List ℕ) : Type 0 where
+  size : length image ≡ length bytes
+  same : (p : ℕ) → p < length bytes → p ≢ gate → slice_index image p ≡ slice_index bytes p
 
-but_size : (gate : ℕ) (bytes : List ℕ) (file : FileState) (image : List ℕ) → IsSettledBut gate bytes file → IsFileImage file image → length image ≡ length bytes
-but_size gate bytes file image but is = omega (arith, but.no_shorter, but.no_longer, is.no_shorter, is.no_longer)
+-- where each byte but the gate's is settled, an image is the file with some gate
+but_image : (gate : ℕ) (bytes : List ℕ) (file : FileState) (image : List ℕ) → IsSettledBut gate bytes file → IsFileImage file image → IsSameBut gate bytes image
+but_image gate bytes file image but is = record {
+  size = omega (arith, but.no_shorter, but.no_longer, is.no_shorter, is.no_longer);
+  same = λ p low differ. is.kept p (but.settled p low differ) ∙ but.same p low differ;
+}
 
 -- with some byte at the gate
-gate_alone : (gate : ℕ) (bytes image : List ℕ) → gate < length bytes → length image ≡ length bytes → ((p : ℕ) → p < length bytes → p ≢ gate → slice_index image p ≡ slice_index bytes p)
-    → image ≡ put bytes gate (slice_index image gate ∷ [])
-gate_alone gate bytes image inside size same =
+gate_alone : (gate : ℕ) (bytes image : List ℕ) → gate < length bytes → IsSameBut gate bytes image → image ≡ put bytes gate (slice_index image gate ∷ [])
+gate_alone gate bytes image inside but =
+    let size = but.size in
+    let same = but.same in
     let low_gate : gate < length image = omega arith in
     let whole : image ≡ take gate image ++ (slice_index image gate ∷ drop (gate + 1) image) =
     sym (take-append-drop gate image) ∙ ap (λ (l : List ℕ). take gate image ++ l) (drop_more image gate 0 low_gate) in
@@ -80,9 +86,19 @@ gate_alone gate bytes image inside size same =
     whole ∙ (λ i. front i ++ (slice_index image gate ∷ back i))
 
 -- with an open gate
-opened_is : (gate : ℕ) (bytes image : List ℕ) → gate < length bytes → length image ≡ length bytes → ((p : ℕ) → p < length bytes → p ≢ gate → slice_index image p ≡ slice_index bytes p)
-    → slice_index image gate ≡ 1 → image ≡ put bytes gate (1 ∷ [])
-opened_is gate bytes image inside size same is_open = gate_alone gate bytes image inside size same ∙ ap (λ (byte : ℕ). put bytes gate (byte ∷ [])) is_open
+opened_is : (gate : ℕ) (bytes image : List ℕ) → gate < length bytes → IsSameBut gate bytes image → slice_index image gate ≡ 1 → image ≡ put bytes gate (1 ∷ [])
+opened_is gate bytes image inside but is_open = gate_alone gate bytes image inside but ∙ ap (λ (byte : ℕ). put bytes gate (byte ∷ [])) is_open
+
+-- with a closed gate
+shut_is : (gate : ℕ) (bytes image : List ℕ) → gate < length bytes → IsSameBut gate bytes image → IsClosed image gate → ClosedAfter (take gate bytes) image
+shut_is gate bytes image inside but shut =
+    let size = but.size in
+    let long : length (take gate bytes) ≡ gate = omega (arith, length-take gate bytes) in
+    record {
+      begins = ap (λ (n : ℕ). take n image) long ∙ same_front gate image bytes (omega arith) (omega arith) (λ p low. let differ : p ≢ gate = omega arith in but.same p (omega arith) differ);
+      inside = omega (arith, long, size);
+      closed = subst (λ n. IsClosed image n) (sym long) shut;
+    }
 
 opened_or_closed : (gate : ℕ) (bytes image : List ℕ) → image ≡ put bytes gate (slice_index image gate ∷ []) → IsOpenedOrClosed gate bytes image
 opened_or_closed gate bytes image is = elim (cases_eq (slice_index image gate) 1) [
@@ -94,7 +110,7 @@ opened_or_closed gate bytes image is = elim (cases_eq (slice_index image gate) 1
 pub holds_gate : (file gate : ℕ) (bytes : List ℕ) (old new : Moments) → gate < length bytes → EachMoment (Changes file (λ _ new. IsSettledBut gate bytes new) old.now) old new
     → EachMoment (HoldsGate file gate bytes old.now) old new
 holds_gate file gate bytes old new inside each = weaken (HoldsGate file gate bytes old.now) (λ files so. record {
-  image = λ image is. opened_or_closed gate bytes image (gate_alone gate bytes image inside (but_size gate bytes (files file) image so.here is) (but_image gate bytes (files file) image so.here is));
+  image = λ image is. opened_or_closed gate bytes image (gate_alone gate bytes image inside (but_image gate bytes (files file) image so.here is));
   others = so.others;
 }) each
 
@@ -121,8 +137,7 @@ behind_is head body =
 
 -- a settled file holds a closed gate, and everything up to that gate was kept
 pub record IsStaged (file gate : ℕ) (old m1 : Moments) : Type 0 where
-  pub within : gate < length (seen old file)
-  pub settled : IsSettled (old.now file)
+  pub holds : HoldsPlace gate (old.now file)
   pub closed : IsClosed (seen old file) gate
   pub kept : EachMoment (Changes file (KeepsBelow (gate + 1)) old.now) old m1
 
@@ -133,7 +148,7 @@ pub record IsWritten (file gate : ℕ) (behind : List ℕ) (old m1 : Moments) : 
 
 module _ (file gate : ℕ) (behind : List ℕ) (old m1 : Moments) (is : IsStaged file gate old m1) where
   staying : (files : Files) → Changes file (KeepsBelow (gate + 1)) old.now files → IsBeforeOrAfter file (take gate (seen old file)) (take gate (seen old file) ++ (1 ∷ behind)) old.now files
-  staying files so = record { image = λ image shows. inl (kept_image gate (old.now file) (files file) image is.settled is.within is.closed so.here shows); others = so.others }
+  staying files so = record { image = λ image shows. inl (kept_image gate (old.now file) (files file) image is.holds is.closed so.here shows); others = so.others }
 
   pub append_staged : EachMoment (IsBeforeOrAfter file (take gate (seen old file)) (take gate (seen old file) ++ (1 ∷ behind)) old.now) old m1
   append_staged = weaken (IsBeforeOrAfter file (take gate (seen old file)) (take gate (seen old file) ++ (1 ∷ behind)) old.now) staying is.kept
@@ -150,45 +165,30 @@ module _ (file gate : ℕ) (behind : List ℕ) (old m1 : Moments) (is : IsWritte
 
   -- the file with its gate opened
   pub opened_file : put (seen m1 file) gate (1 ∷ []) ≡ (take gate (seen old file) ++ (1 ∷ behind)) ++ 0 ∷ drop (gate + 1 + length (behind ++ 0 ∷ [])) (seen old file)
-  opened_file = ap (λ (l : List ℕ). put l gate (1 ∷ [])) is.wrote ∙ appended_is (seen old file) behind gate is.staged.within
+  opened_file = ap (λ (l : List ℕ). put l gate (1 ∷ [])) is.wrote ∙ appended_is (seen old file) behind gate is.staged.holds.inside
 
   m1_files : Changes file (KeepsBelow (gate + 1)) old.now m1.now
   m1_files = last_moment is.staged.kept
 
   m1_long : gate < length (seen m1 file)
-  m1_long = omega (arith, is.staged.within, ap length is.wrote, length-put (seen old file) (behind ++ 0 ∷ []) (gate + 1) (omega (arith, is.staged.within)))
+  m1_long = omega (arith, is.staged.holds.inside, ap length is.wrote, length-put (seen old file) (behind ++ 0 ∷ []) (gate + 1) (omega (arith, is.staged.holds.inside)))
 
   -- what stood before the gate stands there still
   m1_front : take gate (seen m1 file) ≡ take gate (seen old file)
-  m1_front = same_front gate (seen m1 file) (seen old file) (omega (arith, m1_long)) (omega (arith, is.staged.within))
-      (λ p low. (m1_files.here.kept p (omega arith) (is.staged.settled.each p (omega (arith, is.staged.within)))).same)
+  m1_front = same_front gate (seen m1 file) (seen old file) (omega (arith, m1_long)) (omega (arith, is.staged.holds.inside))
+      (λ p low. (m1_files.here.kept p (omega arith) (is.staged.holds.settled.each p (omega (arith, is.staged.holds.inside)))).same)
 
-  shut_after : (image : List ℕ) → length image ≡ length (seen m1 file) → ((p : ℕ) → p < length (seen m1 file) → p ≢ gate → slice_index image p ≡ slice_index (seen m1 file) p) → IsClosed image gate
-      → ClosedAfter before image
-  shut_after image size same shut =
-      let long : length before ≡ gate = omega (arith, length-take gate (seen old file), is.staged.within) in
-      record {
-        begins = ap (λ (n : ℕ). take n image) long
-            ∙ same_front gate image (seen m1 file) (omega (arith, m1_long)) (omega (arith, m1_long)) (λ p low. let differ : p ≢ gate = omega arith in same p (omega (arith, m1_long)) differ)
-            ∙ m1_front;
-        inside = omega (arith, long, size, m1_long);
-        closed = subst (λ n. IsClosed image n) (sym long) shut;
-      }
-
-  either : (image : List ℕ) (new : FileState) → IsSettledBut gate (seen m1 file) new → IsFileImage new image → ClosedAfter before image ⊎ ClosedAfter later image
-  either image new but shows =
-      let size = but_size gate (seen m1 file) new image but shows in
-      let same = but_image gate (seen m1 file) new image but shows in
-      elim (cases_eq (slice_index image gate) 1) [
-        | inl is_open ↦ inr (subst (ClosedAfter later) (sym (opened_is gate (seen m1 file) image m1_long size same is_open ∙ opened_file)) (closed_front later rest 0 (omega arith)))
-        | inr shut ↦ inl (shut_after image size same shut)
-      ]
+  either : (image : List ℕ) → IsSameBut gate (seen m1 file) image → ClosedAfter before image ⊎ ClosedAfter later image
+  either image but = elim (cases_eq (slice_index image gate) 1) [
+    | inl is_open ↦ inr (subst (ClosedAfter later) (sym (opened_is gate (seen m1 file) image m1_long but is_open ∙ opened_file)) (closed_front later rest 0 (omega arith)))
+    | inr shut ↦ inl (subst (λ (l : List ℕ). ClosedAfter l image) m1_front (shut_is gate (seen m1 file) image m1_long but shut))
+  ]
 
   opening : (files : Files) → OpensSettled file gate (seen m1 file) m1.now files → IsBeforeOrAfter file (take gate (seen old file)) (take gate (seen old file) ++ (1 ∷ behind)) old.now files
   opening files (inl synced) =
       staying file gate behind old m1 is.staged files (changes_then (KeepsBelow (gate + 1)) file old.now m1.now files (λ a b. KeepsBelow-sync (gate + 1) (old.now file) (m1.now file) (files file) a b) m1_files synced)
   opening files (inr but) = record {
-    image = λ image shows. either image (files file) but.here shows;
+    image = λ image shows. either image (but_image gate (seen m1 file) (files file) image but.here shows);
     others = λ other differ. but.others other differ ∙ m1_files.others other differ;
   }
 
@@ -228,8 +228,7 @@ next_to stand some = omega arith
 
 staged_of : (stand : Stand) (old m1 : Moments) → Stages stand old m1 → IsStaged stand.file (gate_of stand) old m1
 staged_of stand old m1 is = record {
-  within = omega (arith, is.at.inside, is.some);
-  settled = is.at.settled;
+  holds = record { inside = omega (arith, is.at.inside, is.some); settled = is.at.settled };
   closed = is.at.closed;
   kept = subst (λ n. EachMoment (Changes stand.file (KeepsBelow n) old.now) old m1) (sym (next_to stand is.some)) is.kept;
 }
@@ -248,6 +247,10 @@ pub stand_opened : (stand : Stand) (head body : List ℕ) (old m1 m2 : Moments) 
     → EachMoment (IsBeforeOrAfter stand.file (text_before stand (seen old stand.file)) (text_before stand (seen old stand.file) ++ record_text (head ++ body)) old.now) old m2
 stand_opened stand head body old m1 m2 is = append_opened stand.file (gate_of stand) (behind_gate (head ++ body)) old m1 (written_of stand head body old m1 m2 is) m2 is.opens
 
+-- what a settled file holds, each image holds
+pub settled_holds : (text : List ℕ) (file : FileState) → IsSettled file → ClosedAfter text file.bytes → (image : List ℕ) → IsFileImage file image → ClosedAfter text image
+settled_holds text file settled holds image shows = subst (ClosedAfter text) (sym (IsSettled-image file image settled shows)) holds
+
 -- the file byte for byte, what each image has, and the gate that the journal has come to
 module _ (stand : Stand) (head body : List ℕ) (old m1 m2 : Moments) (is : HasOpened stand head body old m1 m2) where
   abbrev with_record : List ℕ
@@ -259,8 +262,9 @@ module _ (stand : Stand) (head body : List ℕ) (old m1 m2 : Moments) (is : HasO
   file_is : seen m2 stand.file ≡ with_record ++ 0 ∷ rest_of
   file_is = is.opened ∙ opened_file stand.file (gate_of stand) (behind_gate (head ++ body)) old m1 (written_of stand head body old m1 m2 is.opens)
 
-  closed_now : ClosedAfter with_record (seen m2 stand.file)
-  closed_now = subst (ClosedAfter with_record) (sym file_is) (closed_front with_record rest_of 0 (omega arith))
+  -- the file holds the text with the record, and a closed gate
+  pub stand_holds : ClosedAfter (text_before stand (seen old stand.file) ++ record_text (head ++ body)) (seen m2 stand.file)
+  stand_holds = subst (ClosedAfter with_record) (sym file_is) (closed_front with_record rest_of 0 (omega arith))
 
   size_of : length with_record ≡ gate_of stand + (1 + (4 + (length head + length body)))
   size_of =
@@ -273,14 +277,11 @@ module _ (stand : Stand) (head body : List ℕ) (old m1 m2 : Moments) (is : HasO
   pub stand_whole : seen m2 stand.file ≡ put (put (seen old stand.file) stand.length (behind_gate (head ++ body) ++ 0 ∷ [])) (gate_of stand) (1 ∷ [])
   stand_whole = is.opened ∙ ap (λ (l : List ℕ). put l (gate_of stand) (1 ∷ [])) (is.opens.wrote ∙ ap (λ (l : List ℕ). put (seen old stand.file) stand.length l) (behind_is head body))
 
-  pub stand_durable : (image : List ℕ) → IsFileImage (m2.now stand.file) image → ClosedAfter (text_before stand (seen old stand.file) ++ record_text (head ++ body)) image
-  stand_durable image shows = subst (ClosedAfter with_record) (sym (IsSettled-image (m2.now stand.file) image is.settled shows)) closed_now
-
   pub stand_inside : stand.length + 5 + length head + length body ≤ length (seen m2 stand.file)
-  stand_inside = omega (arith, closed_now.inside, place_of, is.opens.stages.some)
+  stand_inside = omega (arith, stand_holds.inside, place_of, is.opens.stages.some)
 
   pub stand_closed : IsClosed (seen m2 stand.file) (stand.length + 5 + length head + length body - 1)
-  stand_closed = subst (λ p. IsClosed (seen m2 stand.file) p) place_of closed_now.closed
+  stand_closed = subst (λ p. IsClosed (seen m2 stand.file) p) place_of stand_holds.closed
 
   pub stand_text : take (stand.length + 5 + length head + length body - 1) (seen m2 stand.file) ≡ text_before stand (seen old stand.file) ++ record_text (head ++ body)
-  stand_text = subst (λ p. take p (seen m2 stand.file) ≡ with_record) place_of closed_now.begins
+  stand_text = subst (λ p. take p (seen m2 stand.file) ≡ with_record) place_of stand_holds.begins

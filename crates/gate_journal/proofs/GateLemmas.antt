@@ -39,18 +39,21 @@ all_to gate front records file has closed =
 pub ended_to : (front : List ℕ) (records : List (List ℕ)) (file : List ℕ) → HasRecords front records file → HasRecordsTo (length (front ++ records_text records)) front records file
 ended_to front records file has = record { begins = has.closed.begins; inside = has.closed.inside; fit = has.fit }
 
+-- the first record of a text with which a file begins
+first_at : (front file record_is : List ℕ) (rest : List (List ℕ)) → Begins (front ++ (record_text record_is ++ records_text rest)) file → Fits record_is
+    → IsRecordAt file (length front) (length file) record_is
+first_at front file record_is rest is fits = record_begun front record_is (records_text rest) file (length file) is fits is.inside
+
 -- the records of two texts with which a file begins have the same first one
-same_first : (front file : List ℕ) (r s : List ℕ) (a b : List (List ℕ)) → Begins (front ++ (record_text r ++ records_text a)) file → Begins (front ++ (record_text s ++ records_text b)) file → Fits r → Fits s → r ≡ s
-same_first front file r s a b is_a is_b fits_r fits_s =
-    let limit = length file in
-    record_unique file r s (length front) limit (record_begun front r (records_text a) file limit is_a fits_r is_a.inside) (record_begun front s (records_text b) file limit is_b fits_s is_b.inside)
+same_first : (front file r s : List ℕ) → IsRecordAt file (length front) (length file) r → IsRecordAt file (length front) (length file) s → r ≡ s
+same_first front file r s at_r at_s = record_unique file r s (length front) (length file) at_r at_s
 
 prefixes : (front file : List ℕ) (a b : List (List ℕ)) → Begins (front ++ records_text a) file → Begins (front ++ records_text b) file → All Fits a → All Fits b
     → (take (length a) b ≡ a) ⊎ (take (length b) a ≡ b)
 prefixes front file [] b is_a is_b fit_a fit_b = inl refl
 prefixes front file (r ∷ a) [] is_a is_b fit_a fit_b = inr refl
 prefixes front file (r ∷ a) (s ∷ b) is_a is_b fit_a fit_b =
-    let same : r ≡ s = same_first front file r s a b is_a is_b (first_fits r a fit_a) (first_fits s b fit_b) in
+    let same : r ≡ s = same_first front file r s (first_at front file r a is_a (first_fits r a fit_a)) (first_at front file s b is_b (first_fits s b fit_b)) in
     let rest_a = subst (λ (l : List ℕ). Begins l file) (sym (append_assoc front (record_text r) (records_text a))) is_a in
     let rest_s = subst (λ (l : List ℕ). Begins l file) (sym (append_assoc front (record_text s) (records_text b))) is_b in
     let rest_b = subst (λ (l : List ℕ). Begins ((front ++ record_text l) ++ records_text b) file) (sym same) rest_s in
@@ -69,7 +72,7 @@ among front file [] b is_a is_b fit_a fit_b = refl
 among front file (r ∷ a) [] is_a is_b fit_a fit_b =
     let shut = subst (λ (l : List ℕ). ClosedAfter l file) (append-nil front) is_b in absurd (shut.closed (open_begun front r (records_text a) file is_a))
 among front file (r ∷ a) (s ∷ b) is_a is_b fit_a fit_b =
-    let same : r ≡ s = same_first front file r s a b is_a (record { begins = is_b.begins; inside = is_b.inside }) (first_fits r a fit_a) (first_fits s b fit_b) in
+    let same : r ≡ s = same_first front file r s (first_at front file r a is_a (first_fits r a fit_a)) (first_at front file s b (record { begins = is_b.begins; inside = is_b.inside }) (first_fits s b fit_b)) in
     let rest_a = subst (λ (l : List ℕ). Begins l file) (sym (append_assoc front (record_text r) (records_text a))) is_a in
     let rest_s = subst (λ (l : List ℕ). ClosedAfter l file) (sym (append_assoc front (record_text s) (records_text b))) is_b in
     let rest_b = subst (λ (l : List ℕ). ClosedAfter ((front ++ record_text l) ++ records_text b) file) (sym same) rest_s in

@@ -38,7 +38,8 @@ field_fits start fit (suc (suc (suc (suc n)))) = omega arith
 pub field_bytes : (start : List ℕ) (size : ℕ) → ((i : ℕ) → get_or start i 0 < 256) → size ≡ from_le_bytes w32 (field_of start) → to_le_bytes w32 size ≡ field_of start
 field_bytes start size fit is = le_bytes_4 (field_of start) size refl (field_fits start fit) is
 
-whole_start : (file start : List ℕ) (gate count : ℕ) → IsRead file gate 5 count start → length start ≡ 5 → 5 ≤ count → take 5 (drop gate file) ≡ start
+-- the first five bytes at a gate
+pub whole_start : (file start : List ℕ) (gate count : ℕ) → IsRead file gate 5 count start → length start ≡ 5 → 5 ≤ count → take 5 (drop gate file) ≡ start
 whole_start file start gate count read size enough =
     let is : count ≡ 5 = omega (arith, read.count) in
     sym (subst (λ n. take n start ≡ take n (drop gate file)) is read.same) ∙ take_all 5 start (omega arith)
@@ -50,11 +51,14 @@ gate_read file start gate count read inside =
     let here : gate + 0 ≡ gate = omega arith in
     sym (ap (λ (n : ℕ). get_or file n 0) here) ∙ sym (get_or-drop gate file 0 0) ∙ sym (get_or-take count (drop gate file) 0 0 some) ∙ sym (ap (λ (l : List ℕ). get_or l 0 0) read.same) ∙ get_or-take count start 0 0 some
 
-pub start_found : (file start : List ℕ) (gate limit count size : ℕ) → IsRead file gate 5 count start → length start ≡ 5 → slice_index start 0 ≡ 1
-    → to_le_bytes w32 size ≡ field_of start → size < 2 ^ 32 → 5 ≤ count → gate + 5 + size < length file → gate + 5 + size < limit → IsStartAt file gate limit size
-start_found file start gate limit count size read whole is_open field fits enough inside within = record {
-  reads = take_more_of gate 5 file ∙ ap (λ (l : List ℕ). take gate file ++ l) (whole_start file start gate count read whole enough ∙ five start whole
-      ∙ (λ i. is_open i ∷ sym field i));
+-- an open gate and a length
+pub start_is : (start : List ℕ) (size : ℕ) → length start ≡ 5 → slice_index start 0 ≡ 1 → to_le_bytes w32 size ≡ field_of start → start ≡ 1 ∷ to_le_bytes w32 size
+start_is start size whole is_open field = five start whole ∙ (λ i. is_open i ∷ sym field i)
+
+pub start_found : (file : List ℕ) (gate limit size : ℕ) → take 5 (drop gate file) ≡ 1 ∷ to_le_bytes w32 size → size < 2 ^ 32 → gate + 5 + size < length file → gate + 5 + size < limit
+    → IsStartAt file gate limit size
+start_found file gate limit size start fits inside within = record {
+  reads = take_more_of gate 5 file ∙ ap (λ (l : List ℕ). take gate file ++ l) start;
   fits = fits;
   inside = inside;
   within = within;
@@ -69,17 +73,22 @@ record_start file record_is gate limit is =
     sym (drop-take gate size file) ∙ ap (λ (l : List ℕ). drop gate l) is.reads ∙ drop_at (take gate file) (record_text record_is) gate at_gate in
     sym (take-take 5 size (drop gate file) (omega arith)) ∙ ap (λ (l : List ℕ). take 5 l) behind
 
-pub no_record : (file start : List ℕ) (gate limit count size : ℕ) → IsRead file gate 5 count start → length start ≡ 5 → size ≡ from_le_bytes w32 (field_of start)
-    → (count < 5) ⊎ (min (length file) limit ≤ gate + 5 + size) → (record_is : List ℕ) → IsRecordAt file gate limit record_is → ⊥
-no_record file start gate limit count size read whole is not_fit record_is found =
+-- A read at a gate came to the end of the file, or the length that it gave goes past the file or the limit.
+pub record StartCutOff (file start : List ℕ) (gate limit count : ℕ) : Type 0 where
+  pub read : IsRead file gate 5 count start
+  pub whole : length start ≡ 5
+  pub not_fit : (count < 5) ⊎ (min (length file) limit ≤ gate + 5 + from_le_bytes w32 (field_of start))
+
+pub no_record : (file start : List ℕ) (gate limit count : ℕ) → StartCutOff file start gate limit count → (record_is : List ℕ) → IsRecordAt file gate limit record_is → ⊥
+no_record file start gate limit count cut record_is found =
     let long : gate + 5 + length record_is < length file = omega (arith, found.inside) in
     let low : gate + 5 + length record_is < limit = omega (arith, found.within) in
-    let enough : 5 ≤ count = omega (arith, read.count) in
-    let start_is : start ≡ 1 ∷ to_le_bytes w32 (length record_is) =
-    sym (whole_start file start gate count read whole enough) ∙ record_start file record_is gate limit found in
-    let size_is : size ≡ length record_is =
-    is ∙ ap (λ (l : List ℕ). from_le_bytes w32 (field_of l)) start_is ∙ from_le_bytes-to_le_bytes_4 (length record_is) found.fits in
-    elim not_fit [
+    let enough : 5 ≤ count = omega (arith, cut.read.count) in
+    let start_at : start ≡ 1 ∷ to_le_bytes w32 (length record_is) =
+    sym (whole_start file start gate count cut.read cut.whole enough) ∙ record_start file record_is gate limit found in
+    let size_is : from_le_bytes w32 (field_of start) ≡ length record_is =
+    ap (λ (l : List ℕ). from_le_bytes w32 (field_of l)) start_at ∙ from_le_bytes-to_le_bytes_4 (length record_is) found.fits in
+    elim cut.not_fit [
       | inl short ↦ omega arith
       | inr past ↦ omega arith
     ]
@@ -99,14 +108,13 @@ record_found file record_is gate limit size start whole read =
     }
 
 -- the read behind the length gives the whole record
-pub whole_count : (file buf : List ℕ) (gate limit size room count : ℕ) → IsStartAt file gate limit size → IsRead file (gate + 5) room count buf → room ≡ size → count ≡ size
-whole_count file buf gate limit size room count start read is = omega (arith, read.count, start.inside)
+pub whole_count : (file buf : List ℕ) (gate limit size count : ℕ) → IsStartAt file gate limit size → IsRead file (gate + 5) size count buf → count ≡ size
+whole_count file buf gate limit size count start read = omega (arith, read.count, start.inside)
 
-pub record_read : (file buf : List ℕ) (gate limit size room count : ℕ) → IsStartAt file gate limit size → IsRead file (gate + 5) room count buf → room ≡ size → length buf ≡ size
-    → IsRecordAt file gate limit buf
-record_read file buf gate limit size room count start read is whole =
-    let all = whole_count file buf gate limit size room count start read is in
-    record_found file buf gate limit size start whole (subst (λ n. take n buf ≡ take n (drop (gate + 5) file)) all read.same)
+pub record_read : (file buf : List ℕ) (gate limit count : ℕ) → IsStartAt file gate limit (length buf) → IsRead file (gate + 5) (length buf) count buf → IsRecordAt file gate limit buf
+record_read file buf gate limit count start read =
+    let all = whole_count file buf gate limit (length buf) count start read in
+    record_found file buf gate limit (length buf) start refl (subst (λ n. take n buf ≡ take n (drop (gate + 5) file)) all read.same)
 
 -- a list that was written over from end to end
 pub written_over : (buf zeros : List ℕ) → length buf ≡ length zeros → take (length zeros) (buf ++ drop (length buf) zeros) ≡ buf

@@ -133,17 +133,25 @@ pushed_fit [] record_is fit one = cons_fits record_is [] one none_fit
 pushed_fit (r ∷ records) record_is fit one = cons_fits r (records ++ record_is ∷ []) (first_fits r records fit) (pushed_fit records record_is (rest_fit r records fit) one)
 
 -- with one record more, or as before
-pub with_or_without : (front : List ℕ) (records : List (List ℕ)) (record_is before image : List ℕ) → before ≡ front ++ records_text records → All Fits records → Fits record_is
-    → ClosedAfter before image ⊎ ClosedAfter (before ++ record_text record_is) image → HasRecords front records image ⊎ HasRecords front (records ++ record_is ∷ []) image
-with_or_without front records record_is before image is fit one (inl closed) = inl (record { closed = subst (λ (l : List ℕ). ClosedAfter l image) is closed; fit = fit })
-with_or_without front records record_is before image is fit one (inr closed) = inr (record {
-  closed = subst (λ (l : List ℕ). ClosedAfter l image) (ap (λ (l : List ℕ). l ++ record_text record_is) is ∙ sym (front-push front records record_is)) closed;
+pub with_or_without : (front : List ℕ) (records : List (List ℕ)) (record_is image : List ℕ) → All Fits records → Fits record_is
+    → ClosedAfter (front ++ records_text records) image ⊎ ClosedAfter ((front ++ records_text records) ++ record_text record_is) image
+    → HasRecords front records image ⊎ HasRecords front (records ++ record_is ∷ []) image
+with_or_without front records record_is image fit one (inl closed) = inl (record { closed = closed; fit = fit })
+with_or_without front records record_is image fit one (inr closed) = inr (record {
+  closed = subst (λ (l : List ℕ). ClosedAfter l image) (sym (front-push front records record_is)) closed;
   fit = pushed_fit records record_is fit one;
 })
 
+-- an area whose image's length fits its field
+pub record FitsArea (image : List ℕ) (records : List (List ℕ)) (file : List ℕ) : Type 0 where
+  pub fits : length image < 2 ^ 64
+  pub area : IsArea image records file
+
 -- a file has one image and one list of records
-pub area_unique : (file image other : List ℕ) (a b : List (List ℕ)) → length image < 2 ^ 64 → length other < 2 ^ 64 → IsArea image a file → IsArea other b file → (image ≡ other) × (a ≡ b)
-area_unique file image other a b fits_image fits_other is_a is_b =
+pub area_unique : (file image other : List ℕ) (a b : List (List ℕ)) → FitsArea image a file → FitsArea other b file → (image ≡ other) × (a ≡ b)
+area_unique file image other a b fits_a fits_b =
+    let is_a = fits_a.area in
+    let is_b = fits_b.area in
     let text_a = image ++ records_text a in
     let text_b = other ++ records_text b in
     let field_a = to_le_bytes w64 (length image) in
@@ -152,7 +160,7 @@ area_unique file image other a b fits_image fits_other is_a is_b =
     let closed_b = subst (λ (l : List ℕ). ClosedAfter l file) (append_assoc field_b other (records_text b)) is_b.closed in
     let fields : field_a ≡ field_b = sym (begins_with field_a text_a file closed_a) ∙ begins_with field_b text_b file closed_b in
     let sizes : length image ≡ length other =
-    sym (from_le_bytes-to_le_bytes_8 (length image) fits_image) ∙ ap (λ (l : List ℕ). from_le_bytes w64 l) fields ∙ from_le_bytes-to_le_bytes_8 (length other) fits_other in
+    sym (from_le_bytes-to_le_bytes_8 (length image) fits_a.fits) ∙ ap (λ (l : List ℕ). from_le_bytes w64 l) fields ∙ from_le_bytes-to_le_bytes_8 (length other) fits_b.fits in
     let front_sizes : length (image_front image) ≡ length (image_front other) = omega (arith, sizes, length-append field_a image, length-append field_b other, ap length fields) in
     let fronts : image_front image ≡ image_front other =
     sym (begins_with (image_front image) (records_text a) file is_a.closed) ∙ ap (λ (n : ℕ). take n file) front_sizes ∙ begins_with (image_front other) (records_text b) file is_b.closed in

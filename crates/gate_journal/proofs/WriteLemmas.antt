@@ -1,6 +1,6 @@
 -- What the calls of an append leave.
-use Rattle.std.proofs.Common.{◌≡◌, ◌≢◌, inl, inr, ℕ, ◌+◌, ◌<◌, ◌≤◌, List, ◌++◌, length, take, drop, max, refl, sym, ◌∙◌, ap, subst, arith, append_assoc, length-append, length-take, length-drop}
-use Rattle.std.specs.Prelude.{slice_index, Result, Ok, Err, OnOk}
+use Rattle.std.proofs.Common.{◌≡◌, ◌≢◌, inl, inr, ℕ, ◌+◌, ◌<◌, ◌≤◌, List, ◌++◌, length, take, drop, max, refl, sym, ◌∙◌, ap, arith, append_assoc, length-append, length-take, length-drop}
+use Rattle.std.specs.Prelude.{slice_index}
 use Rattle.std.proofs.lemmas.Bool.{cases_lt}
 use Rattle.std.proofs.lemmas.List.{take_at, drop_at, drop-drop}
 use Rattle.disk_model.specs.FileState.{FileState, IsSettled, put}
@@ -13,16 +13,23 @@ stays_trans : {old mid new : FileState} {p : ℕ} → StaysSettled old mid p →
 stays_trans a b = record { settled = b.settled; same = b.same ∙ a.same }
 
 -- a write behind the first n bytes keeps them, and so does a sync
-pub KeepsBelow-write : (n at count : ℕ) (old mid new : FileState) → n ≤ at → KeepsBelow n old mid → AfterWrite at count mid new → KeepsBelow n old new
-KeepsBelow-write n at count old mid new behind keeps wrote = record {
-  kept = λ p low is. let first = keeps.kept p low is in stays_trans first (wrote.before p (omega arith) first.settled);
-  no_shorter = omega (arith, keeps.no_shorter, wrote.no_shorter);
+pub KeepsBelow-write : (n at count : ℕ) (old new : FileState) → n ≤ at → AfterWrite at count old new → KeepsBelow n old new
+KeepsBelow-write n at count old new behind wrote = record {
+  kept = λ p low is. wrote.before p (omega arith) is;
+  no_shorter = wrote.no_shorter;
 }
 
 pub KeepsBelow-sync : (n : ℕ) (old mid new : FileState) → KeepsBelow n old mid → AfterSync mid new → KeepsBelow n old new
 KeepsBelow-sync n old mid new keeps synced = record {
   kept = λ p low is. let first = keeps.kept p low is in stays_trans first (synced.kept p first.settled);
   no_shorter = omega (arith, keeps.no_shorter, synced.no_shorter);
+}
+
+-- what one change keeps and then another, both keep
+pub KeepsBelow-trans : (n : ℕ) (old mid new : FileState) → KeepsBelow n old mid → KeepsBelow n mid new → KeepsBelow n old new
+KeepsBelow-trans n old mid new first then = record {
+  kept = λ p low is. let stays = first.kept p low is in stays_trans stays (then.kept p low stays.settled);
+  no_shorter = omega (arith, first.no_shorter, then.no_shorter);
 }
 
 pub KeepsBelow-refl : (n : ℕ) (file : FileState) → KeepsBelow n file file
@@ -59,12 +66,16 @@ changes_then both file old mid new so a b = record {
   others = λ other differ. b.others other differ ∙ a.others other differ;
 }
 
+-- a settled file, and a place inside it
+pub record HoldsPlace (place : ℕ) (file : FileState) : Type 0 where
+  pub inside : place < length file.bytes
+  pub settled : IsSettled file
+
 -- an open gate written over a byte of a settled file, and a sync
-module _ (file gate : ℕ) (old : Moments) (inside : gate < length (old.now file).bytes) (settled : IsSettled (old.now file)) (m1 : Moments)
-    (wrote : EachMoment (Changes file (AfterWrite gate 1) old.now) old m1) where
+module _ (file gate : ℕ) (old m1 : Moments) (holds : HoldsPlace gate (old.now file)) (wrote : EachMoment (Changes file (AfterWrite gate 1) old.now) old m1) where
   but_gate : (files : Files) → Changes file (AfterWrite gate 1) old.now files → Changes file (λ _ new. IsSettledBut gate (old.now file).bytes new) old.now files
   but_gate files so = record {
-    here = IsSettledBut-write gate (old.now file).bytes (old.now file) (files file) inside settled refl so.here;
+    here = IsSettledBut-write gate (old.now file).bytes (old.now file) (files file) holds.inside holds.settled refl so.here;
     others = so.others;
   }
 
@@ -81,10 +92,9 @@ module _ (file gate : ℕ) (bytes : List ℕ) (old m1 : Moments) (synced : EachM
   pub opening_synced : EachMoment (OpensSettled file gate bytes old.now) old m1
   opening_synced = weaken (OpensSettled file gate bytes old.now) (λ files so. inl so) synced
 
-  pub opening_done : (m2 : Moments) → (m1.now file).bytes ≡ bytes → EachMoment (Changes file (λ _ new. IsSettledBut gate (m1.now file).bytes new) m1.now) m1 m2
-      → EachMoment (OpensSettled file gate bytes old.now) old m2
-  opening_done m2 same opened = join opening_synced (weaken (OpensSettled file gate bytes old.now) (λ files so. inr (record {
-    here = subst (λ (l : List ℕ). IsSettledBut gate l (files file)) same so.here;
+  pub opening_done : (m2 : Moments) → EachMoment (Changes file (λ _ new. IsSettledBut gate bytes new) m1.now) m1 m2 → EachMoment (OpensSettled file gate bytes old.now) old m2
+  opening_done m2 opened = join opening_synced (weaken (OpensSettled file gate bytes old.now) (λ files so. inr (record {
+    here = so.here;
     others = λ other differ. so.others other differ ∙ (last_moment synced).others other differ;
   })) opened)
 
@@ -112,22 +122,21 @@ module _ (file n : ℕ) (old m1 : Moments) where
 
   pub keeps_written : (at count : ℕ) → n ≤ at → EachMoment (Changes file (AfterWrite at count) old.now) old m1 → EachMoment (Changes file (KeepsBelow n) old.now) old m1
   keeps_written at count behind wrote = weaken Kept (λ files so. record {
-    here = KeepsBelow-write n at count (old.now file) (old.now file) (files file) behind (KeepsBelow-refl n (old.now file)) so.here;
+    here = KeepsBelow-write n at count (old.now file) (files file) behind so.here;
     others = so.others;
   }) wrote
 
-  pub keeps_more : (m2 : Moments) (at count : ℕ) → n ≤ at → EachMoment (Changes file (KeepsBelow n) old.now) old m1 → EachMoment (Changes file (AfterWrite at count) m1.now) m1 m2 → EachMoment (Changes file (KeepsBelow n) old.now) old m2
-  keeps_more m2 at count behind kept wrote = join kept (weaken Kept
-      (λ files so. changes_then (KeepsBelow n) file old.now m1.now files (λ a b. KeepsBelow-write n at count (old.now file) (m1.now file) (files file) behind a b) (last_moment kept) so) wrote)
+  pub keeps_more : (m2 : Moments) → EachMoment (Changes file (KeepsBelow n) old.now) old m1 → EachMoment (Changes file (KeepsBelow n) m1.now) m1 m2 → EachMoment (Changes file (KeepsBelow n) old.now) old m2
+  keeps_more m2 kept more_kept = join kept (weaken Kept
+      (λ files so. changes_then (KeepsBelow n) file old.now m1.now files (λ a b. KeepsBelow-trans n (old.now file) (m1.now file) (files file) a b) (last_moment kept) so) more_kept)
 
 -- three pieces, one behind the other
-pub put_three : {T E : Type 0} (result : Result T E) (s0 s1 s2 last a b c : List ℕ) (at second third : ℕ) → OnOk result (last ≡ put s2 third c) → s2 ≡ put s1 second b → s1 ≡ put s0 at a
-    → at ≤ length s0 → second ≡ at + length a → third ≡ second + length b → OnOk result (last ≡ put s0 at (a ++ (b ++ c)))
-put_three (Ok x) s0 s1 s2 last a b c at second third is two one inside after_a after_b =
+pub put_three : (s a b c : List ℕ) (at : ℕ) → at ≤ length s → put (put (put s at a) (at + length a) b) (at + length a + length b) c ≡ put s at (a ++ (b ++ c))
+put_three s a b c at inside =
+    let third = at + length a + length b in
     let size : third ≡ at + length (a ++ b) = omega (arith, length-append a b) in
-    is ∙ ap (λ (l : List ℕ). put l third c) (two ∙ ap (λ (l : List ℕ). put l second b) one ∙ put-put s0 a b at second inside after_a)
-    ∙ put-put s0 (a ++ b) c at third inside size ∙ ap (λ (l : List ℕ). put s0 at l) (append_assoc a b c)
-put_three (Err e) s0 s1 s2 last a b c at second third is two one inside after_a after_b = tt
+    ap (λ (l : List ℕ). put l third c) (put-put s a b at (at + length a) inside refl) ∙ put-put s (a ++ b) c at third inside size
+    ∙ ap (λ (l : List ℕ). put s at l) (append_assoc a b c)
 
 -- a write and then a sync
 pub AfterWrite-sync : (at count : ℕ) (old mid new : FileState) → AfterWrite at count old mid → AfterSync mid new → AfterWrite at count old new

@@ -1,3 +1,5 @@
+use Rattle.std.proofs.Common.{◌⊎◌, ℕ, List, ◌++◌, subst}
+use Rattle.gate_journal.specs.Gate.{ClosedAfter, record_text}
 use Rattle.gate_journal.proofs.RecordLemmas.{told_apart, record_among, front-push, with_or_without, records_before}
 use Rattle.gate_journal.proofs.law.records_of_a_journal.Goals as goal
 
@@ -14,7 +16,8 @@ pub returns-clause-joined : goal.returns-clause-joined
 returns-clause-joined c = λ front records record_is. front-push front records record_is
 
 pub returns-clause-one_more : goal.returns-clause-one_more
-returns-clause-one_more c = λ front records record_is before image is fit one either. with_or_without front records record_is before image is fit one either
+returns-clause-one_more c = λ front records record_is before image is fit one either.
+    with_or_without front records record_is image fit one (subst (λ (l : List ℕ). ClosedAfter l image ⊎ ClosedAfter (l ++ record_text record_is) image) is either)
 
 pub returns-clause-at_gate : goal.returns-clause-at_gate
 returns-clause-at_gate c = λ journal file front records some at_gate text fit. records_before journal file front records some at_gate text fit

@@ -1,11 +1,16 @@
-use Rattle.std.proofs.Common.{◌≡◌, ◌<◌, ℕ, List, length, min, map, take, Vec, sym, ◌∙◌, ap, rules}
-use Rattle.std.specs.Prelude.{◌&&◌, nat_lt}
+use Rattle.std.proofs.Common.{◌≡◌, ◌<◌, ℕ, List, [], length, min, map, take, Vec, refl, sym, ◌∙◌, ap, subst, rules}
+use Rattle.std.specs.Prelude.{◌&&◌, if◌then◌else◌, nat_lt, slice_index_or, Some, None, IfOk}
 use Rattle.std.specs.declared.alloc.Global.{Global}
 use Rattle.std.proofs.lemmas.List.{length-map}
+use Rattle.disk_model.specs.FileState.{FileState, synced_file}
+use Rattle.disk_model.specs.Calls.{file_from, last_sync}
+use Rattle.disk_model.specs.Touched.{touched_at, touch}
+use Rattle.disk_model.specs.Chosen.{IsChosen}
+use Rattle.disk_model.specs.MemoryLog.{DiskLog, files_at, synced_at}
 use Rattle.disk_model.specs.Kept.{call_of, calls_of, touched_of, touched_in}
 use Rattle.disk_model.specs.declared.kept.KeptCall.{KeptCall}
 use Rattle.disk_model.proofs.StoredLemmas.{get_or-items, touched_at-of}
-use Rattle.disk_model.proofs.ReplayLemmas.{taken_calls, chosen_of}
+use Rattle.disk_model.proofs.ReplayLemmas.{taken_calls, file_at}
 use Rattle.disk_model.proofs.memory.MemoryDisk.file_image.Goals as goal
 
 pub returns : goal.returns
@@ -20,7 +25,22 @@ returns c =
     ∙ ap (λ (l : List KeptCall). calls_of (take (min c.args.calls (length calls)) l)) c.deref.ensures.value ∙ taken_calls calls c.args.calls in
     let beside : c.counts_beside-is_beside.result ≡ (c.self.inside.is_full && nat_lt (length (calls_of calls)) c.args.calls) =
     c.counts_beside-is_beside.ensures ∙ ap (λ (n : ℕ). c.self.inside.is_full && nat_lt n c.args.calls) (listed ∙ sym (length-map calls call_of)) in
-    chosen_of c.args.choice (map (λ v. v.items) c.self.inside.first) (calls_of calls) (calls_of (take c.min.result c.deref.result.now)) c.self.inside.is_full c.counts_beside-is_beside.result
-    (touched_in c.self.inside.touched) (touched_of c.index-self-place-2.result) c.args.calls c.args.file c.index-self-place.result.items c.self.inside.counts c.args.self.now c.crash_image.result c.requires
-    (ap (λ (v : Vec ℕ Global). v.items) c.index-self-place.is ∙ sym (get_or-items c.self.inside.first c.args.file c.index-self-place.result in_first)) kept beside
-    (ap touched_of c.index-self-place-2.is ∙ sym (touched_at-of c.self.inside.touched c.args.file c.index-self-place-2.result in_touched)) c.self.view_is (search rules)
+    let file = c.args.file in
+    let held = c.index-self-place.result.items in
+    let first = map (λ v. v.items) c.self.inside.first in
+    let touched = touched_in c.self.inside.touched in
+    let apart = touched_of c.index-self-place-2.result in
+    let log : DiskLog = record { first = first; calls = calls_of calls; together = (if c.self.inside.is_full then Some touched else None); counts = c.self.inside.counts } in
+    let held_is : held ≡ slice_index_or first file [] =
+    ap (λ (v : Vec ℕ Global). v.items) c.index-self-place.is ∙ sym (get_or-items c.self.inside.first file c.index-self-place.result in_first) in
+    let apart_is : apart ≡ touched_at touched file = ap touched_of c.index-self-place-2.is ∙ sym (touched_at-of c.self.inside.touched file c.index-self-place-2.result in_touched) in
+    let after = file_from file (synced_file held) (calls_of (take c.min.result c.deref.result.now)) in
+    let last = last_sync file held (synced_file held) (calls_of (take c.min.result c.deref.result.now)) in
+    let last_is : last ≡ synced_at log c.args.calls file = λ i. last_sync file (held_is i) (synced_file (held_is i)) (kept i) in
+    let after_is : after ≡ file_from file (synced_file (slice_index_or first file [])) (take c.args.calls (calls_of calls)) = λ i. file_from file (synced_file (held_is i)) (kept i) in
+    let file_is : (if c.counts_beside-is_beside.result then touch apart after else after) ≡ files_at log c.args.calls file =
+    (λ i. if beside i then touch (apart_is i) (after_is i) else after_is i) ∙ sym (file_at log c.self.inside.is_full touched c.args.calls file c.requires refl) in
+    let taken : IfOk c.crash_image.result (λ image. IsChosen c.args.choice (if c.counts_beside-is_beside.result then touch apart after else after) last image.items) = search rules in
+    subst (λ (l : DiskLog). IfOk c.crash_image.result (λ image. IsChosen c.args.choice (files_at l c.args.calls file) (synced_at l c.args.calls file) image.items)) c.self.view_is
+    (subst (λ (s : FileState). IfOk c.crash_image.result (λ image. IsChosen c.args.choice s (synced_at log c.args.calls file) image.items)) file_is
+    (subst (λ (l : List ℕ). IfOk c.crash_image.result (λ image. IsChosen c.args.choice (if c.counts_beside-is_beside.result then touch apart after else after) l image.items)) last_is taken))

@@ -8,7 +8,7 @@ use Rattle.disk_model.specs.Reads.{seen}
 use Rattle.gate_journal.specs.Stand.{Stand, text_before}
 use Rattle.gate_journal.specs.Gate.{IsClosed, record_text}
 use Rattle.gate_journal.specs.Writes.{KeepsBelow, OpensSettled}
-use Rattle.gate_journal.proofs.AppendLemmas.{Stages, OpensRecord, HasOpened, nothing_staged, stand_staged, stand_opened, stand_whole, stand_durable, stand_inside, stand_closed, stand_text}
+use Rattle.gate_journal.proofs.AppendLemmas.{Stages, OpensRecord, HasOpened, nothing_staged, stand_staged, stand_opened, stand_whole, stand_holds, settled_holds, stand_inside, stand_closed, stand_text}
 use Rattle.gate_journal.proofs.journal.Journal.append.Goals as goal
 
 pub returns-then-self-clause-appends : goal.returns-then-self-clause-appends
@@ -127,7 +127,7 @@ returns-clause-appends g c =
           (subst (λ (n : ℕ). take (n - 1) (seen m2 stand.file) ≡ text_before stand (seen old stand.file) ++ record_text (head ++ body)) size (stand_text stand head body old m1 m2 (done tells)));
       whole = λ tells. stand_whole stand head body old m1 m2 (done tells);
       any_moment = λ tells. stand_opened stand head body old m1 m2 (opens tells);
-      durable = λ tells. stand_durable stand head body old m1 m2 (done tells);
+      durable = λ tells. settled_holds (text_before stand (seen old stand.file) ++ record_text (head ++ body)) (m2.now stand.file) (done tells).settled (stand_holds stand head body old m1 m2 (done tells));
       full = search rules;
       only_full = search rules;
       later = search rules;

@@ -49,7 +49,7 @@ returns-then-count-size g c =
     (subst (λ (s : Stand). IsRead (seen m1 s.file) (s.length - 1 + 5) room count buf) c.self.view_is (c.in_ok-count.ensures.bytes tells)) in
     record {
       answer = λ tells.
-          let all = whole_count file buf (gate_of stand) stand.limit size room count (start tells) (read tells) room_is in
+          let all = whole_count file buf (gate_of stand) stand.limit size count (start tells) (subst (λ (n : ℕ). IsRead file (gate_of stand + 5) n count buf) room_is (read tells)) in
           absurd (omega (arith, all, c.if-count-size.true));
       readable = search rules;
       at_gate = search rules;
@@ -85,7 +85,8 @@ returns g c =
     let m2 = (g.D.Disk.seen c.read.new.self).moments in
     let whole : length buf ≡ size = c.read.auto.buf ∙ room_is in
     let found : (tells : IsTrue g.D.Disk.tells) → IsRecordAt file (gate_of stand) stand.limit buf = λ tells.
-    record_read file buf (gate_of stand) stand.limit size room count (start tells) (read tells) room_is whole in
+    record_read file buf (gate_of stand) stand.limit count (subst (λ (n : ℕ). IsStartAt file (gate_of stand) stand.limit n) (sym whole) (start tells))
+    (subst (λ (n : ℕ). IsRead file (gate_of stand + 5) n count buf) (sym c.read.auto.buf) (read tells)) in
     let now_is : (tells : IsTrue g.D.Disk.tells) → m2.now ≡ old.now = λ tells. last_moment (unchanged_then (c.record_size.ensures.unchanged tells) (c.read.ensures.time tells)) in
     let all_read = written_over buf c.zeros.new.self (whole ∙ sym zeros_are) in
     let some : 0 < stand.length = subst (λ (s : Stand). 0 < s.length) c.self.view_is c.self.invariant.1 in
