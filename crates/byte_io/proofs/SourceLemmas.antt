@@ -4,7 +4,7 @@ use Rattle.std.proofs.lemmas.List.{take_at, take-append-drop, drop-drop, length-
 use Rattle.fault_counts.specs.Counts.{Counts, faults_of}
 use Rattle.fault_counts.specs.Faults.{NeverFell}
 use Rattle.byte_io.specs.Source.{ReadsSome}
-use Rattle.byte_io.specs.MemorySource.{memory_seen}
+use Rattle.byte_io.specs.MemorySource.{SourceView, memory_seen}
 use Rattle.std.specs.Io.KnownBytes.{Consumes, Keeps}
 
 -- no read gave no bytes
@@ -26,18 +26,21 @@ Consumes_append (Some a) (Some b) None xs ys p q = absurd q
 Consumes_append (Some a) (Some b) (Some c) xs ys p q = rw (p, q, append_assoc) refl
 
 -- the front of what was left stands in the buffer, and the rest is left
-pub reads_front : (items before buffer : List ℕ) (at n : ℕ) (old new : Counts) → n ≡ min (length (drop at items)) (length before) → buffer ≡ take n (drop at items) ++ drop n before
-    → new.failed ≡ false → NeverFell (faults_of old) (faults_of new)
-    → ReadsSome (memory_seen (record { left = drop at items; counts = old })) (memory_seen (record { left = drop (at + n) items; counts = new })) buffer n
-reads_front items before buffer at n old new count copied worked later =
-    let left = drop at items in
-    let rest : drop n left ≡ drop (at + n) items = drop-drop n at items in
-    let front : length (take n left) ≡ n = omega (arith, length-take n left) in
-    let there : take n buffer ≡ take n left = ap (take n) copied ∙ take_at (take n left) (drop n before) n front in
+pub record CopiesFront (old new : SourceView) (before buffer : List ℕ) (n : ℕ) : Type 0 where
+  pub count : n ≡ min (length old.left) (length before)
+  pub copied : buffer ≡ take n old.left ++ drop n before
+  pub rest_is : drop n old.left ≡ new.left
+
+pub reads_front : (old new : SourceView) (before buffer : List ℕ) (n : ℕ) → CopiesFront old new before buffer n → new.counts.failed ≡ false → NeverFell (faults_of old.counts) (faults_of new.counts)
+    → ReadsSome (memory_seen old) (memory_seen new) buffer n
+reads_front old new before buffer n c worked later =
+    let left = old.left in
+    let front : length (take n left) ≡ n = omega (arith, c.count, length-take n left) in
+    let there : take n buffer ≡ take n left = ap (take n) c.copied ∙ take_at (take n left) (drop n before) n front in
     record {
-      bound = omega (arith, ap length copied, length-append (take n left) (drop n before));
-      bytes = sym (take-append-drop n left) ∙ ap (λ (q : List ℕ). q ++ drop n left) (sym there) ∙ ap (λ (q : List ℕ). take n buffer ++ q) rest;
-      ended = λ none some. nil_from_length (drop (at + n) items) (omega (arith, ap length rest, length-drop n left, ap length copied, length-append (take n left) (drop n before), length-drop n before));
+      bound = omega (arith, c.count, ap length c.copied, length-append (take n left) (drop n before));
+      bytes = sym (take-append-drop n left) ∙ ap (λ (q : List ℕ). q ++ drop n left) (sym there) ∙ ap (λ (q : List ℕ). take n buffer ++ q) c.rest_is;
+      ended = λ none some. nil_from_length new.left (omega (arith, c.count, ap length c.rest_is, length-drop n left, ap length c.copied, length-append (take n left) (drop n before), length-drop n before));
       worked = worked;
       later = later;
     }

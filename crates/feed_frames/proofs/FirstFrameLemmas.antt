@@ -24,7 +24,7 @@ with_payload : (bytes : List ℕ) (n : ℕ) → 5 ≤ length bytes → AreBytes 
     → ((leb n (length (drop 5 bytes)) ≡ true) × (n ≤ length (drop 5 bytes))) ⊎ ((leb n (length (drop 5 bytes)) ≡ false) × (length (drop 5 bytes) < n)) → FirstFrame bytes
 with_payload bytes n long fits e allowed is-kind (inl h) =
     let frame : Frame = record { kind = get_or bytes 0 0; payload = take n (drop 5 bytes) } in
-    stands frame (whole_front bytes n frame long fits e allowed h.1 refl refl)
+    stands frame (whole_front bytes n frame (record { long = long; fits = fits; length_is = e }) allowed h.1 refl refl)
 with_payload bytes n long fits e allowed is-kind (inr h) = missing (partial (cut_front bytes n long fits e is-kind allowed h.1))
 
 with_length : (bytes : List ℕ) (n : ℕ) → 5 ≤ length bytes → AreBytes bytes → n ≡ from_le_bytes w32 (length_field bytes) → n < 2 ^ 32 → IsKind (get_or bytes 0 0)

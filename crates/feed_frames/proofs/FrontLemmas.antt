@@ -26,6 +26,12 @@ four_fit k a b c d rest fits (suc (suc (suc (suc i)))) = omega arith
 abbrev pub length_field : List ℕ → List ℕ
 length_field bytes = get_or bytes 1 0 ∷ get_or bytes 2 0 ∷ get_or bytes 3 0 ∷ get_or bytes 4 0 ∷ []
 
+-- at least five bytes, of which four tell the length
+pub record HasLength (bytes : List ℕ) (n : ℕ) : Type 0 where
+  pub long : 5 ≤ length bytes
+  pub fits : (i : ℕ) → get_or bytes i 0 < 256
+  pub length_is : n ≡ from_le_bytes w32 (length_field bytes)
+
 pub parted : (bytes : List ℕ) (n : ℕ) → 5 ≤ length bytes → ((i : ℕ) → get_or bytes i 0 < 256) → n ≡ from_le_bytes w32 (length_field bytes)
     → bytes ≡ head_and (get_or bytes 0 0) n (drop 5 bytes)
 parted [] n long fits e = absurd (omega arith)
@@ -48,16 +54,16 @@ framed_then : (kind n : ℕ) (frame : Frame) (more : List ℕ) → frame.kind �
 framed_then kind n frame more kind-is len =
     ap (λ (k : ℕ). head_and k n (frame.payload ++ more)) (sym kind-is) ∙ ap (λ (m : ℕ). head_and frame.kind m (frame.payload ++ more)) (sym len) ∙ sym (frame_then frame more)
 
-pub whole_front : (bytes : List ℕ) (n : ℕ) (frame : Frame) → 5 ≤ length bytes → ((i : ℕ) → get_or bytes i 0 < 256) → n ≡ from_le_bytes w32 (length_field bytes)
+pub whole_front : (bytes : List ℕ) (n : ℕ) (frame : Frame) → HasLength bytes n
     → IsLength (get_or bytes 0 0) n → n ≤ length (drop 5 bytes) → frame.kind ≡ get_or bytes 0 0 → frame.payload ≡ take n (drop 5 bytes) → BeginsWith bytes frame
-whole_front bytes n frame long fits e allowed there kind payload =
+whole_front bytes n frame h allowed there kind payload =
     let k = get_or bytes 0 0 in
     let behind = drop 5 bytes in
     let more = drop n behind in
     let len : length frame.payload ≡ n = omega (arith, ap length payload, length-take n behind) in
     record {
       rest = more;
-      whole = parted bytes n long fits e
+      whole = parted bytes n h.long h.fits h.length_is
           ∙ ap (head_and k n) (sym (take-append-drop n behind) ∙ ap (λ (q : List ℕ). q ++ more) (sym payload))
           ∙ framed_then k n frame more kind len;
       framed = subst (λ (j : ℕ). IsLength j (length frame.payload)) (sym kind) (subst (IsLength k) (sym len) allowed);

@@ -8,6 +8,7 @@ use Rattle.nmc_base.proofs.ListLemmas.{all-more}
 use Rattle.feed_frames.specs.Kinds.{IsKind, IsLength}
 use Rattle.feed_frames.specs.Frames.{Frame, frame_text, frames_text, IsFramed, IsBadFrame, unknown_kind, wrong_length, IsPartialFrame, nothing, header_cut, payload_cut, Splits, IsRest, bad, partial}
 use Rattle.feed_frames.specs.Front.{BeginsWith}
+use Rattle.feed_frames.specs.Law.{HasSplitting}
 use Rattle.feed_frames.proofs.KindLemmas.{known, short}
 
 -- ---- two lists that are each a front and a rest
@@ -35,17 +36,25 @@ fits_four : (kind n : ℕ) → IsLength kind n → n < 2 ^ 32
 fits_four kind n h = omega (arith, short kind n h)
 
 -- a kind and a length tell themselves and what is behind them
-record SameHead (kind n : ℕ) (after : List ℕ) (own m : ℕ) (behind : List ℕ) : Type 0 where
-  kind_is : kind ≡ own
-  length_is : n ≡ m
-  after_is : after ≡ behind
+record Headed : Type 0 where
+  kind : ℕ
+  size : ℕ
+  after : List ℕ
 
-same_head : (kind n : ℕ) (after : List ℕ) (own m : ℕ) (behind : List ℕ) → n < 2 ^ 32 → m < 2 ^ 32 → head_and kind n after ≡ head_and own m behind → SameHead kind n after own m behind
-same_head kind n after own m behind fn fm e =
-    let head : kind ≡ own = cc in
-    let tail : to_le_bytes w32 n ++ after ≡ to_le_bytes w32 m ++ behind = cc in
-    let parts = same_parts (to_le_bytes w32 n) after (to_le_bytes w32 m) behind refl tail in
-    record { kind_is = head; length_is = same_number n m fn fm parts.front; after_is = parts.rest }
+abbrev headed : ℕ → ℕ → List ℕ → Headed
+headed kind n after = record { kind = kind; size = n; after = after }
+
+record SameHead (a b : Headed) : Type 0 where
+  kind_is : a.kind ≡ b.kind
+  length_is : a.size ≡ b.size
+  after_is : a.after ≡ b.after
+
+same_head : (a b : Headed) → a.size < 2 ^ 32 → b.size < 2 ^ 32 → head_and a.kind a.size a.after ≡ head_and b.kind b.size b.after → SameHead a b
+same_head a b fa fb e =
+    let head : a.kind ≡ b.kind = cc in
+    let tail : to_le_bytes w32 a.size ++ a.after ≡ to_le_bytes w32 b.size ++ b.after = cc in
+    let parts = same_parts (to_le_bytes w32 a.size) a.after (to_le_bytes w32 b.size) b.after refl tail in
+    record { kind_is = head; length_is = same_number a.size b.size fa fb parts.front; after_is = parts.rest }
 
 head_and_more : (kind n : ℕ) (after more : List ℕ) → head_and kind n after ++ more ≡ head_and kind n (after ++ more)
 head_and_more kind n after more = ap (λ (q : List ℕ). kind ∷ q) (append_assoc (to_le_bytes w32 n) after more)
@@ -70,7 +79,7 @@ not_bad p own m behind (unknown_kind kind rest p-is odd) fits e =
     let head : own ≡ kind = cc in
     odd (subst IsKind head (known own m fits))
 not_bad p own m behind (wrong_length kind n rest p-is small is-kind odd) fits e =
-    let f = same_head kind n rest own m behind small (fits_four own m fits) (sym p-is ∙ e) in
+    let f = same_head (headed kind n rest) (headed own m behind) small (fits_four own m fits) (sym p-is ∙ e) in
     odd (subst (λ (k : ℕ). IsLength k n) (sym f.kind_is) (subst (IsLength own) (sym f.length_is) fits))
 
 kind_is_read : (p : List ℕ) (kind : ℕ) (rest : List ℕ) → IsBadFrame p → p ≡ kind ∷ rest → IsKind kind → length rest < 4 → ⊥
@@ -98,7 +107,7 @@ partial_is_shorter p x frame more (header_cut kind rest p-is is-kind cut) fits e
 partial_is_shorter p x frame more (payload_cut kind n part p-is is-kind allowed cut) fits e =
     let same : head_and kind n (part ++ x) ≡ head_and frame.kind (length frame.payload) (frame.payload ++ more) =
     sym (head_and_more kind n part x) ∙ ap (λ (q : List ℕ). q ++ x) (sym p-is) ∙ e ∙ frame_then frame more in
-    let f = same_head kind n (part ++ x) frame.kind (length frame.payload) (frame.payload ++ more) (fits_four kind n allowed) (fits_four frame.kind (length frame.payload) fits) same in
+    let f = same_head (headed kind n (part ++ x)) (headed frame.kind (length frame.payload) (frame.payload ++ more)) (fits_four kind n allowed) (fits_four frame.kind (length frame.payload) fits) same in
     omega (arith, ap length p-is, length-frame_text frame, length-append (to_le_bytes w32 n) part, f.length_is)
 
 pub rest_begins_none : (p : List ℕ) (frame : Frame) (more : List ℕ) → IsRest p → IsFramed frame → p ≡ frame_text frame ++ more → ⊥
@@ -125,7 +134,7 @@ same_frame a b kinds payloads = ap (λ (k : ℕ). with_parts k a.payload) kinds 
 
 same_frames : (a : Frame) (x : List ℕ) (b : Frame) (y : List ℕ) → IsFramed a → IsFramed b → frame_text a ++ x ≡ frame_text b ++ y → SameFrames a x b y
 same_frames a x b y fits-a fits-b e =
-    let f = same_head a.kind (length a.payload) (a.payload ++ x) b.kind (length b.payload) (b.payload ++ y) (fits_four a.kind (length a.payload) fits-a) (fits_four b.kind (length b.payload) fits-b) (sym (frame_then a x) ∙ e ∙ frame_then b y) in
+    let f = same_head (headed a.kind (length a.payload) (a.payload ++ x)) (headed b.kind (length b.payload) (b.payload ++ y)) (fits_four a.kind (length a.payload) fits-a) (fits_four b.kind (length b.payload) fits-b) (sym (frame_then a x) ∙ e ∙ frame_then b y) in
     let parts = same_parts a.payload x b.payload y f.length_is f.after_is in
     record { frame = same_frame a b f.kind_is parts.front; rest = parts.rest }
 
@@ -145,9 +154,8 @@ same_splitting (x ∷ es) r (f ∷ fs) s fe ff hr hs e =
     let others = same_splitting es r fs s fe.1 ff.1 hr hs one.rest in
     record { frames = cc (one.frame, others.frames); rest = others.rest }
 
-pub one_splitting : (bytes : List ℕ) (frames others : List Frame) (rest left : List ℕ) → Splits bytes frames rest → IsRest rest → Splits bytes others left → IsRest left
-    → SameSplitting frames rest others left
-one_splitting bytes frames others rest left s is-rest t is-left = same_splitting frames rest others left s.framed t.framed is-rest is-left (sym s.whole ∙ t.whole)
+pub one_splitting : (bytes : List ℕ) (s t : HasSplitting bytes) → SameSplitting s.frames s.rest t.frames t.rest
+one_splitting bytes s t = same_splitting s.frames s.rest t.frames t.rest s.splits.framed t.splits.framed s.is_rest t.is_rest (sym s.splits.whole ∙ t.splits.whole)
 
 -- ---- a stream that grows, and a rest that loses its first frame
 

@@ -20,14 +20,23 @@ pub record Delivering (old now : SinkSeen) (text rest : List ℕ) : Type 0 where
 pub starts : (old : SinkSeen) (text : List ℕ) → Delivering old old text text
 starts old text = record { done = []; text_is = refl; took = Appends_nothing old.taken; moving = refl; later = NeverFell_refl old.faults }
 
-pub goes_on : (old mid new : SinkSeen) (text rest : List ℕ) (n : ℕ) → Delivering old mid text rest → WritesSome mid new rest n → 0 < n → Delivering old new text (drop n rest)
-goes_on old mid new text rest n d w some = record {
-  done = d.done ++ take n rest;
-  text_is = d.text_is ∙ ap (λ (q : List ℕ). d.done ++ q) (sym (take-append-drop n rest)) ∙ sym (append_assoc d.done (take n rest) (drop n rest));
-  took = Appends_append old.taken mid.taken new.taken d.done (take n rest) d.took w.bytes;
-  moving = w.moving some ∙ d.moving;
-  later = NeverFell_trans old.faults mid.faults new.faults d.later w.later;
-}
+-- a write took some bytes of the rest
+pub record Advanced (mid new : SinkSeen) (rest : List ℕ) : Type 0 where
+  pub count : ℕ
+  pub some : 0 < count
+  pub writes : WritesSome mid new rest count
+
+pub goes_on : (old mid new : SinkSeen) (text rest : List ℕ) → Delivering old mid text rest → (a : Advanced mid new rest) → Delivering old new text (drop a.count rest)
+goes_on old mid new text rest d a =
+    let n = a.count in
+    let w = a.writes in
+    record {
+      done = d.done ++ take n rest;
+      text_is = d.text_is ∙ ap (λ (q : List ℕ). d.done ++ q) (sym (take-append-drop n rest)) ∙ sym (append_assoc d.done (take n rest) (drop n rest));
+      took = Appends_append old.taken mid.taken new.taken d.done (take n rest) d.took w.bytes;
+      moving = w.moving a.some ∙ d.moving;
+      later = NeverFell_trans old.faults mid.faults new.faults d.later w.later;
+    }
 
 pub ends : (old new : SinkSeen) (text rest : List ℕ) → Delivering old new text rest → length rest ≡ 0 → TookAll old new text
 ends old new text rest d none = record {
@@ -41,22 +50,27 @@ pub since : (old mid new : SinkSeen) → NeverFell old.faults mid.faults → Sin
 since old mid new later (failing f rose) = failing f (stayed_then_Rose old.faults mid.faults new.faults later rose)
 since old mid new later (stalling s) = stalling s
 
-stops : (old mid new : SinkSeen) (text rest : List ℕ) → Delivering old mid text rest → 0 < length rest → Appends mid.taken new.taken [] → NeverFell mid.faults new.faults → SinkCause mid new → TookPart old new text
-stops old mid new text rest d some nothing later cause = record {
+-- the last write took nothing, for a cause
+record Stopped (mid new : SinkSeen) : Type 0 where
+  nothing : Appends mid.taken new.taken []
+  later : NeverFell mid.faults new.faults
+  cause : SinkCause mid new
+
+stops : (old mid new : SinkSeen) (text rest : List ℕ) → Delivering old mid text rest → 0 < length rest → Stopped mid new → TookPart old new text
+stops old mid new text rest d some stopped = record {
   part = d.done;
   missing = rest;
   text_is = d.text_is;
   some_missing = some;
-  took = subst (λ (q : List ℕ). Appends old.taken new.taken q) (append-nil d.done) (Appends_append old.taken mid.taken new.taken d.done [] d.took nothing);
-  later = NeverFell_trans old.faults mid.faults new.faults d.later later;
-  cause = since old mid new d.later cause;
+  took = subst (λ (q : List ℕ). Appends old.taken new.taken q) (append-nil d.done) (Appends_append old.taken mid.taken new.taken d.done [] d.took stopped.nothing);
+  later = NeverFell_trans old.faults mid.faults new.faults d.later stopped.later;
+  cause = since old mid new d.later stopped.cause;
 }
 
 -- a write that took nothing ends it
-pub stalls : (old mid new : SinkSeen) (text rest : List ℕ) (n : ℕ) → Delivering old mid text rest → 0 < length rest → WritesSome mid new rest n → n ≡ 0 → TookPart old new text
-stalls old mid new text rest n d some w none =
-    stops old mid new text rest d some (subst (λ (m : ℕ). Appends mid.taken new.taken (take m rest)) none w.bytes) w.later (stalling (w.stalled.1 (none, some)))
+pub stalls : (old mid new : SinkSeen) (text rest : List ℕ) → Delivering old mid text rest → 0 < length rest → WritesSome mid new rest 0 → TookPart old new text
+stalls old mid new text rest d some w = stops old mid new text rest d some (record { nothing = w.bytes; later = w.later; cause = stalling (w.stalled.1 (refl, some)) })
 
 pub fails : (old mid new : SinkSeen) (text rest : List ℕ) → Delivering old mid text rest → 0 < length rest → WriteFails mid new → TookPart old new text
 fails old mid new text rest d some f =
-    stops old mid new text rest d some (Appends_kept mid.taken new.taken f.kept) f.later (failing f.failed f.rose)
+    stops old mid new text rest d some (record { nothing = Appends_kept mid.taken new.taken f.kept; later = f.later; cause = failing f.failed f.rose })

@@ -168,23 +168,28 @@ then_leads Reached After a b c first second = record {
 pub one_more : {Start X : Type 0} (Reached : Start → List Frame → List Reply → X → Type 0) (a b c : Desk X) → Continues Reached a b → AnswersOne Reached b c → Continues Reached a c
 one_more Reached a b c first second = then_leads Reached (λ start. SoFar (Reached start)) a b c first second.continues
 
-pub finishes : {Start X : Type 0} (Reached Broken : Start → List Frame → List Reply → X → Type 0) (a b : Desk X) (sink : SinkSeen) (feed : Feed) (halted : Halted X)
-    → Continues Reached a b → AnswersAll Reached Broken b sink feed halted → AnswersAll Reached Broken a sink feed halted
-finishes Reached Broken a b sink feed (Partial now) first second = record {
-  continues = then_leads Reached (λ start. SoFar (Reached start)) a b (desk sink feed now) first second.continues;
+-- a sink, and the bytes that aren't answered
+pub record Beside : Type 0 where
+  pub sink : SinkSeen
+  pub feed : Feed
+
+pub finishes : {Start X : Type 0} (Reached Broken : Start → List Frame → List Reply → X → Type 0) (a b : Desk X) (end : Beside) (halted : Halted X)
+    → Continues Reached a b → AnswersAll Reached Broken b end.sink end.feed halted → AnswersAll Reached Broken a end.sink end.feed halted
+finishes Reached Broken a b end (Partial now) first second = record {
+  continues = then_leads Reached (λ start. SoFar (Reached start)) a b (desk end.sink end.feed now) first second.continues;
   partial = second.partial;
 }
-finishes Reached Broken a b sink feed (Bad now offset) first second = record {
-  continues = then_leads Reached (λ start. SoFar (Reached start)) a b (desk sink feed now) first second.continues;
+finishes Reached Broken a b end (Bad now offset) first second = record {
+  continues = then_leads Reached (λ start. SoFar (Reached start)) a b (desk end.sink end.feed now) first second.continues;
   bad = second.bad;
   offset_is = second.offset_is;
 }
-finishes Reached Broken a b sink feed (Undelivered now) first second = record {
-  leads = then_leads Reached (λ start. Interrupted (Reached start)) a b (desk sink feed now) first second.leads;
-  behind = advances_then_behind a.feed.left b.feed.left feed.left first.advances second.behind;
-  cause = since a.sink b.sink sink first.later second.cause;
+finishes Reached Broken a b end (Undelivered now) first second = record {
+  leads = then_leads Reached (λ start. Interrupted (Reached start)) a b (desk end.sink end.feed now) first second.leads;
+  behind = advances_then_behind a.feed.left b.feed.left end.feed.left first.advances second.behind;
+  cause = since a.sink b.sink end.sink first.later second.cause;
 }
-finishes Reached Broken a b sink feed (Ended now) first second = record {
-  leads = then_leads Reached (λ start. BrokenOff (Broken start)) a b (desk sink feed now) first second.leads;
-  behind = advances_then_behind a.feed.left b.feed.left feed.left first.advances second.behind;
+finishes Reached Broken a b end (Ended now) first second = record {
+  leads = then_leads Reached (λ start. BrokenOff (Broken start)) a b (desk end.sink end.feed now) first second.leads;
+  behind = advances_then_behind a.feed.left b.feed.left end.feed.left first.advances second.behind;
 }

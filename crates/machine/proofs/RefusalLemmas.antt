@@ -25,30 +25,34 @@ code_of a b e = ap (λ (r : Reply). r.code) e
 not_lacking : (chain : Chain) → (accepted_reply chain).code ≡ no_memory_reply.code → ⊥
 not_lacking chain e = omega (arith, e)
 
+-- a reply to the command, and the state that is left with it
+abbrev pub Answered : {R : Type 0} (refusals : Refusals R) (Holds : R → Type 0) (old done : RunState) → Type 0
+Answered refusals Holds old done = (reply : Reply) × (new : RunState) × Answers refusals Holds old done reply new
+
 -- an acceptance has a code that no refusal has, and only it leaves another state
-pub decided : {R : Type 0} (refusals : Refusals R) (Holds : R → Type 0) (old done new other : RunState) → ((r : R) → (refusals.reply_of r).code ≡ 0 → ⊥)
-    → (reply answer : Reply) → Answers refusals Holds old done reply new → Answers refusals Holds old done answer other → reply.code ≡ answer.code → new ≡ other
-decided refusals Holds old done new other coded reply answer (accepts v new-is r) (accepts w other-is s) e = new-is ∙ sym other-is
-decided refusals Holds old done new other coded reply answer (accepts v new-is r) (declines refusal f other-is s) e =
+pub decided : {R : Type 0} (refusals : Refusals R) (Holds : R → Type 0) (old done : RunState) → ((r : R) → (refusals.reply_of r).code ≡ 0 → ⊥)
+    → (one two : Answered refusals Holds old done) → one.0.code ≡ two.0.code → one.1 ≡ two.1
+decided refusals Holds old done coded (reply, new, accepts v new-is r) (answer, other, accepts w other-is s) e = new-is ∙ sym other-is
+decided refusals Holds old done coded (reply, new, accepts v new-is r) (answer, other, declines refusal f other-is s) e =
     absurd (coded refusal (sym (code_of _ _ s) ∙ sym e ∙ code_of _ _ r))
-decided refusals Holds old done new other coded reply answer (accepts v new-is r) (lacks_memory f other-is s) e =
+decided refusals Holds old done coded (reply, new, accepts v new-is r) (answer, other, lacks_memory f other-is s) e =
     absurd (not_lacking (chain_of done) (sym (code_of _ _ r) ∙ e ∙ code_of _ _ s))
-decided refusals Holds old done new other coded reply answer (declines refusal f new-is r) (accepts v other-is s) e =
+decided refusals Holds old done coded (reply, new, declines refusal f new-is r) (answer, other, accepts v other-is s) e =
     absurd (coded refusal (sym (code_of _ _ r) ∙ e ∙ code_of _ _ s))
-decided refusals Holds old done new other coded reply answer (lacks_memory f new-is r) (accepts v other-is s) e =
+decided refusals Holds old done coded (reply, new, lacks_memory f new-is r) (answer, other, accepts v other-is s) e =
     absurd (not_lacking (chain_of done) (sym (code_of _ _ s) ∙ sym e ∙ code_of _ _ r))
-decided refusals Holds old done new other coded reply answer (declines refusal f new-is r) (declines other-refusal h other-is s) e = new-is ∙ sym other-is
-decided refusals Holds old done new other coded reply answer (declines refusal f new-is r) (lacks_memory h other-is s) e = new-is ∙ sym other-is
-decided refusals Holds old done new other coded reply answer (lacks_memory f new-is r) (declines refusal h other-is s) e = new-is ∙ sym other-is
-decided refusals Holds old done new other coded reply answer (lacks_memory f new-is r) (lacks_memory h other-is s) e = new-is ∙ sym other-is
+decided refusals Holds old done coded (reply, new, declines refusal f new-is r) (answer, other, declines other-refusal h other-is s) e = new-is ∙ sym other-is
+decided refusals Holds old done coded (reply, new, declines refusal f new-is r) (answer, other, lacks_memory h other-is s) e = new-is ∙ sym other-is
+decided refusals Holds old done coded (reply, new, lacks_memory f new-is r) (answer, other, declines refusal h other-is s) e = new-is ∙ sym other-is
+decided refusals Holds old done coded (reply, new, lacks_memory f new-is r) (answer, other, lacks_memory h other-is s) e = new-is ∙ sym other-is
 
 -- each refusal stands in the order
-pub survives_once : {R : Type 0} (refusals : Refusals R) (Holds : R → Type 0) (old done new other : Chain) → ((r : R) → refusals.order r < refusals.places)
-    → Survives refusals Holds old done new → Survives refusals Holds old done other → new ≡ other
-survives_once refusals Holds old done new other placed (is_done v new-is) (is_done w other-is) = new-is ∙ sym other-is
-survives_once refusals Holds old done new other placed (is_done v new-is) (stays r f other-is) = absurd (v.none r (placed r) f.holds)
-survives_once refusals Holds old done new other placed (stays r f new-is) (is_done v other-is) = absurd (v.none r (placed r) f.holds)
-survives_once refusals Holds old done new other placed (stays r f new-is) (stays s g other-is) = new-is ∙ sym other-is
+pub survives_once : {R : Type 0} (refusals : Refusals R) (Holds : R → Type 0) (old done : Chain) → ((r : R) → refusals.order r < refusals.places)
+    → (one two : (new : Chain) × Survives refusals Holds old done new) → one.0 ≡ two.0
+survives_once refusals Holds old done placed (new, is_done v new-is) (other, is_done w other-is) = new-is ∙ sym other-is
+survives_once refusals Holds old done placed (new, is_done v new-is) (other, stays r f other-is) = absurd (v.none r (placed r) f.holds)
+survives_once refusals Holds old done placed (new, stays r f new-is) (other, is_done v other-is) = absurd (v.none r (placed r) f.holds)
+survives_once refusals Holds old done placed (new, stays r f new-is) (other, stays s g other-is) = new-is ∙ sym other-is
 
 pub fewer_none : {R : Type 0} (Few Many : R → Type 0) (order : R → ℕ) (n : ℕ) → ((r : R) → Few r → Many r) → HasNoneBelow Many order n → HasNoneBelow Few order n
 fewer_none Few Many order n more none = record { none = λ r lt h. none.none r lt (more r h) }

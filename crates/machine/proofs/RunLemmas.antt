@@ -1,5 +1,5 @@
 -- Runs go on by one step, and what they leave is the surviving chain of the accepted commands.
-use Rattle.std.proofs.Common.{◌≡◌, true, false, eqb, ℕ, List, [], ◌∷◌, ◌++◌, refl, sym, ap, subst, ◌∙◌}
+use Rattle.std.proofs.Common.{◌≡◌, ◌==◌, if◌then◌else◌, true, false, eqb, ℕ, List, [], ◌∷◌, ◌++◌, refl, sym, ap, subst, ◌∙◌}
 use Rattle.std.proofs.lemmas.Bool.{ne_eqb}
 use Rattle.block_grammar.specs.Block.{block_hash}
 use Rattle.machine.specs.Chain.{Chain, with_block}
@@ -22,17 +22,19 @@ run_push old [] (r ∷ replies) mid event reply new run step = absurd run
 run_push old (e ∷ events) [] mid event reply new run step = absurd run
 run_push old (e ∷ events) (r ∷ replies) mid event reply new run step = (run.0, run.1, run_push run.0 events replies mid event reply new run.2 step)
 
-pub decided_step : (old new other : RunState) (event : Event) (reply answer : Reply) → Step old event reply new → Step old event answer other → reply.code ≡ answer.code → new ≡ other
-decided_step old new other (Do (Connect block)) reply answer first second e =
-    decided connects (Holds (IsFull old (Connect block)) (chain_of old) block) old (accepted old (Connect block)) new other coded reply answer first second e
-decided_step old new other (Do (Disconnect hash)) reply answer first second e =
-    decided disconnects (HoldsBack (IsFull old (Disconnect hash)) (chain_of old) hash) old (accepted old (Disconnect hash)) new other coded_back reply answer first second e
+-- a reply to the event, and the state after the step
+abbrev pub Stepped : RunState → Event → Type 0
+Stepped old event = (reply : Reply) × (new : RunState) × Step old event reply new
+
+pub decided_step : (old : RunState) (event : Event) (one two : Stepped old event) → one.0.code ≡ two.0.code → one.1 ≡ two.1
+decided_step old (Do (Connect block)) one two e = decided connects (Holds (IsFull old (Connect block)) (chain_of old) block) old (accepted old (Connect block)) coded one two e
+decided_step old (Do (Disconnect hash)) one two e = decided disconnects (HoldsBack (IsFull old (Disconnect hash)) (chain_of old) hash) old (accepted old (Disconnect hash)) coded_back one two e
 
 -- ---- the surviving chain
 
 command_survives_once : (old new other : Chain) (command : Command) → SurvivesCommand old command new → SurvivesCommand old command other → new ≡ other
-command_survives_once old new other (Connect block) first second = survives_once connects (Holds ⊥ old block) old (after_command old (Connect block)) new other placed first second
-command_survives_once old new other (Disconnect hash) first second = survives_once disconnects (HoldsBack ⊥ old hash) old (after_command old (Disconnect hash)) new other placed_back first second
+command_survives_once old new other (Connect block) first second = survives_once connects (Holds ⊥ old block) old (after_command old (Connect block)) placed (new, first) (other, second)
+command_survives_once old new other (Disconnect hash) first second = survives_once disconnects (HoldsBack ⊥ old hash) old (after_command old (Disconnect hash)) placed_back (new, first) (other, second)
 
 pub one_surviving : (old new other : Chain) (commands : List Command) → Surviving old commands new → Surviving old commands other → new ≡ other
 one_surviving old new other [] first second = first ∙ sym second
@@ -71,30 +73,33 @@ step_leaves : (old new : RunState) (command : Command) (reply : Reply) → Step 
 step_leaves old new (Connect block) reply step = connect_leaves old new block reply step
 step_leaves old new (Disconnect hash) reply step = disconnect_leaves old new hash reply step
 
-state_after : (old mid new : RunState) (command : Command) (reply : Reply) (events : List Event) (replies : List Reply) → Leaves old command reply mid
-    → new ≡ all_accepted mid (accepted_of events replies) → new ≡ all_accepted old (accepted_of (Do command ∷ events) (reply ∷ replies))
-state_after old mid new command reply events replies (joins code mid-is survives) more = rw code (more ∙ ap (λ (r : RunState). all_accepted r (accepted_of events replies)) mid-is)
-state_after old mid new command reply events replies (remains code mid-is) more = rw code (more ∙ ap (λ (r : RunState). all_accepted r (accepted_of events replies)) mid-is)
+-- the accepted ones of a command and those after it
+abbrev accepted_first : Command → Reply → List Command → List Command
+accepted_first command reply later = if reply.code == 0 then command ∷ later else later
+
+state_after : (old mid new : RunState) (command : Command) (reply : Reply) (later : List Command) → Leaves old command reply mid
+    → new ≡ all_accepted mid later → new ≡ all_accepted old (accepted_first command reply later)
+state_after old mid new command reply later (joins code mid-is survives) more = rw code (more ∙ ap (λ (r : RunState). all_accepted r later) mid-is)
+state_after old mid new command reply later (remains code mid-is) more = rw code (more ∙ ap (λ (r : RunState). all_accepted r later) mid-is)
 
 pub run_state : (old new : RunState) (events : List Event) (replies : List Reply) → Run old events replies new → new ≡ all_accepted old (accepted_of events replies)
 run_state old new [] [] run = run
 run_state old new [] (r ∷ replies) run = absurd run
 run_state old new (e ∷ events) [] run = absurd run
 run_state old new (Do command ∷ events) (r ∷ replies) (mid, step, more) =
-    state_after old mid new command r events replies (step_leaves old mid command r step) (run_state mid new events replies more)
+    state_after old mid new command r (accepted_of events replies) (step_leaves old mid command r step) (run_state mid new events replies more)
 
-chain_after : (old mid new : RunState) (command : Command) (reply : Reply) (events : List Event) (replies : List Reply) → Leaves old command reply mid
-    → Surviving (chain_of mid) (accepted_of events replies) (chain_of new) → Surviving (chain_of old) (accepted_of (Do command ∷ events) (reply ∷ replies)) (chain_of new)
-chain_after old mid new command reply events replies (joins code mid-is survives) more = rw code (chain_of mid, survives, more)
-chain_after old mid new command reply events replies (remains code mid-is) more =
-    rw code (subst (λ (r : RunState). Surviving (chain_of r) (accepted_of events replies) (chain_of new)) mid-is more)
+chain_after : (old mid new : RunState) (command : Command) (reply : Reply) (later : List Command) → Leaves old command reply mid
+    → Surviving (chain_of mid) later (chain_of new) → Surviving (chain_of old) (accepted_first command reply later) (chain_of new)
+chain_after old mid new command reply later (joins code mid-is survives) more = rw code (chain_of mid, survives, more)
+chain_after old mid new command reply later (remains code mid-is) more = rw code (subst (λ (r : RunState). Surviving (chain_of r) later (chain_of new)) mid-is more)
 
 pub run_survives : (old new : RunState) (events : List Event) (replies : List Reply) → Run old events replies new → Surviving (chain_of old) (accepted_of events replies) (chain_of new)
 run_survives old new [] [] run = ap chain_of run
 run_survives old new [] (r ∷ replies) run = absurd run
 run_survives old new (e ∷ events) [] run = absurd run
 run_survives old new (Do command ∷ events) (r ∷ replies) (mid, step, more) =
-    chain_after old mid new command r events replies (step_leaves old mid command r step) (run_survives mid new events replies more)
+    chain_after old mid new command r (accepted_of events replies) (step_leaves old mid command r step) (run_survives mid new events replies more)
 
 -- ---- disconnecting is forgetting
 

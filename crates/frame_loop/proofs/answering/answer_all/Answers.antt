@@ -8,7 +8,7 @@ loop-next-init g c = stays g.T.Answerer.reached (desk (g.K.Sink.seen c.args.sink
 pub returns-in-Err : goal.returns-in-Err
 returns-in-Err g c =
     finishes g.T.Answerer.reached g.T.Answerer.broken (desk (g.K.Sink.seen c.args.sink.now) c.args.frames.now (c.args.answerer, c.args.world.now))
-    (desk (g.K.Sink.seen c.loop-next.sink) c.loop-next.frames (c.loop-next.answerer, c.loop-next.world)) (g.K.Sink.seen c.answer_next.new.sink) c.answer_next.new.frames
+    (desk (g.K.Sink.seen c.loop-next.sink) c.loop-next.frames (c.loop-next.answerer, c.loop-next.world)) (record { sink = g.K.Sink.seen c.answer_next.new.sink; feed = c.answer_next.new.frames })
     (halted_beside c.answer_next.new.world c.in-Err.halted) c.loop-next.invariant c.in-Err.ensures
 
 pub loop-next-preserved : goal.loop-next-preserved

@@ -4,4 +4,5 @@ use Rattle.frame_loop.proofs.delivery.deliver.Goals as goal
 
 pub loop-rest-preserved : goal.loop-rest-preserved
 loop-rest-preserved g c =
-    rw c.split_at.ensures.back (goes_on (g.K.Sink.seen c.args.sink.now) (g.K.Sink.seen c.loop-rest.sink) (g.K.Sink.seen c.write.new.self) c.args.text.now c.loop-rest.rest.now c.in-Ok.count c.loop-rest.invariant c.in-Ok.ensures (omega (arith, c.if-count-eq0.false)))
+    rw c.split_at.ensures.back (goes_on (g.K.Sink.seen c.args.sink.now) (g.K.Sink.seen c.loop-rest.sink) (g.K.Sink.seen c.write.new.self) c.args.text.now c.loop-rest.rest.now c.loop-rest.invariant
+    (record { count = c.in-Ok.count; some = omega (arith, c.if-count-eq0.false); writes = c.in-Ok.ensures }))

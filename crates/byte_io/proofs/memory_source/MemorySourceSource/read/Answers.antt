@@ -1,7 +1,14 @@
-use Rattle.std.proofs.Common.{◌≡◌, false, arith, rules}
+use Rattle.std.proofs.Common.{◌≡◌, ◌+◌, ◌++◌, false, min, length, take, drop, arith, rules}
+use Rattle.std.proofs.lemmas.List.{drop-drop}
 use Rattle.byte_io.proofs.SourceLemmas.{reads_front}
 use Rattle.byte_io.proofs.memory_source.MemorySourceSource.read.Goals as goal
 
 pub returns-clause-reads : goal.returns-clause-reads
 returns-clause-reads c =
-    rw (← c.self.view_is) (reads_front c.self.inside.bytes.items c.args.buf.now c.copy_front-count.new.buffer c.self.inside.at c.copy_front-count.result c.self.inside.counts c.next_call.new.self (search rules) (search rules) (search rules) c.next_call.ensures.later)
+    let items = c.self.inside.bytes.items in
+    let at = c.self.inside.at in
+    let n = c.copy_front-count.result in
+    let count : n ≡ min (length (drop at items)) (length c.args.buf.now) = search rules in
+    let copied : c.copy_front-count.new.buffer ≡ take n (drop at items) ++ drop n c.args.buf.now = search rules in
+    rw (← c.self.view_is) (reads_front (record { left = drop at items; counts = c.self.inside.counts }) (record { left = drop (at + n) items; counts = c.next_call.new.self })
+    c.args.buf.now c.copy_front-count.new.buffer n (record { count = count; copied = copied; rest_is = drop-drop n at items }) (search rules) c.next_call.ensures.later)
