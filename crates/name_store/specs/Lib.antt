@@ -1,0 +1,10 @@
+pub mod HostText
+pub mod Header
+pub mod Commands
+pub mod Stands
+pub mod Damage
+pub mod Stored
+pub mod Opening
+pub mod Making
+pub mod Connecting
+pub mod Disconnecting

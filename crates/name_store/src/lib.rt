@@ -1,0 +1,14 @@
+//! The store: an index of names whose commands are kept in files that outlive a crash.
+#![tactic(auto)]
+
+mod faults;
+mod host;
+mod limits;
+mod making;
+mod opening;
+mod store;
+
+pub use faults::{CreateFault, OpenFault};
+pub use host::HostText;
+pub use making::create;
+pub use store::{BackOutcome, Outcome, Store};

@@ -1,0 +1,130 @@
+ghost use Rattle.std.specs.Prelude.{◌≡◌, ◌≤◌, length, IsTrue};
+ghost use Rattle.fault_counts.specs.Faults.{NeverFell, Rose};
+ghost use Rattle.disk_model.specs.Moments.{EachMoment};
+ghost use Rattle.disk_model.specs.DiskSeen.{bytes_in};
+ghost use Rattle.nmc_base.specs.declared.limits.TheConstants.{LONGEST_BLOCK};
+ghost use Rattle.machine.specs.Event.{Connect, Disconnect};
+ghost use Rattle.machine.specs.RunState.{RunState, accepted, longest_area};
+ghost use Rattle.name_store.specs.Stands.{Stands, EachStandsForEither};
+ghost use Rattle.name_store.specs.Stored.{StandsFor, IsOn};
+ghost use Rattle.name_store.specs.Connecting as connecting;
+ghost use Rattle.name_store.specs.Disconnecting as disconnecting;
+
+use crate::host::HostText;
+use chain_state::{BackRefusal, Chain, Refusal};
+use disk_model::Disk;
+use nmc_base::{Hash32, Steps, Tip};
+use std::alloc::Global;
+use std::marker::Model;
+use std::sync::ledger::Ledger;
+
+/// An index whose commands are kept in the files of a disk. Contracts see the index, its base's host and the length of its
+/// area in bytes. It holds no disk.
+#[derive(Drop)]
+pub struct Store {
+    chain: Chain,
+    host: HostText,
+    area: u64,
+}
+
+impl Model for Store {
+    ghost use Rattle.std.specs.Prelude.{◌≤◌};
+    ghost use Rattle.machine.specs.RunState.{longest_area};
+    ghost use Rattle.name_store.specs.Stored.{Stored};
+    ghost use Rattle.name_store.specs.declared.limits.TheConstants.{EMPTY_AREA};
+
+    ghost Value = { Stored };
+
+    ghost view = { λ s. record { index = s.chain; host = s.host; area = s.area } };
+
+    ghost invariant = { λ s. (EMPTY_AREA ≤ s.area) × (s.area ≤ longest_area) };
+}
+
+/// What came of a connect. A store that is handed back with a refusal, or for want of memory, stands for what it stood for.
+/// A fault of the disk hands none back: open the files again.
+#[derive(Drop)]
+pub enum Outcome {
+    Done(Store, Tip),
+    Refused(Store, Refusal),
+    NoMemory(Store),
+    Faulted,
+}
+
+/// What came of a disconnect, likewise.
+#[derive(Drop)]
+pub enum BackOutcome {
+    Done(Store, Tip),
+    Refused(Store, BackRefusal),
+    NoMemory(Store),
+    Faulted,
+}
+
+impl Store {
+    /// The index.
+    pub fn chain(&self) -> &Chain
+        ensures { result.now ≡ self.now.index }
+    {
+        &self.chain
+    }
+
+    /// The host of the base.
+    pub fn host(&self) -> &HostText
+        ensures { result.now ≡ self.now.host }
+    {
+        &self.host
+    }
+
+    /// Connects a block: stages it, keeps it in the area, and then changes the index.
+    ///
+    /// The refusals are those of the machine, that of a full area last. Where the block is refused, and where memory is
+    /// wanting, the disk isn't asked. A crash at any moment leaves files that stand for the run state before or after.
+    pub fn connect<D: Disk, L: Ledger>(
+        self,
+        alloc: Global,
+        disk: &mut D,
+        bytes: &[u8],
+        steps: &mut Steps<L>,
+    ) -> Outcome
+        requires short { length bytes.now ≤ LONGEST_BLOCK }
+        requires on_disk { IsTrue D.tells → IsOn self (D.seen disk.old).moments.now }
+        ensures connects { connecting.Connects longest_area self bytes.now result }
+        ensures undone { connecting.IfUndone (disk.new ≡ disk.old) result }
+        ensures still_on { IsTrue D.tells → connecting.IsStillOn result (D.seen disk.new).moments.now }
+        ensures done { IsTrue D.tells → (run : RunState) → StandsFor self run → Stands (bytes_in (D.seen disk.old)) run
+            → connecting.IfDone (Stands (bytes_in (D.seen disk.new)) (accepted run (Connect bytes.now))) result }
+        ensures any_moment { IsTrue D.tells → (run : RunState) → StandsFor self run → Stands (bytes_in (D.seen disk.old)) run
+            → EachMoment (EachStandsForEither run (accepted run (Connect bytes.now))) (D.seen disk.old).moments (D.seen disk.new).moments }
+        ensures later { NeverFell (D.seen disk.old).faults (D.seen disk.new).faults }
+        ensures fault { connecting.IfFaulted (Rose (D.seen disk.old).faults (D.seen disk.new).faults) result }
+        ensures cost { connecting.IsCheapIfDone bytes.now result steps.old steps.new }
+    {
+        let _ = (alloc, disk, bytes, steps);
+        Outcome::NoMemory(self)
+    }
+
+    /// Disconnects the newest block, which has this hash: stages that, keeps it in the area, and then changes the index.
+    ///
+    /// The same holds as of a connect.
+    pub fn disconnect<D: Disk, L: Ledger>(
+        self,
+        alloc: Global,
+        disk: &mut D,
+        hash: Hash32,
+        steps: &mut Steps<L>,
+    ) -> BackOutcome
+        requires on_disk { IsTrue D.tells → IsOn self (D.seen disk.old).moments.now }
+        ensures disconnects { disconnecting.Disconnects longest_area self hash.0 result }
+        ensures undone { disconnecting.IfUndone (disk.new ≡ disk.old) result }
+        ensures still_on { IsTrue D.tells → disconnecting.IsStillOn result (D.seen disk.new).moments.now }
+        ensures done { IsTrue D.tells → (run : RunState) → StandsFor self run → Stands (bytes_in (D.seen disk.old)) run
+            → disconnecting.IfDone (Stands (bytes_in (D.seen disk.new)) (accepted run (Disconnect hash.0))) result }
+        ensures any_moment { IsTrue D.tells → (run : RunState) → StandsFor self run → Stands (bytes_in (D.seen disk.old)) run
+            → EachMoment (EachStandsForEither run (accepted run (Disconnect hash.0))) (D.seen disk.old).moments (D.seen disk.new).moments }
+        ensures later { NeverFell (D.seen disk.old).faults (D.seen disk.new).faults }
+        ensures fault { disconnecting.IfFaulted (Rose (D.seen disk.old).faults (D.seen disk.new).faults) result }
+        ensures cost { disconnecting.IsCheapIfDone self.index result steps.old steps.new }
+    {
+        let _ = (alloc, disk, hash, steps);
+        BackOutcome::NoMemory(self)
+    }
+}
