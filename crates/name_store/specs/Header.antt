@@ -35,7 +35,7 @@ pub record IsBegun (base : Base) (host : List ℕ) : Type 0 where
   pub network : base.profile ≡ Regtest
   pub low : base.height ≤ highest
   pub hash : length base.hash.0 ≡ 32
-  pub host : IsHostText host
+  pub named : IsHostText host
 
 -- ---- the fields of a file, at their places
 

@@ -4,6 +4,7 @@ pub mod Commands
 pub mod Stands
 pub mod Damage
 pub mod Stored
+pub mod Keeping
 pub mod Opening
 pub mod Making
 pub mod Connecting

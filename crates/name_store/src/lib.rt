@@ -3,6 +3,7 @@
 
 mod faults;
 mod host;
+mod keeping;
 mod limits;
 mod making;
 mod opening;

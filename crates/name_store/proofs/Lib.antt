@@ -1,0 +1,5 @@
+mod KeepLemmas
+mod AreaLemmas
+mod StoreLemmas
+mod ConnectLemmas
+mod DisconnectLemmas
