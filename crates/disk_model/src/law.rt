@@ -1,6 +1,7 @@
 ghost use Rattle.std.specs.Prelude.{◌≡◌, ◌⊎◌, ℕ, ◌≤◌, List, IsTrue};
 ghost use Rattle.disk_model.specs.FileState.{IsFileImage, IsSettled};
 ghost use Rattle.disk_model.specs.Moments.{Files, Moments, EachMoment, IsImage, LeftSince, clock};
+ghost use Rattle.disk_model.specs.Changes.{Changes, AfterSync};
 ghost use Rattle.disk_model.specs.DiskSeen.{file_in, bytes_in};
 
 use crate::disk::Disk;
@@ -34,3 +35,10 @@ pub fn images_of_a_disk<D: Disk>(disk: &D)
 {
     let _ = disk;
 }
+
+/// The law of syncs. A sync, done or failed, adds no image: what a crash may leave then, it may have left
+/// before.
+pub fn images_after_a_sync()
+    ensures { (file : ℕ) (old new : Files) (image : ℕ → List ℕ)
+        → Changes file AfterSync old new → IsImage new image → IsImage old image }
+{}

@@ -13,7 +13,7 @@ mod touched;
 
 pub use choice::Choice;
 pub use disk::{Disk, Failed};
-pub use law::{OfFiles, images_of_a_disk, images_of_moments};
+pub use law::{OfFiles, images_after_a_sync, images_of_a_disk, images_of_moments};
 pub use memory::MemoryDisk;
 
 #[cfg(test)]

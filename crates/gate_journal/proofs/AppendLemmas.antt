@@ -12,7 +12,7 @@ use Rattle.disk_model.proofs.MomentLemmas.{weaken, join, last_moment}
 use Rattle.disk_model.proofs.ImageLemmas.{IsSettled-image}
 use Rattle.gate_journal.specs.Gate.{IsClosed, ClosedAfter, behind_gate, record_text}
 use Rattle.gate_journal.specs.Stand.{Stand, gate_of, text_before, IsAtGate}
-use Rattle.gate_journal.specs.Writes.{KeepsBelow, IsSettledBut, OpensGate, IsBeforeOrAfter, IsOpenedOrClosed, HoldsGate}
+use Rattle.gate_journal.specs.Writes.{KeepsBelow, IsSettledBut, OpensSettled, IsBeforeOrAfter, IsOpenedOrClosed, HoldsGate}
 use Rattle.gate_journal.proofs.WriteLemmas.{KeepsBelow-sync, KeepsBelow-refl, changes_then, length-put}
 
 -- a text, a closed gate, and anything
@@ -22,6 +22,18 @@ closed_front text rest gate shut = record {
   inside = omega (arith, length-append text (gate ∷ rest));
   closed = subst (λ n. n ≢ 1) (sym (get_or_at text gate rest 0 (length text) refl)) shut;
 }
+
+-- a closed gate put behind a text
+pub created : (at : ℕ) (old new : List ℕ) → at ≤ length old → new ≡ put old at (0 ∷ []) → (at + 1 ≤ length new) × IsClosed new (at + 1 - 1) × (take at new ≡ take at old)
+created at old new inside is =
+    let text = take at old in
+    let shut : ClosedAfter text new = subst (ClosedAfter text) (sym is) (closed_front text (drop (at + 1) old) 0 (omega arith)) in
+    let size : length text ≡ at = omega (arith, length-take at old) in
+    let place : length text ≡ at + 1 - 1 = omega (arith, size) in (
+      omega (arith, size, shut.inside),
+      subst (IsClosed new) place shut.closed,
+      ap (λ (n : ℕ). take n new) (sym size) ∙ shut.begins,
+    )
 
 -- the same bytes before a place
 same_front : (n : ℕ) (a b : List ℕ) → n ≤ length a → n ≤ length b → ((p : ℕ) → p < n → slice_index a p ≡ slice_index b p) → take n a ≡ take n b
@@ -127,7 +139,7 @@ module _ (file gate : ℕ) (behind : List ℕ) (old m1 : Moments) (within : gate
   pub append_unmade : EachMoment (IsBeforeOrAfter file (take gate (seen old file)) (take gate (seen old file) ++ (1 ∷ behind)) old.now) old old
   append_unmade = start (staying old.now (record { here = KeepsBelow-refl (gate + 1) (old.now file); others = λ other differ. refl }))
 
-  module _ (m2 : Moments) (wrote : seen m1 file ≡ put (seen old file) (gate + 1) (behind ++ 0 ∷ [])) (opens : EachMoment (OpensGate file gate (seen m1 file) m1.now) m1 m2) where
+  module _ (m2 : Moments) (wrote : seen m1 file ≡ put (seen old file) (gate + 1) (behind ++ 0 ∷ [])) (opens : EachMoment (OpensSettled file gate (seen m1 file) m1.now) m1 m2) where
     abbrev rest : List ℕ
     rest = drop (gate + 1 + length (behind ++ 0 ∷ [])) (seen old file)
 
@@ -166,7 +178,7 @@ module _ (file gate : ℕ) (behind : List ℕ) (old m1 : Moments) (within : gate
               closed = subst (λ n. IsClosed image n) (sym long) shut;
             }
 
-    opening : (files : Files) → OpensGate file gate (seen m1 file) m1.now files → IsBeforeOrAfter file (take gate (seen old file)) (take gate (seen old file) ++ (1 ∷ behind)) old.now files
+    opening : (files : Files) → OpensSettled file gate (seen m1 file) m1.now files → IsBeforeOrAfter file (take gate (seen old file)) (take gate (seen old file) ++ (1 ∷ behind)) old.now files
     opening files (inl synced) = staying files (changes_then (KeepsBelow (gate + 1)) file old.now m1.now files (λ a b. KeepsBelow-sync (gate + 1) (old.now file) (m1.now file) (files file) a b) m1_files synced)
     opening files (inr but) = record {
       image = λ image is. either image (files file) but.here is;
@@ -202,7 +214,7 @@ module _ (stand : Stand) (head body : List ℕ) (old : Moments) (some : 0 < stan
     stand_staged = append_staged stand.file (gate_of stand) (behind_gate (head ++ body)) old m1 stand_within at.settled at.closed kept_gate
 
     module _ (m2 : Moments) (wrote : seen m1 stand.file ≡ put (seen old stand.file) stand.length ((to_le_bytes w32 (length head + length body) ++ head) ++ (body ++ 0 ∷ [])))
-        (opens : EachMoment (OpensGate stand.file (stand.length - 1) (seen m1 stand.file) m1.now) m1 m2) where
+        (opens : EachMoment (OpensSettled stand.file (stand.length - 1) (seen m1 stand.file) m1.now) m1 m2) where
       wrote_gate : seen m1 stand.file ≡ put (seen old stand.file) (gate_of stand + 1) (behind_gate (head ++ body) ++ 0 ∷ [])
       wrote_gate = wrote ∙ (λ i. put (seen old stand.file) (sym next_to i) (behind_is head body i))
 
@@ -215,6 +227,10 @@ module _ (stand : Stand) (head body : List ℕ) (old : Moments) (some : 0 < stan
 
         file_is : seen m2 stand.file ≡ (text_before stand (seen old stand.file) ++ record_text (head ++ body)) ++ 0 ∷ drop (gate_of stand + 1 + length (behind_gate (head ++ body) ++ 0 ∷ [])) (seen old stand.file)
         file_is = opened ∙ opened_file stand.file (gate_of stand) (behind_gate (head ++ body)) old m1 stand_within at.settled at.closed kept_gate m2 wrote_gate opens
+
+        -- byte for byte
+        pub stand_whole : seen m2 stand.file ≡ put (put (seen old stand.file) stand.length (behind_gate (head ++ body) ++ 0 ∷ [])) (gate_of stand) (1 ∷ [])
+        stand_whole = opened ∙ ap (λ (l : List ℕ). put l (gate_of stand) (1 ∷ [])) (wrote ∙ ap (λ (l : List ℕ). put (seen old stand.file) stand.length l) (behind_is head body))
 
         closed_now : ClosedAfter with_record (seen m2 stand.file)
         closed_now = subst (ClosedAfter with_record) (sym file_is) (closed_front with_record rest_of 0 (omega arith))

@@ -2,3 +2,4 @@ pub mod WriteLemmas
 pub mod AppendLemmas
 pub mod ReadLemmas
 pub mod RecordLemmas
+pub mod GateLemmas

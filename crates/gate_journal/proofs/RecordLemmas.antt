@@ -20,27 +20,39 @@ pub front-push : (front : List ℕ) (records : List (List ℕ)) (record_is : Lis
 front-push front records record_is =
     ap (λ (l : List ℕ). front ++ l) (records_text-push records record_is) ∙ sym (append_assoc front (records_text records) (record_text record_is))
 
+-- the file begins with this text, and goes on behind it
+pub record Begins (text file : List ℕ) : Type 0 where
+  pub begins : take (length text) file ≡ text
+  pub inside : length text < length file
+
 -- what a text begins with, the file begins with
-pub begins_with : (a b file : List ℕ) → ClosedAfter (a ++ b) file → take (length a) file ≡ a
-begins_with a b file is =
+begins_so : (a b file : List ℕ) → take (length (a ++ b)) file ≡ a ++ b → take (length a) file ≡ a
+begins_so a b file begins =
     let short : length a ≤ length (a ++ b) = omega (arith, length-append a b) in
-    sym (take-take (length a) (length (a ++ b)) file short) ∙ ap (λ (l : List ℕ). take (length a) l) is.begins ∙ take_at a b (length a) refl
+    sym (take-take (length a) (length (a ++ b)) file short) ∙ ap (λ (l : List ℕ). take (length a) l) begins ∙ take_at a b (length a) refl
+
+pub begins_with : (a b file : List ℕ) → ClosedAfter (a ++ b) file → take (length a) file ≡ a
+begins_with a b file is = begins_so a b file is.begins
 
 -- a record of the text stands at its gate
-pub record_in_text : (front record_is rest file : List ℕ) (limit : ℕ) → ClosedAfter (front ++ (record_text record_is ++ rest)) file → Fits record_is
+pub record_begun : (front record_is rest file : List ℕ) (limit : ℕ) → Begins (front ++ (record_text record_is ++ rest)) file → Fits record_is
     → length (front ++ (record_text record_is ++ rest)) < limit → IsRecordAt file (length front) limit record_is
-record_in_text front record_is rest file limit is fits within =
+record_begun front record_is rest file limit is fits within =
     let text = record_text record_is in
-    let moved = subst (λ (l : List ℕ). ClosedAfter l file) (sym (append_assoc front text rest)) is in
+    let moved = subst (λ (l : List ℕ). Begins l file) (sym (append_assoc front text rest)) is in
     let size = length-append front text in
     let all = length-append front (text ++ rest) in
     let both = length-append text rest in
     record {
-      reads = ap (λ (n : ℕ). take n file) (sym size) ∙ begins_with (front ++ text) rest file moved ∙ ap (λ (l : List ℕ). l ++ text) (sym (begins_with front (text ++ rest) file is));
+      reads = ap (λ (n : ℕ). take n file) (sym size) ∙ begins_so (front ++ text) rest file moved.begins ∙ ap (λ (l : List ℕ). l ++ text) (sym (begins_so front (text ++ rest) file is.begins));
       fits = fits;
       inside = omega (arith, all, both, is.inside);
       within = omega (arith, all, both, within);
     }
+
+pub record_in_text : (front record_is rest file : List ℕ) (limit : ℕ) → ClosedAfter (front ++ (record_text record_is ++ rest)) file → Fits record_is
+    → length (front ++ (record_text record_is ++ rest)) < limit → IsRecordAt file (length front) limit record_is
+record_in_text front record_is rest file limit is fits within = record_begun front record_is rest file limit (record { begins = is.begins; inside = is.inside }) fits within
 
 -- one record stands at a gate
 pub record_unique : (file a b : List ℕ) (gate limit : ℕ) → IsRecordAt file gate limit a → IsRecordAt file gate limit b → a ≡ b
@@ -53,16 +65,19 @@ record_unique file a b gate limit is_a is_b =
     ap (λ (l : List ℕ). drop 5 l) (append_cancel_left (take gate file) (record_text a) (record_text b) texts)
 
 -- the byte behind the front of a text with a record is an open gate
-open_behind : (front record_is rest file : List ℕ) → ClosedAfter (front ++ (record_text record_is ++ rest)) file → slice_index file (length front) ≡ 1
-open_behind front record_is rest file is =
+pub open_begun : (front record_is rest file : List ℕ) → Begins (front ++ (record_text record_is ++ rest)) file → slice_index file (length front) ≡ 1
+open_begun front record_is rest file is =
     let text = front ++ (record_text record_is ++ rest) in
     let low : length front < length text = omega (arith, length-append front (record_text record_is ++ rest)) in
     sym (get_or-take (length text) file (length front) 0 low) ∙ ap (λ (l : List ℕ). get_or l (length front) 0) is.begins ∙ get_or_at front 1 (behind_gate record_is ++ rest) 0 (length front) refl
 
-first_fits : (r : List ℕ) (rest : List (List ℕ)) → All Fits (r ∷ rest) → Fits r
+open_behind : (front record_is rest file : List ℕ) → ClosedAfter (front ++ (record_text record_is ++ rest)) file → slice_index file (length front) ≡ 1
+open_behind front record_is rest file is = open_begun front record_is rest file (record { begins = is.begins; inside = is.inside })
+
+pub first_fits : (r : List ℕ) (rest : List (List ℕ)) → All Fits (r ∷ rest) → Fits r
 first_fits r rest fit = fit 0 r (omega arith)
 
-rest_fit : (r : List ℕ) (rest : List (List ℕ)) → All Fits (r ∷ rest) → All Fits rest
+pub rest_fit : (r : List ℕ) (rest : List (List ℕ)) → All Fits (r ∷ rest) → All Fits rest
 rest_fit r rest fit = λ k d low. fit (suc k) d (omega arith)
 
 -- a file has one list of records behind a front
@@ -110,7 +125,7 @@ cons_fits r rest one fit = λ k d low. at k d low
     at zero d low = one
     at (suc k) d low = fit k d (omega arith)
 
-none_fit : All Fits []
+pub none_fit : All Fits []
 none_fit = λ k d low. absurd (omega arith)
 
 pub pushed_fit : (records : List (List ℕ)) (record_is : List ℕ) → All Fits records → Fits record_is → All Fits (records ++ record_is ∷ [])

@@ -7,7 +7,7 @@ use Rattle.disk_model.specs.FileState.{FileState, IsSettled, put}
 use Rattle.disk_model.specs.Moments.{Files, Moments, EachMoment}
 use Rattle.disk_model.specs.Changes.{Changes, AfterWrite, AfterSync, StaysSettled}
 use Rattle.disk_model.proofs.MomentLemmas.{weaken, join, last_moment}
-use Rattle.gate_journal.specs.Writes.{KeepsBelow, IsSettledBut, OpensGate}
+use Rattle.gate_journal.specs.Writes.{KeepsBelow, IsSettledBut, OpensSettled}
 
 stays_trans : {old mid new : FileState} {p : ℕ} → StaysSettled old mid p → StaysSettled mid new p → StaysSettled old new p
 stays_trans a b = record { settled = b.settled; same = b.same ∙ a.same }
@@ -78,12 +78,12 @@ module _ (file gate : ℕ) (old : Moments) (inside : gate < length (old.now file
 
 -- a sync, and then that
 module _ (file gate : ℕ) (bytes : List ℕ) (old m1 : Moments) (synced : EachMoment (Changes file AfterSync old.now) old m1) where
-  pub opening_synced : EachMoment (OpensGate file gate bytes old.now) old m1
-  opening_synced = weaken (OpensGate file gate bytes old.now) (λ files so. inl so) synced
+  pub opening_synced : EachMoment (OpensSettled file gate bytes old.now) old m1
+  opening_synced = weaken (OpensSettled file gate bytes old.now) (λ files so. inl so) synced
 
   pub opening_done : (m2 : Moments) → (m1.now file).bytes ≡ bytes → EachMoment (Changes file (λ _ new. IsSettledBut gate (m1.now file).bytes new) m1.now) m1 m2
-      → EachMoment (OpensGate file gate bytes old.now) old m2
-  opening_done m2 same opened = join opening_synced (weaken (OpensGate file gate bytes old.now) (λ files so. inr (record {
+      → EachMoment (OpensSettled file gate bytes old.now) old m2
+  opening_done m2 same opened = join opening_synced (weaken (OpensSettled file gate bytes old.now) (λ files so. inr (record {
     here = subst (λ (l : List ℕ). IsSettledBut gate l (files file)) same so.here;
     others = λ other differ. so.others other differ ∙ (last_moment synced).others other differ;
   })) opened)

@@ -3,3 +3,4 @@ pub mod Records
 pub mod Stand
 pub mod Writes
 pub mod Answers
+pub mod Calls

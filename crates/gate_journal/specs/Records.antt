@@ -1,5 +1,5 @@
 -- The records of a journal, and a file that begins with an image and has a journal behind it.
-use Rattle.std.specs.Prelude.{ℕ, ◌<◌, ◌^◌, List, ◌++◌, length, All}
+use Rattle.std.specs.Prelude.{◌≡◌, ℕ, ◌<◌, ◌^◌, List, ◌++◌, length, take, All}
 use Rattle.std.specs.List.{flat_map}
 use Rattle.std.specs.Int.{w64, to_le_bytes}
 use Rattle.gate_journal.specs.Gate.{ClosedAfter, record_text}
@@ -15,6 +15,12 @@ Fits record_is = length record_is < 2 ^ 32
 -- Behind this front the file has a journal of these records, all of them.
 pub record HasRecords (front : List ℕ) (records : List (List ℕ)) (file : List ℕ) : Type 0 where
   pub closed : ClosedAfter (front ++ records_text records) file
+  pub fit : All Fits records
+
+-- Behind this front the file has these records, and then the gate at this place, open or closed: what was read so far.
+pub record HasRecordsTo (gate : ℕ) (front : List ℕ) (records : List (List ℕ)) (file : List ℕ) : Type 0 where
+  pub begins : take gate file ≡ front ++ records_text records
+  pub inside : gate < length file
   pub fit : All Fits records
 
 -- the front of a file that begins with an image: the image's length and the image

@@ -23,8 +23,8 @@ pub record IsBeforeOrAfter (file : ℕ) (before after : List ℕ) (old files : F
   pub others : (other : ℕ) → other ≢ file → files other ≡ old other
 
 -- While a gate is opened: nothing but a sync has come to the file, or each byte but the gate's is settled.
-abbrev pub OpensGate : ℕ → ℕ → List ℕ → Files → Files → Type 0
-OpensGate file gate bytes old files = Changes file AfterSync old files ⊎ Changes file (λ _ new. IsSettledBut gate bytes new) old files
+abbrev pub OpensSettled : ℕ → ℕ → List ℕ → Files → Files → Type 0
+OpensSettled file gate bytes old files = Changes file AfterSync old files ⊎ Changes file (λ _ new. IsSettledBut gate bytes new) old files
 
 -- the file with its gate open, or with another byte there: then the gate is closed
 abbrev pub IsOpenedOrClosed : ℕ → List ℕ → List ℕ → Type 0

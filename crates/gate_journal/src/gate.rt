@@ -5,7 +5,8 @@ ghost use Rattle.disk_model.specs.FileState.{IsSettled, put};
 ghost use Rattle.disk_model.specs.Moments.{EachMoment};
 ghost use Rattle.disk_model.specs.Changes.{Changes};
 ghost use Rattle.disk_model.specs.DiskSeen.{file_in, bytes_in};
-ghost use Rattle.gate_journal.specs.Writes.{IsSettledBut, HoldsGate, OpensGate};
+ghost use Rattle.gate_journal.specs.Calls.{OpensGate};
+ghost use Rattle.gate_journal.specs.Writes.{IsSettledBut, OpensSettled};
 
 use disk_model::{Disk, Failed};
 
@@ -23,11 +24,7 @@ pub fn open_gate<D: Disk>(disk: &mut D, file: u8, gate: u64) -> Result<(), Faile
     requires file { file < 3 }
     requires inside { IsTrue D.tells → gate < length (bytes_in (D.seen disk.old) file) }
     requires settled { IsTrue D.tells → IsSettled (file_in (D.seen disk.old) file) }
-    ensures opened { IsTrue D.tells → OnOk result (bytes_in (D.seen disk.new) file ≡ put (bytes_in (D.seen disk.old) file) gate (1 ∷ [])) }
-    ensures settled { IsTrue D.tells → OnOk result (IsSettled (file_in (D.seen disk.new) file)) }
-    ensures any_moment { IsTrue D.tells → EachMoment
-        (HoldsGate file gate (bytes_in (D.seen disk.old) file) (D.seen disk.old).moments.now) (D.seen disk.old).moments (D.seen disk.new).moments }
-    ensures cause { HasCause (D.seen disk.old).faults (D.seen disk.new).faults result }
+    ensures { OpensGate D.tells file gate (D.seen disk.old) (D.seen disk.new) result }
 {
     write_gate(disk, file, gate)
 }
@@ -39,7 +36,7 @@ pub fn open_behind<D: Disk>(disk: &mut D, file: u8, gate: u64) -> Result<(), Fai
     ensures opened { IsTrue D.tells → OnOk result (bytes_in (D.seen disk.new) file ≡ put (bytes_in (D.seen disk.old) file) gate (1 ∷ [])) }
     ensures settled { IsTrue D.tells → OnOk result (IsSettled (file_in (D.seen disk.new) file)) }
     ensures any_moment { IsTrue D.tells → EachMoment
-        (OpensGate file gate (bytes_in (D.seen disk.old) file) (D.seen disk.old).moments.now) (D.seen disk.old).moments (D.seen disk.new).moments }
+        (OpensSettled file gate (bytes_in (D.seen disk.old) file) (D.seen disk.old).moments.now) (D.seen disk.old).moments (D.seen disk.new).moments }
     ensures cause { HasCause (D.seen disk.old).faults (D.seen disk.new).faults result }
 {
     disk.sync(file)?;

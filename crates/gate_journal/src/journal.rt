@@ -1,13 +1,8 @@
-ghost use Rattle.std.specs.Prelude.{◌≡◌, ◌+◌, ◌-◌, ◌^◌, ◌<◌, ◌≤◌, ◌∷◌, ◌++◌, [], ℕ, List, true, false, length, take, IsTrue, OnOk, OnErr, IfOk, IsErrOf, IsFalse};
-ghost use Rattle.fault_counts.specs.Faults.{HasCause, NeverFell, Rose};
-ghost use Rattle.disk_model.specs.FileState.{IsFileImage, IsSettled, put};
-ghost use Rattle.disk_model.specs.Moments.{EachMoment};
-ghost use Rattle.disk_model.specs.Changes.{Changes, AfterWrite, Unchanged};
+ghost use Rattle.std.specs.Prelude.{◌≡◌, ◌+◌, ◌^◌, ◌<◌, ◌≤◌, true, length, IsTrue, IsErrOf};
+ghost use Rattle.disk_model.specs.FileState.{IsSettled};
 ghost use Rattle.disk_model.specs.DiskSeen.{file_in, bytes_in};
-ghost use Rattle.gate_journal.specs.Gate.{ClosedAfter, record_text};
-ghost use Rattle.gate_journal.specs.Stand.{IsAtGate, IsReadable, text_before, with_record};
-ghost use Rattle.gate_journal.specs.Answers.{OpenAnswer, NextAnswer};
-ghost use Rattle.gate_journal.specs.Writes.{IsBeforeOrAfter};
+ghost use Rattle.gate_journal.specs.Stand.{IsAtGate, IsReadable};
+ghost use Rattle.gate_journal.specs.Calls.{Creates, Appends, Opens, ReadsNext};
 
 use crate::faults::{AppendFault, JournalFault};
 use crate::reading::record_size;
@@ -69,12 +64,7 @@ impl Journal {
         requires file { file < 3 }
         requires within { at < limit }
         requires inside { IsTrue D.tells → at ≤ length (bytes_in (D.seen disk.old) file) }
-        ensures ok { IfOk result (λ journal. journal ≡ record { file = file; length = at + 1; limit = limit; reached = true }) }
-        ensures at_gate { IsTrue D.tells → IfOk result (λ journal. IsAtGate journal (file_in (D.seen disk.new) file)) }
-        ensures text { IsTrue D.tells → OnOk result (take at (bytes_in (D.seen disk.new) file) ≡ take at (bytes_in (D.seen disk.old) file)) }
-        ensures whole { IsTrue D.tells → OnOk result (bytes_in (D.seen disk.new) file ≡ put (bytes_in (D.seen disk.old) file) at (0 ∷ [])) }
-        ensures any_moment { IsTrue D.tells → EachMoment (Changes file (AfterWrite at 1) (D.seen disk.old).moments.now) (D.seen disk.old).moments (D.seen disk.new).moments }
-        ensures cause { HasCause (D.seen disk.old).faults (D.seen disk.new).faults result }
+        ensures { Creates D.tells file at limit (D.seen disk.old) (D.seen disk.new) result }
     {
         disk.write_at(file, at, &[CLOSED])?;
         disk.sync(file)?;
@@ -93,23 +83,8 @@ impl Journal {
         requires at_gate { IsTrue D.tells → IsAtGate self.old (file_in (D.seen disk.old) self.old.file) }
         requires short { length head.now ≤ 8 }
         requires fits { length head.now + length body.now < 2 ^ 32 }
-        ensures ok { OnOk result (self.new ≡ record self.old { length = self.old.length + 5 + length head.now + length body.now }) }
-        ensures err { OnErr result (self.new ≡ self.old) }
-        ensures at_gate { IsTrue D.tells → OnOk result (IsAtGate self.new (file_in (D.seen disk.new) self.new.file)) }
-        ensures text { IsTrue D.tells → OnOk result (text_before self.new (bytes_in (D.seen disk.new) self.new.file)
-            ≡ text_before self.old (bytes_in (D.seen disk.old) self.old.file) ++ record_text (head.now ++ body.now)) }
-        // the file is the old one, with the record and a closed gate put behind its gate, and its gate opened
-        ensures whole { IsTrue D.tells → OnOk result (bytes_in (D.seen disk.new) self.old.file ≡ with_record self.old (head.now ++ body.now) (bytes_in (D.seen disk.old) self.old.file)) }
-        ensures any_moment { IsTrue D.tells → (let before = text_before self.old (bytes_in (D.seen disk.old) self.old.file) in
-            EachMoment (IsBeforeOrAfter self.old.file before (before ++ record_text (head.now ++ body.now)) (D.seen disk.old).moments.now)
-            (D.seen disk.old).moments (D.seen disk.new).moments) }
-        ensures durable { IsTrue D.tells → OnOk result ((image : List ℕ) → IsFileImage (file_in (D.seen disk.new) self.old.file) image
-            → ClosedAfter (text_before self.old (bytes_in (D.seen disk.old) self.old.file) ++ record_text (head.now ++ body.now)) image) }
-        ensures full { self.old.limit < self.old.length + 5 + length head.now + length body.now → IsErrOf result AppendFault.Full }
-        ensures only_full { IsErrOf result AppendFault.Full → self.old.limit < self.old.length + 5 + length head.now + length body.now }
+        ensures appends { Appends D.tells self.old self.new head.now body.now (D.seen disk.old) (D.seen disk.new) result }
         ensures untouched { IsErrOf result AppendFault.Full → disk.new ≡ disk.old }
-        ensures later { NeverFell (D.seen disk.old).faults (D.seen disk.new).faults }
-        ensures fault { IsErrOf result AppendFault.DiskFault → Rose (D.seen disk.old).faults (D.seen disk.new).faults }
     {
         let added = 5 + head.len() as u64 + body.len() as u64;
         if self.length > self.limit || self.limit - self.length < added {
@@ -132,13 +107,7 @@ impl Journal {
     ) -> Result<Journal, JournalFault>
         requires file { file < 3 }
         requires settled { IsTrue D.tells → IsSettled (file_in (D.seen disk.old) file) }
-        ensures ok { IfOk result (λ journal. journal ≡ record { file = file; length = at + 1; limit = limit; reached = false }) }
-        ensures answer { IsTrue D.tells → OpenAnswer (bytes_in (D.seen disk.old) file) at result }
-        ensures readable { IsTrue D.tells → IfOk result (λ journal. IsReadable journal (file_in (D.seen disk.new) file)) }
-        ensures memory { IsErrOf result JournalFault.NoMemory → ⊥ }
-        ensures unchanged { IsTrue D.tells → EachMoment (Unchanged (D.seen disk.old).moments.now) (D.seen disk.old).moments (D.seen disk.new).moments }
-        ensures later { NeverFell (D.seen disk.old).faults (D.seen disk.new).faults }
-        ensures fault { IsErrOf result JournalFault.DiskFault → Rose (D.seen disk.old).faults (D.seen disk.new).faults }
+        ensures { Opens D.tells file at limit (D.seen disk.old) (D.seen disk.new) result }
     {
         if disk.len(file)? <= at {
             return Err(JournalFault::Damaged { at });
@@ -160,20 +129,7 @@ impl Journal {
         into: &mut Bytes,
     ) -> Result<bool, JournalFault>
         requires readable { IsTrue D.tells → IsReadable self.old (file_in (D.seen disk.old) self.old.file) }
-        ensures answer { IsTrue D.tells → NextAnswer (bytes_in (D.seen disk.old) self.old.file) self.old self.new into.new result }
-        ensures readable { IsTrue D.tells → OnOk result (IsReadable self.new (file_in (D.seen disk.new) self.new.file)) }
-        ensures reached { IsTrue D.tells → IfOk result (λ more. IsFalse more → IsAtGate self.new (file_in (D.seen disk.new) self.new.file)) }
-        // how far the journal moved, over every disk
-        ensures moved { IfOk result (λ more. IsTrue more → (self.new.length ≡ self.old.length + 5 + length into.new) × (self.new.length ≤ self.new.limit)) }
-        ensures stayed { IfOk result (λ more. IsFalse more → self.new.length ≡ self.old.length) }
-        ensures closed { IfOk result (λ more. IsFalse more → IsTrue self.new.reached) }
-        ensures text { IsTrue D.tells → IfOk result (λ more. IsTrue more → text_before self.new (bytes_in (D.seen disk.new) self.new.file)
-            ≡ text_before self.old (bytes_in (D.seen disk.old) self.old.file) ++ record_text into.new) }
-        ensures err { OnErr result (self.new ≡ self.old) }
-        ensures same { (self.new.file ≡ self.old.file) × (self.new.limit ≡ self.old.limit) }
-        ensures unchanged { IsTrue D.tells → EachMoment (Unchanged (D.seen disk.old).moments.now) (D.seen disk.old).moments (D.seen disk.new).moments }
-        ensures later { NeverFell (D.seen disk.old).faults (D.seen disk.new).faults }
-        ensures fault { IsErrOf result JournalFault.DiskFault → Rose (D.seen disk.old).faults (D.seen disk.new).faults }
+        ensures { ReadsNext D.tells self.old self.new into.new (D.seen disk.old) (D.seen disk.new) result }
     {
         let gate = self.length - 1;
         let Some(size) = record_size(disk, self.file, gate, self.limit)? else {

@@ -11,7 +11,9 @@ mod staged;
 pub use faults::{AppendFault, JournalFault};
 pub use gate::open_gate;
 pub use journal::Journal;
-pub use law::{image_and_records_of_an_area, records_of_a_journal};
+pub use law::{
+    gate_behind_records, image_and_records_of_an_area, records_of_a_journal, records_up_to_a_gate,
+};
 
 #[cfg(test)]
 mod tests;
