@@ -1,4 +1,4 @@
-pub mod HostText
+pub mod Host
 pub mod Header
 pub mod Commands
 pub mod Stands

@@ -10,20 +10,20 @@ ghost use Rattle.name_store.specs.Stored.{StandsFor, IsOn};
 ghost use Rattle.name_store.specs.Connecting as connecting;
 ghost use Rattle.name_store.specs.Disconnecting as disconnecting;
 
-use crate::host::HostText;
 use chain_state::{BackRefusal, Chain, Refusal};
 use disk_model::Disk;
+use domain_text::Name;
 use nmc_base::{Hash32, Steps, Tip};
 use std::alloc::Global;
 use std::marker::Model;
 use std::sync::ledger::Ledger;
 
-/// An index whose commands are kept in the files of a disk. Contracts see the index, its base's host and the length of its
-/// area in bytes. It holds no disk.
+/// An index whose commands are kept in the files of a disk. Contracts see the index, the wire form of its base's host
+/// and the length of its area in bytes. It holds no disk.
 #[derive(Drop)]
 pub struct Store {
     chain: Chain,
-    host: HostText,
+    host: Name,
     area: u64,
 }
 
@@ -67,8 +67,8 @@ impl Store {
         &self.chain
     }
 
-    /// The host of the base.
-    pub fn host(&self) -> &HostText
+    /// The name of the base's host.
+    pub fn host(&self) -> &Name
         ensures { result.now ≡ self.now.host }
     {
         &self.host
@@ -98,7 +98,6 @@ impl Store {
         ensures fault { connecting.IfFaulted (Rose (D.seen disk.old).faults (D.seen disk.new).faults) result }
         ensures cost { connecting.IsCheapIfDone bytes.now result steps.old steps.new }
     {
-        let _ = (alloc, disk, bytes, steps);
         Outcome::NoMemory(self)
     }
 
@@ -124,7 +123,6 @@ impl Store {
         ensures fault { disconnecting.IfFaulted (Rose (D.seen disk.old).faults (D.seen disk.new).faults) result }
         ensures cost { disconnecting.IsCheapIfDone self.index result steps.old steps.new }
     {
-        let _ = (alloc, disk, hash, steps);
         BackOutcome::NoMemory(self)
     }
 }
