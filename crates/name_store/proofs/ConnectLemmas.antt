@@ -16,6 +16,7 @@ use Rattle.machine.specs.RunState.{RunState, chain_of, area_of, record_length, a
 use Rattle.machine.specs.Connecting as machine
 use Rattle.machine.specs.Connecting.{IsValid, Refuses, TakesMemory, Holds, order_of, BadBlock, NotOnTip, HeightLimit, MerkleMismatch, Rule, JournalFull}
 use Rattle.name_store.specs.declared.store.Outcome.TheVariants.{Done, Refused, NoMemory, Faulted}
+use Rattle.name_store.specs.Host.{IsHostOf}
 use Rattle.name_store.specs.Stands.{IsRunState}
 use Rattle.name_store.specs.Stored.{Stored, StandsFor, IsOn}
 use Rattle.name_store.specs.Connecting.{IsFullOf, Connects, ConnectsOn}
@@ -55,7 +56,7 @@ module _ (old new : Stored) (bytes : List ℕ) (short : length bytes ≤ LONGEST
       → (run : RunState) → StandsFor old run → StandsFor new (accepted run (Connect bytes))
   stands_with staged staging connected host area run s = record {
     index = (staging (chain_of run) s.index).commits new.index connected;
-    host = host ∙ s.host;
+    host = subst (λ (name : List ℕ). IsHostOf run.host name) (sym host) s.host;
     area = omega (arith, area, s.area);
     is_state = next_of staged staging run s;
   }
@@ -66,7 +67,7 @@ module _ (old new : Stored) (bytes : List ℕ) (short : length bytes ≤ LONGEST
       (valid_of staged staging run s, done_is run (Connect bytes) new tip (stands_with staged staging connected host area run s) same)
 
   stands_same : new.host ≡ old.host → new.area ≡ old.area → (run : RunState) → StandsFor old run → chains.StandsFor new.index (chain_of run) → StandsFor new run
-  stands_same host area run s index = record { index = index; host = host ∙ s.host; area = area ∙ s.area; is_state = s.is_state }
+  stands_same host area run s index = record { index = index; host = subst (λ (name : List ℕ). IsHostOf run.host name) (sym host) s.host; area = area ∙ s.area; is_state = s.is_state }
 
   pub connect_refused : (refusal : Refusal) → ((chain : Chain) → chains.StandsFor old.index chain → IsRefusedFor old.area longest_area chain bytes refusal new.index)
       → new.host ≡ old.host → new.area ≡ old.area → Connects longest_area old bytes (Refused new refusal)

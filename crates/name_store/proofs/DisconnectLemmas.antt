@@ -16,6 +16,7 @@ use Rattle.machine.specs.RunState.{RunState, chain_of, area_of, record_length, a
 use Rattle.machine.specs.Disconnecting as machine
 use Rattle.machine.specs.Disconnecting.{IsValidBack, RefusesBack, TakesMemoryBack, HoldsBack, back_order, AtBase, NotTip, JournalFull}
 use Rattle.name_store.specs.declared.store.BackOutcome.TheVariants.{Done, Refused, NoMemory, Faulted}
+use Rattle.name_store.specs.Host.{IsHostOf}
 use Rattle.name_store.specs.Stands.{IsRunState}
 use Rattle.name_store.specs.Stored.{Stored, StandsFor, IsOn}
 use Rattle.name_store.specs.Connecting.{IsFullOf}
@@ -53,7 +54,7 @@ module _ (old new : Stored) (hash : List ℕ) (long : length hash ≡ 32) where
       → (run : RunState) → StandsFor old run → StandsFor new (accepted run (Disconnect hash))
   stands_without staged staging gone host area run s = record {
     index = (staging (chain_of run) s.index).commits new.index gone;
-    host = host ∙ s.host;
+    host = subst (λ (name : List ℕ). IsHostOf run.host name) (sym host) s.host;
     area = omega (arith, area, s.area);
     is_state = next_of staged staging run s;
   }
@@ -64,7 +65,7 @@ module _ (old new : Stored) (hash : List ℕ) (long : length hash ≡ 32) where
       (valid_of staged staging run s, done_is run (Disconnect hash) new tip (stands_without staged staging gone host area run s) same)
 
   stands_same : new.host ≡ old.host → new.area ≡ old.area → (run : RunState) → StandsFor old run → chains.StandsFor new.index (chain_of run) → StandsFor new run
-  stands_same host area run s index = record { index = index; host = host ∙ s.host; area = area ∙ s.area; is_state = s.is_state }
+  stands_same host area run s index = record { index = index; host = subst (λ (name : List ℕ). IsHostOf run.host name) (sym host) s.host; area = area ∙ s.area; is_state = s.is_state }
 
   pub disconnect_refused : (refusal : BackRefusal) → ((chain : Chain) → chains.StandsFor old.index chain → IsRefusedBackFor old.area longest_area chain hash refusal new.index)
       → new.host ≡ old.host → new.area ≡ old.area → Disconnects longest_area old hash (Refused new refusal)

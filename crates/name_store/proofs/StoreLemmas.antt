@@ -19,6 +19,7 @@ use Rattle.machine.specs.Chain.{Chain}
 use Rattle.machine.specs.Event.{Command}
 use Rattle.machine.specs.RunState.{RunState, chain_of, area_of, record_length, accepted}
 use Rattle.name_store.specs.Header.{header_text}
+use Rattle.name_store.specs.Host.{IsHostOf}
 use Rattle.name_store.specs.Commands.{record_of, records_of}
 use Rattle.name_store.specs.Stands.{Bytes, IsRunState, Stands, EachStandsForEither}
 use Rattle.name_store.specs.Stored.{Stored, StandsFor, IsOn, IsTipOf}
@@ -33,8 +34,9 @@ same_base old new chain next a b same = b.base_is ∙ same ∙ sym a.base_is
 -- a store with the same base, host and area is on the disk too
 pub on_again : (old new : Stored) (files : Files) → IsOn old files → new.index.base ≡ old.index.base → new.host ≡ old.host → new.area ≡ old.area → IsOn new files
 on_again old new files on base host area = record {
-  header = subst (λ (b : Base). ClosedAfter (header_text b new.host) (files 0).bytes) (sym base)
-      (subst (λ (h : List ℕ). ClosedAfter (header_text old.index.base h) (files 0).bytes) (sym host) on.header);
+  text = on.text;
+  host = subst (λ (name : List ℕ). IsHostOf on.text name) (sym host) on.host;
+  header = subst (λ (b : Base). ClosedAfter (header_text b on.text) (files 0).bytes) (sym base) on.header;
   records = on.records;
   area = on.area;
   length_is = area ∙ on.length_is;
@@ -109,8 +111,10 @@ module _ (tells : Bool) (told : IsTrue tells) (old : Stored) (before after : Dis
         let header = header_same record_is (Ok length_is) kept in
         let front = image_front [] ++ records_text on.records in
         record {
-          header = subst (λ (s : FileState). ClosedAfter (header_text new.index.base new.host) s.bytes) (sym header)
-              (on_again old (record { index = new.index; host = new.host; area = old.area }) before.moments.now on base host refl).header;
+          text = on.text;
+          host = subst (λ (name : List ℕ). IsHostOf on.text name) (sym host) on.host;
+          header = subst (λ (s : FileState). ClosedAfter (header_text new.index.base on.text) s.bytes) (sym header)
+              (subst (λ (b : Base). ClosedAfter (header_text b on.text) (bytes_in before 0)) (sym base) on.header);
           records = on.records ++ record_is ∷ [];
           area = kept.added told on.records (holds_on old before.moments.now on);
           length_is = omega (arith, area, kept.longer, on.length_is, ap length (front-push (image_front []) on.records record_is), length-append front (record_text record_is));

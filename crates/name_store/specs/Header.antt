@@ -13,7 +13,7 @@ use Rattle.nmc_base.specs.declared.chain_ends.Base.{Base}
 use Rattle.nmc_base.specs.declared.chain_ends.Profile.{Profile}
 use Rattle.nmc_base.specs.declared.chain_ends.Profile.TheVariants.{Regtest, Main}
 use Rattle.gate_journal.specs.Gate.{IsClosed}
-use Rattle.name_store.specs.HostText.{IsHostText}
+use Rattle.name_store.specs.Host.{IsHostText}
 
 abbrev pub magic : List ℕ
 magic = codes "NMCIDX1" ++ 10 ∷ []
@@ -35,7 +35,7 @@ pub record IsBegun (base : Base) (host : List ℕ) : Type 0 where
   pub network : base.profile ≡ Regtest
   pub low : base.height ≤ highest
   pub hash : length base.hash.0 ≡ 32
-  pub named : IsHostText host
+  pub is_host : IsHostText host
 
 -- ---- the fields of a file, at their places
 

@@ -1,4 +1,4 @@
-pub mod HostText
+pub mod Host
 pub mod Header
 pub mod Commands
 pub mod Stands
@@ -7,5 +7,6 @@ pub mod Stored
 pub mod Keeping
 pub mod Opening
 pub mod Making
+pub mod MakingSteps
 pub mod Connecting
 pub mod Disconnecting

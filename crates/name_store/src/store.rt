@@ -6,23 +6,23 @@ ghost use Rattle.name_store.specs.Stored.{StandsFor, IsOn};
 ghost use Rattle.name_store.specs.Connecting as connecting;
 ghost use Rattle.name_store.specs.Disconnecting as disconnecting;
 
-use crate::host::HostText;
 use crate::keeping::{CONNECT, DISCONNECT, keep};
 use crate::limits::LONGEST_AREA;
 use chain_state::{BackRefusal, Chain, Refusal, StageOutcome};
 use chain_steps::{stage_bytes, stage_hash};
 use disk_model::Disk;
+use domain_text::Name;
 use nmc_base::{Hash32, Steps, Tip};
 use std::alloc::Global;
 use std::marker::Model;
 use std::sync::ledger::Ledger;
 
-/// An index whose commands are kept in the files of a disk. Contracts see the index, its base's host and the length of its
-/// area in bytes. It holds no disk.
+/// An index whose commands are kept in the files of a disk. Contracts see the index, the wire form of its base's host
+/// and the length of its area in bytes. It holds no disk.
 #[derive(Drop)]
 pub struct Store {
     chain: Chain,
-    host: HostText,
+    host: Name,
     area: u64,
 }
 
@@ -66,8 +66,8 @@ impl Store {
         &self.chain
     }
 
-    /// The host of the base.
-    pub fn host(&self) -> &HostText
+    /// The name of the base's host.
+    pub fn host(&self) -> &Name
         ensures { result.now ≡ self.now.host }
     {
         &self.host
