@@ -3,3 +3,5 @@ mod AreaLemmas
 mod StoreLemmas
 mod ConnectLemmas
 mod DisconnectLemmas
+mod StepLemmas
+mod MakingLemmas

@@ -3,9 +3,11 @@
 
 mod faults;
 mod host;
+mod initialised;
 mod keeping;
 mod limits;
 mod making;
+mod making_steps;
 mod opening;
 mod store;
 
