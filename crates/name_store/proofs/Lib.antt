@@ -5,3 +5,4 @@ mod ConnectLemmas
 mod DisconnectLemmas
 mod StepLemmas
 mod MakingLemmas
+mod SpellingLemmas

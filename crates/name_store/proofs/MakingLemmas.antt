@@ -53,7 +53,7 @@ module _ (base : Base) (host : List ℕ) (begun : IsBegun base host) (d2 d3 d4 :
   opening files so image is =
       elim (subst (λ (bytes : List ℕ). IsOpenedOrClosed 0 bytes (image 0)) closed.are (so.image (image 0) (is 0 (omega arith)))) [
         | inl opened ↦ inr (stands_made base host image begun opened (area_image files image (so.others 1 (omega arith)) is))
-        | inr shut ↦ inl (λ begins. shut.1.0 (sym (ap (λ (bytes : List ℕ). slice_index bytes 0) shut.1.1) ∙ begins.is_open))
+        | inr shut ↦ inl (λ begins. shut.1 (sym (ap (λ (bytes : List ℕ). slice_index bytes 0) shut.2) ∙ begins.is_open))
       ]
 
   pub opened_stands : (d5 : Moments) → EachMoment (HoldsGate 0 0 (d4.now 0).bytes d4.now) d4 d5 → IsSettled (d5.now 0) → (d5.now 0).bytes ≡ put (d4.now 0).bytes 0 (1 ∷ [])

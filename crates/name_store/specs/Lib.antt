@@ -1,4 +1,5 @@
 pub mod Host
+pub mod Spelling
 pub mod Header
 pub mod Commands
 pub mod Stands

@@ -3,6 +3,7 @@
 
 mod faults;
 mod host;
+mod host_text;
 mod initialised;
 mod keeping;
 mod limits;
@@ -12,6 +13,5 @@ mod opening;
 mod store;
 
 pub use faults::{CreateFault, OpenFault};
-pub use host::HostText;
 pub use making::create;
 pub use store::{BackOutcome, Outcome, Store};

@@ -4,7 +4,7 @@ ghost use Rattle.disk_model.specs.DiskSeen.{file_in};
 ghost use Rattle.name_store.specs.Header.{header_fields};
 ghost use Rattle.name_store.specs.Header as header;
 ghost use Rattle.name_store.specs.MakingSteps.{HasSettled, MakesArea, MakesGate, MakesFields};
-ghost use Rattle.name_store.specs.declared.host.TheConstants.{LONGEST_HOST};
+ghost use Rattle.name_store.specs.declared.host_text.TheConstants.{LONGEST_HOST};
 
 use crate::limits::{AREA_FILE, CLOSED, HEADER_FILE};
 use disk_model::{Disk, Failed};
