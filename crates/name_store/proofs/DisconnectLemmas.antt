@@ -22,7 +22,7 @@ use Rattle.name_store.specs.Stored.{Stored, StandsFor, IsOn}
 use Rattle.name_store.specs.Connecting.{IsFullOf}
 use Rattle.name_store.specs.Disconnecting.{Disconnects, DisconnectsOn}
 use Rattle.name_store.specs.Keeping.{Keeps}
-use Rattle.name_store.proofs.AreaLemmas.{state_with}
+use Rattle.name_store.proofs.StateLemmas.{state_with}
 use Rattle.name_store.proofs.StoreLemmas.{same_base, on_again, done_is, stands_still, each_stands, stands_next, on_next}
 
 -- a refusal of a chain is one beside a full journal too

@@ -1,5 +1,5 @@
 mod KeepLemmas
-mod AreaLemmas
+mod StateLemmas
 mod StoreLemmas
 mod ConnectLemmas
 mod DisconnectLemmas

@@ -25,7 +25,7 @@ use Rattle.name_store.specs.Stands.{Bytes, IsRunState, Stands, EachStandsForEith
 use Rattle.name_store.specs.Stored.{Stored, StandsFor, IsOn, IsTipOf}
 use Rattle.name_store.specs.Connecting.{IsDone}
 use Rattle.name_store.specs.Keeping.{HoldsRecords, KeepsOrAdds, Keeps}
-use Rattle.name_store.proofs.AreaLemmas.{area_is}
+use Rattle.name_store.proofs.StateLemmas.{area_is}
 
 -- two indices that stand for chains of one base
 pub same_base : (old new : Indexed) (chain next : Chain) → chains.StandsFor old chain → chains.StandsFor new next → next.base ≡ chain.base → new.base ≡ old.base

@@ -15,3 +15,6 @@ mod store;
 pub use faults::{CreateFault, OpenFault};
 pub use making::create;
 pub use store::{BackOutcome, Outcome, Store};
+
+#[cfg(test)]
+mod tests;

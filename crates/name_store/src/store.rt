@@ -137,7 +137,11 @@ impl Store {
             chain_state::BackOutcome::Refused(chain, refusal) => {
                 return BackOutcome::Refused(Store { chain, host, area }, refusal);
             }
-            chain_state::BackOutcome::NoMemory(chain) => return BackOutcome::NoMemory(Store { chain, host, area }),
+            chain_state::BackOutcome::NoMemory(chain) => return BackOutcome::NoMemory(Store {
+                chain,
+                host,
+                area,
+            }),
         };
         match keep(disk, area, DISCONNECT, &hash.0) {
             Ok(area) => {

@@ -48,7 +48,7 @@ returns-in_err-open_gate-clause-from_empty g c = λ tells network text is_host e
     let begun : IsBegun c.args.base.now text = record { network = network; low = c.requires.low; hash = c.whole-base.ensures.hash; is_host = record { name = c.args.host.now; host = is_host } } in
     let spelled = c.as_slice.ensures.value ∙ c.of-text.ensures text is_host in
     let closed = subst (λ (b : Base). HasSettled (closed_header b text) (d4.now 0)) c.whole-base.ensures.value
-        (subst (λ (t : List ℕ). HasSettled (closed_header c.whole-base.result t) (d4.now 0)) spelled (c.in_ok-make_fields.ensures.made tells)) in
+    (subst (λ (t : List ℕ). HasSettled (closed_header c.whole-base.result t) (d4.now 0)) spelled (c.in_ok-make_fields.ensures.made tells)) in
     let so_far = fields_begun (begun_on c.args.base.now text) d0 d1 empty (c.is_initialised.ensures.unchanged tells) d2 (c.make_area.ensures.any_moment tells) d3 (c.make_gate.ensures.any_moment tells)
     d4 (c.in_ok-make_gate.ensures.made tells) (c.make_fields.ensures.any_moment tells) in
     opening_begun c.args.base.now text begun d2 d3 d4 (c.in_ok-make_area.ensures.made tells) (c.make_gate.ensures.any_moment tells) (c.make_fields.ensures.any_moment tells) closed d0 d5 so_far
@@ -65,7 +65,7 @@ returns-clause-from_empty g c = λ tells network text is_host empty.
     let begun : IsBegun c.args.base.now text = record { network = network; low = c.requires.low; hash = c.whole-base.ensures.hash; is_host = record { name = c.args.host.now; host = is_host } } in
     let spelled = c.as_slice.ensures.value ∙ c.of-text.ensures text is_host in
     let closed = subst (λ (b : Base). HasSettled (closed_header b text) (d4.now 0)) c.whole-base.ensures.value
-        (subst (λ (t : List ℕ). HasSettled (closed_header c.whole-base.result t) (d4.now 0)) spelled (c.in_ok-make_fields.ensures.made tells)) in
+    (subst (λ (t : List ℕ). HasSettled (closed_header c.whole-base.result t) (d4.now 0)) spelled (c.in_ok-make_fields.ensures.made tells)) in
     let so_far = fields_begun (begun_on c.args.base.now text) d0 d1 empty (c.is_initialised.ensures.unchanged tells) d2 (c.make_area.ensures.any_moment tells) d3 (c.make_gate.ensures.any_moment tells)
     d4 (c.in_ok-make_gate.ensures.made tells) (c.make_fields.ensures.any_moment tells) in
     opening_begun c.args.base.now text begun d2 d3 d4 (c.in_ok-make_area.ensures.made tells) (c.make_gate.ensures.any_moment tells) (c.make_fields.ensures.any_moment tells) closed d0 d5 so_far
@@ -80,6 +80,6 @@ returns-clause-made g c = λ tells network text is_host.
     let begun : IsBegun c.args.base.now text = record { network = network; low = c.requires.low; hash = c.whole-base.ensures.hash; is_host = record { name = c.args.host.now; host = is_host } } in
     let spelled = c.as_slice.ensures.value ∙ c.of-text.ensures text is_host in
     let closed = subst (λ (b : Base). HasSettled (closed_header b text) (d4.now 0)) c.whole-base.ensures.value
-        (subst (λ (t : List ℕ). HasSettled (closed_header c.whole-base.result t) (d4.now 0)) spelled (c.in_ok-make_fields.ensures.made tells)) in
+    (subst (λ (t : List ℕ). HasSettled (closed_header c.whole-base.result t) (d4.now 0)) spelled (c.in_ok-make_fields.ensures.made tells)) in
     opened_stands c.args.base.now text begun d2 d3 d4 (c.in_ok-make_area.ensures.made tells) (c.make_gate.ensures.any_moment tells) (c.make_fields.ensures.any_moment tells) closed d5
     (c.open_gate.ensures.any_moment tells) (c.in_ok-open_gate.ensures.settled tells) (c.in_ok-open_gate.ensures.opened tells)
