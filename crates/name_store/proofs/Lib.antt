@@ -1,0 +1,8 @@
+mod KeepLemmas
+mod StateLemmas
+mod StoreLemmas
+mod ConnectLemmas
+mod DisconnectLemmas
+mod StepLemmas
+mod MakingLemmas
+mod SpellingLemmas

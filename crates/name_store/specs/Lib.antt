@@ -1,0 +1,13 @@
+pub mod Host
+pub mod Spelling
+pub mod Header
+pub mod Commands
+pub mod Stands
+pub mod Damage
+pub mod Stored
+pub mod Keeping
+pub mod Opening
+pub mod Making
+pub mod MakingSteps
+pub mod Connecting
+pub mod Disconnecting

@@ -1,0 +1,20 @@
+//! The store: an index of names whose commands are kept in files that outlive a crash.
+#![tactic(auto)]
+
+mod faults;
+mod host;
+mod host_text;
+mod initialised;
+mod keeping;
+mod limits;
+mod making;
+mod making_steps;
+mod opening;
+mod store;
+
+pub use faults::{CreateFault, OpenFault};
+pub use making::create;
+pub use store::{BackOutcome, Outcome, Store};
+
+#[cfg(test)]
+mod tests;
