@@ -1,10 +1,12 @@
 pub mod Host
+pub mod Faults
 pub mod Header
 pub mod Commands
 pub mod Stands
 pub mod Damage
 pub mod Stored
 pub mod Opening
+pub mod Reading
 pub mod Making
 pub mod Connecting
 pub mod Disconnecting

@@ -1,11 +1,15 @@
 //! The store: an index of names whose commands are kept in files that outlive a crash.
 #![tactic(auto)]
 
+mod area;
 mod faults;
+mod following;
+mod header;
 mod host;
 mod limits;
 mod making;
 mod opening;
+mod reading;
 mod store;
 
 pub use faults::{CreateFault, OpenFault};
