@@ -1,7 +1,7 @@
 -- What the first bytes of file 0 tell of its header, the file tells.
 use Rattle.std.proofs.Common.{◌≡◌, inl, inr, ℕ, ◌+◌, ◌<◌, ◌≤◌, min, List, length, take, drop, Result, Ok, Err, refl, sym, ◌∙◌, ap, subst, arith, length-take}
 use Rattle.std.specs.Prelude.{slice_index}
-use Rattle.std.specs.Int.{w32, from_le_bytes}
+use Rattle.std.specs.Int.{w32, from_le_bytes, to_le_bytes}
 use Rattle.std.proofs.lemmas.List.{take-take, drop-take, get_or-take, take_min}
 use Rattle.disk_model.specs.Reads.{IsRead}
 use Rattle.name_store.specs.declared.faults.OpenFault.{OpenFault}
@@ -96,6 +96,7 @@ module _ (file : List ℕ) (byte : slice_index file 46 < 256) where
   header_up : (header : Header) → IsHeaderOf front header → IsHeaderOf file header
   header_up header is = record {
     base_is = is.base_is ∙ (λ i. record { profile = (base_at front).profile; height = height_same i; hash = record { 0 = hash_same i } });
+    height_is = ap (to_le_bytes w32) (sym height_same) ∙ is.height_is ∙ piece file 10 4 room 293 refl (omega arith);
     host_is = subst (λ (text : List ℕ). IsHostOf text header.host) host_same is.host_is;
   }
 

@@ -1,3 +1,4 @@
 pub mod AllowedLemmas
 pub mod HeaderLemmas
 pub mod ReadingLemmas
+pub mod OpenLemmas

@@ -1,5 +1,6 @@
 -- What the parts of an opening answer: the header, the front of the area, a command, and the commands of the area.
-use Rattle.std.specs.Prelude.{◌≡◌, ◌⊎◌, ℕ, ◌+◌, ◌-◌, ◌≤◌, Bool, false, IsTrue, List, [], Result, Ok, Err, ⊤}
+use Rattle.std.specs.Prelude.{◌≡◌, ◌⊎◌, ℕ, ◌+◌, ◌-◌, ◌<◌, ◌≤◌, Bool, true, false, IsTrue, List, [], ◌∷◌, length, take, drop, Result, Ok, Err, ⊤}
+use Rattle.std.specs.Int.{w32, to_le_bytes}
 use Rattle.nmc_base.specs.declared.chain_ends.Base.{Base}
 use Rattle.chain_state.specs.Chain.{Indexed}
 use Rattle.chain_steps.specs.Standing as chains
@@ -16,15 +17,16 @@ use Rattle.name_store.specs.declared.reading.Reading.{Reading}
 use Rattle.name_store.specs.declared.reading.Stepped.{Stepped}
 use Rattle.name_store.specs.declared.reading.Stepped.TheVariants as stepped
 use Rattle.name_store.specs.Host.{IsHostOf}
-use Rattle.name_store.specs.Header.{IsBegun, IsInitialised, IsUninitialised, HasFields, HasHeader, IsShut, selections_at, base_at, host_at}
+use Rattle.name_store.specs.Header.{IsBegun, IsInitialised, IsUninitialised, HasFields, HasHeader, IsShut, selections_at, base_at, height_at, host_at}
 use Rattle.name_store.specs.Commands.{record_of, IsAllowed, AreAllowed, AreRead}
 use Rattle.name_store.specs.Damage.{HasBadField, HasBadRecord, HasNoImage, header_file, area_file, area_start}
 
 -- ---- the header
 
--- base and host are those of the file's fields
+-- Base and host are those of the file's fields, of which the height is spelled by bytes.
 pub record IsHeaderOf (file : List ℕ) (header : Header) : Type 0 where
   pub base_is : header.base ≡ base_at file
+  pub height_is : to_le_bytes w32 (height_at file) ≡ take 4 (drop 10 file)
   pub host_is : IsHostOf (host_at file) header.host
 
 -- no gate stands behind the header, or it is open

@@ -1,5 +1,6 @@
 //! The header of file 0, as it is read.
-ghost use Rattle.std.specs.Prelude.{◌≡◌, ◌↔◌, ◌<◌, ◌≤◌, length, slice_index, IsTrue, IfOk, IsErrOf, MatchOption, MatchResult};
+ghost use Rattle.std.specs.Prelude.{◌≡◌, ◌↔◌, ◌<◌, ◌≤◌, length, take, drop, slice_index, IsTrue, IfOk, IsErrOf, MatchOption, MatchResult};
+ghost use Rattle.std.specs.Int.{w32, to_le_bytes};
 ghost use Rattle.fault_counts.specs.Faults.{NeverFell, Rose};
 ghost use Rattle.disk_model.specs.Moments.{EachMoment};
 ghost use Rattle.disk_model.specs.Changes.{Unchanged};
@@ -55,7 +56,8 @@ fn has_magic(bytes: &[u8]) -> bool
 
 fn height(bytes: &[u8]) -> u32
     requires { 50 ≤ length bytes.now }
-    ensures { result ≡ headers.height_at bytes.now }
+    ensures value { result ≡ headers.height_at bytes.now }
+    ensures bytes { to_le_bytes w32 (headers.height_at bytes.now) ≡ take 4 (drop 10 bytes.now) }
 {
     let mut field = [0; 4];
     field.copy_from_slice(&bytes[10..14]);

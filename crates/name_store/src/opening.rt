@@ -35,7 +35,8 @@ fn sync_all<D: Disk>(disk: &mut D) -> Result<(), Failed>
 {
     disk.sync(0)?;
     disk.sync(1)?;
-    disk.sync(2)
+    disk.sync(2)?;
+    Ok(())
 }
 
 /// The chain behind all commands of the area, and where its journal stands. The steps are counted in the ledger of the blank.

@@ -9,7 +9,7 @@ ghost use Rattle.name_store.specs.Reading.{StepsOn, ReadsAll, IsInArea, MovesOn,
 
 use crate::faults::OpenFault;
 use crate::following::{Unfollowed, follow};
-use crate::limits::{AREA_FILE, LONGEST_AREA};
+use crate::limits::AREA_FILE;
 use chain_state::Chain;
 use disk_model::Disk;
 use gate_journal::Journal;
@@ -99,12 +99,11 @@ pub fn read_all<D: Disk, L: Ledger>(
     ensures fault { IsErrOf result OpenFault.DiskFault → Rose (D.seen disk.old).faults (D.seen disk.new).faults }
 {
     let mut reading = reading;
-    'records: for _ in 0..LONGEST_AREA {
+    'records: loop {
         match step(reading, alloc, disk, steps) {
             Ok(Stepped::More(next)) => reading = next,
             Ok(Stepped::All(all)) => return Ok(all),
             Err(fault) => return Err(fault),
         }
     }
-    unreachable!()
 }

@@ -1,4 +1,5 @@
-use Rattle.std.proofs.Common.{◌≡◌, ◌+◌, ◌≤◌}
+use Rattle.std.proofs.Common.{◌-◌}
+use Rattle.machine.specs.RunState.{longest_area}
 use Rattle.std.specs.Prelude.{IsTrue}
 use Rattle.fault_counts.specs.Faults.{NeverFell}
 use Rattle.disk_model.specs.Moments.{EachMoment}
@@ -16,8 +17,11 @@ invariant-records g l =
     record {
       followed : (first : Chain) → HasFollowed g.D.Disk.tells first (bytes_in old 1) l.fn.reading.chain l.fn.reading.journal.length → HasFollowed g.D.Disk.tells first (bytes_in old 1) l.reading.chain l.reading.journal.length;
       area : IsInArea l.reading.journal;
-      far : 9 + l.records-index ≤ l.reading.journal.length;
       readable : IsTrue g.D.Disk.tells → IsReadable l.reading.journal (file_in now 1);
       time : IsTrue g.D.Disk.tells → EachMoment (Unchanged old.moments.now) old.moments now.moments;
       later : NeverFell old.faults now.faults;
     }
+
+-- each step moves the journal on
+abbrev pub decreases-records : goal.decreases-records
+decreases-records g l = longest_area - l.reading.journal.length
