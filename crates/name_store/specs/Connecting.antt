@@ -1,6 +1,7 @@
 -- What the connect of a block answers, of every run state that the store stands for.
 use Rattle.std.specs.Prelude.{ℕ, ◌+◌, ◌<◌, List}
-use Rattle.disk_model.specs.Moments.{Files}
+use Rattle.disk_model.specs.Moments.{Files, EachMoment}
+use Rattle.disk_model.specs.DiskSeen.{DiskSeen, bytes_in}
 use Rattle.chain_state.specs.declared.stage.Refusal.{Refusal}
 use Rattle.chain_steps.specs.Costs.{IsCheapConnect}
 use Rattle.chain_steps.specs.Views.{refusal_of}
@@ -10,7 +11,7 @@ use Rattle.machine.specs.RunState.{RunState, chain_of, area_of, record_length, a
 use Rattle.machine.specs.Connecting.{IsValid, Refuses, TakesMemory}
 use Rattle.name_store.specs.declared.store.Outcome.{Outcome}
 use Rattle.name_store.specs.declared.store.Outcome.TheVariants.{Done, Refused, NoMemory, Faulted}
-use Rattle.name_store.specs.Stands.{Bytes, Stands}
+use Rattle.name_store.specs.Stands.{Stands, EachStandsForEither}
 use Rattle.name_store.specs.Stored.{Stored, StandsFor, IsOn, IsTipOf}
 
 -- an area of at most so many bytes has no room for the command
@@ -60,6 +61,14 @@ IfFaulted P (Done store tip) = Unit {0}
 IfFaulted P (Refused store refusal) = Unit {0}
 IfFaulted P (NoMemory store) = Unit {0}
 IfFaulted P Faulted = P
+
+-- What the connect leaves on a disk that tells its files, of a run state that the store stood for. A store that is handed back
+-- is on the disk. Where the files stood for that run state too, a crash at any moment leaves files that stand for it or for the
+-- one with the block; and for that one they stand once the block is connected.
+pub record ConnectsOn (run : RunState) (bytes : List ℕ) (before after : DiskSeen) (outcome : Outcome) : Type 0 where
+  pub still_on : IsStillOn outcome after.moments.now
+  pub done : Stands (bytes_in before) run → IfDone (Stands (bytes_in after) (accepted run (Connect bytes))) outcome
+  pub any_moment : Stands (bytes_in before) run → EachMoment (EachStandsForEither run (accepted run (Connect bytes))) before.moments after.moments
 
 -- the steps of a block that is accepted
 abbrev pub IsCheapIfDone : List ℕ → Outcome → ℕ → ℕ → Type 0

@@ -1,14 +1,16 @@
 -- What the disconnect of a hash answers, of every run state that the store stands for.
 use Rattle.std.specs.Prelude.{ℕ, List}
-use Rattle.disk_model.specs.Moments.{Files}
+use Rattle.disk_model.specs.Moments.{Files, EachMoment}
+use Rattle.disk_model.specs.DiskSeen.{DiskSeen, bytes_in}
 use Rattle.chain_state.specs.Chain.{Indexed}
 use Rattle.chain_steps.specs.Costs.{IsCheapDisconnect}
 use Rattle.chain_steps.specs.Views.{back_refusal_of}
 use Rattle.machine.specs.Event.{Disconnect}
-use Rattle.machine.specs.RunState.{RunState, chain_of}
+use Rattle.machine.specs.RunState.{RunState, chain_of, accepted}
 use Rattle.machine.specs.Disconnecting.{IsValidBack, RefusesBack, TakesMemoryBack}
 use Rattle.name_store.specs.declared.store.BackOutcome.{BackOutcome}
 use Rattle.name_store.specs.declared.store.BackOutcome.TheVariants.{Done, Refused, NoMemory, Faulted}
+use Rattle.name_store.specs.Stands.{Stands, EachStandsForEither}
 use Rattle.name_store.specs.Stored.{Stored, StandsFor, IsOn}
 use Rattle.name_store.specs.Connecting.{IsFullOf, IsDone}
 
@@ -49,6 +51,12 @@ IfFaulted P (Done store tip) = Unit {0}
 IfFaulted P (Refused store refusal) = Unit {0}
 IfFaulted P (NoMemory store) = Unit {0}
 IfFaulted P Faulted = P
+
+-- What the disconnect leaves on a disk that tells its files, as of a connect.
+pub record DisconnectsOn (run : RunState) (hash : List ℕ) (before after : DiskSeen) (outcome : BackOutcome) : Type 0 where
+  pub still_on : IsStillOn outcome after.moments.now
+  pub done : Stands (bytes_in before) run → IfDone (Stands (bytes_in after) (accepted run (Disconnect hash))) outcome
+  pub any_moment : Stands (bytes_in before) run → EachMoment (EachStandsForEither run (accepted run (Disconnect hash))) before.moments after.moments
 
 -- the steps of a disconnect that is accepted
 abbrev pub IsCheapIfDone : Indexed → BackOutcome → ℕ → ℕ → Type 0

@@ -1,6 +1,6 @@
 -- What making the files answers, and what a crash leaves meanwhile.
 use Rattle.std.specs.Prelude.{◌≡◌, ◌⊎◌, ℕ, List, [], Result, Ok, Err, ⊤}
-use Rattle.disk_model.specs.FileState.{synced_file}
+use Rattle.disk_model.specs.FileState.{FileState, IsSettled}
 use Rattle.disk_model.specs.Moments.{Files, IsImage}
 use Rattle.machine.specs.RunState.{RunState}
 use Rattle.name_store.specs.declared.faults.CreateFault.{CreateFault}
@@ -14,10 +14,10 @@ CreateAnswer old (Ok done) = IsUninitialised (old 0)
 CreateAnswer old (Err Initialised) = IsInitialised (old 0)
 CreateAnswer old (Err DiskFault) = ⊤
 
--- files 0 and 1 are empty, and were synced since
-pub record AreEmpty (files : Files) : Type 0 where
-  pub header : files 0 ≡ synced_file []
-  pub area : files 1 ≡ synced_file []
+-- the file is empty, and was synced since its last write
+pub record IsEmpty (file : FileState) : Type 0 where
+  pub settled : IsSettled file
+  pub are : file.bytes ≡ []
 
 -- Whatever a crash leaves is uninitialised, or stands for the run state.
 abbrev pub EachIsBegun : RunState → Files → Type 0

@@ -6,13 +6,19 @@ mod faults;
 mod following;
 mod header;
 mod host;
+mod host_text;
+mod initialised;
+mod keeping;
 mod limits;
 mod making;
+mod making_steps;
 mod opening;
 mod reading;
 mod store;
 
 pub use faults::{CreateFault, OpenFault};
-pub use host::HostText;
 pub use making::create;
 pub use store::{BackOutcome, Outcome, Store};
+
+#[cfg(test)]
+mod tests;

@@ -11,3 +11,12 @@ pub const HEADER_FILE: u8 = 0;
 
 /// The file that has the commands.
 pub const AREA_FILE: u8 = 1;
+
+/// So many bytes has a header with the shortest host, and the gate behind it.
+pub const SHORTEST_HEADER: u64 = 50;
+
+/// A closed gate.
+pub const CLOSED: u8 = 0;
+
+/// An open gate.
+pub const OPEN: u8 = 1;

@@ -1,17 +1,16 @@
 ghost use Rattle.std.specs.Prelude.{◌≡◌, ◌≤◌, length, IsTrue};
 ghost use Rattle.fault_counts.specs.Faults.{NeverFell, Rose};
-ghost use Rattle.disk_model.specs.Moments.{EachMoment};
-ghost use Rattle.disk_model.specs.DiskSeen.{bytes_in};
 ghost use Rattle.nmc_base.specs.declared.limits.TheConstants.{LONGEST_BLOCK};
-ghost use Rattle.machine.specs.Event.{Connect, Disconnect};
-ghost use Rattle.machine.specs.RunState.{RunState, accepted, longest_area};
-ghost use Rattle.name_store.specs.Stands.{Stands, EachStandsForEither};
+ghost use Rattle.machine.specs.RunState.{RunState, longest_area};
 ghost use Rattle.name_store.specs.Stored.{StandsFor, IsOn};
 ghost use Rattle.name_store.specs.declared.limits.TheConstants.{EMPTY_AREA};
 ghost use Rattle.name_store.specs.Connecting as connecting;
 ghost use Rattle.name_store.specs.Disconnecting as disconnecting;
 
-use chain_state::{BackRefusal, Chain, Refusal};
+use crate::keeping::{CONNECT, DISCONNECT, keep};
+use crate::limits::LONGEST_AREA;
+use chain_state::{BackRefusal, Chain, Refusal, StageOutcome};
+use chain_steps::{stage_bytes, stage_hash};
 use disk_model::Disk;
 use domain_text::Name;
 use nmc_base::{Hash32, Steps, Tip};
@@ -99,16 +98,28 @@ impl Store {
         requires on_disk { IsTrue D.tells → IsOn self (D.seen disk.old).moments.now }
         ensures connects { connecting.Connects longest_area self bytes.now result }
         ensures undone { connecting.IfUndone (disk.new ≡ disk.old) result }
-        ensures still_on { IsTrue D.tells → connecting.IsStillOn result (D.seen disk.new).moments.now }
-        ensures done { IsTrue D.tells → (run : RunState) → StandsFor self run → Stands (bytes_in (D.seen disk.old)) run
-            → connecting.IfDone (Stands (bytes_in (D.seen disk.new)) (accepted run (Connect bytes.now))) result }
-        ensures any_moment { IsTrue D.tells → (run : RunState) → StandsFor self run → Stands (bytes_in (D.seen disk.old)) run
-            → EachMoment (EachStandsForEither run (accepted run (Connect bytes.now))) (D.seen disk.old).moments (D.seen disk.new).moments }
+        ensures kept { IsTrue D.tells → (run : RunState) → StandsFor self run
+            → connecting.ConnectsOn run bytes.now (D.seen disk.old) (D.seen disk.new) result }
         ensures later { NeverFell (D.seen disk.old).faults (D.seen disk.new).faults }
         ensures fault { connecting.IfFaulted (Rose (D.seen disk.old).faults (D.seen disk.new).faults) result }
         ensures cost { connecting.IsCheapIfDone bytes.now result steps.old steps.new }
     {
-        Outcome::NoMemory(self)
+        let Store { chain, host, area } = self;
+        let staged = match stage_bytes(alloc, chain, bytes, area, LONGEST_AREA, steps) {
+            StageOutcome::Staged(staged) => staged,
+            StageOutcome::Refused(chain, refusal) => {
+                return Outcome::Refused(Store { chain, host, area }, refusal);
+            }
+            StageOutcome::NoMemory(chain) => return Outcome::NoMemory(Store { chain, host, area }),
+        };
+        match keep(disk, area, CONNECT, bytes) {
+            Ok(area) => {
+                let chain = staged.commit(steps);
+                let tip = chain.tip();
+                Outcome::Done(Store { chain, host, area }, tip)
+            }
+            Err(_) => Outcome::Faulted,
+        }
     }
 
     /// Disconnects the newest block, which has this hash: stages that, keeps it in the area, and then changes the index.
@@ -124,15 +135,31 @@ impl Store {
         requires on_disk { IsTrue D.tells → IsOn self (D.seen disk.old).moments.now }
         ensures disconnects { disconnecting.Disconnects longest_area self hash.0 result }
         ensures undone { disconnecting.IfUndone (disk.new ≡ disk.old) result }
-        ensures still_on { IsTrue D.tells → disconnecting.IsStillOn result (D.seen disk.new).moments.now }
-        ensures done { IsTrue D.tells → (run : RunState) → StandsFor self run → Stands (bytes_in (D.seen disk.old)) run
-            → disconnecting.IfDone (Stands (bytes_in (D.seen disk.new)) (accepted run (Disconnect hash.0))) result }
-        ensures any_moment { IsTrue D.tells → (run : RunState) → StandsFor self run → Stands (bytes_in (D.seen disk.old)) run
-            → EachMoment (EachStandsForEither run (accepted run (Disconnect hash.0))) (D.seen disk.old).moments (D.seen disk.new).moments }
+        ensures kept { IsTrue D.tells → (run : RunState) → StandsFor self run
+            → disconnecting.DisconnectsOn run hash.0 (D.seen disk.old) (D.seen disk.new) result }
         ensures later { NeverFell (D.seen disk.old).faults (D.seen disk.new).faults }
         ensures fault { disconnecting.IfFaulted (Rose (D.seen disk.old).faults (D.seen disk.new).faults) result }
         ensures cost { disconnecting.IsCheapIfDone self.index result steps.old steps.new }
     {
-        BackOutcome::NoMemory(self)
+        let Store { chain, host, area } = self;
+        let staged = match stage_hash(alloc, chain, hash, area, LONGEST_AREA, steps) {
+            chain_state::BackOutcome::StagedBack(staged) => staged,
+            chain_state::BackOutcome::Refused(chain, refusal) => {
+                return BackOutcome::Refused(Store { chain, host, area }, refusal);
+            }
+            chain_state::BackOutcome::NoMemory(chain) => return BackOutcome::NoMemory(Store {
+                chain,
+                host,
+                area,
+            }),
+        };
+        match keep(disk, area, DISCONNECT, &hash.0) {
+            Ok(area) => {
+                let chain = staged.commit(steps);
+                let tip = chain.tip();
+                BackOutcome::Done(Store { chain, host, area }, tip)
+            }
+            Err(_) => BackOutcome::Faulted,
+        }
     }
 }
