@@ -68,7 +68,7 @@ module _ (file : List ℕ) (has : HasHeader file) (height_is : to_le_bytes w32 (
       one_more file 9 (omega (arith, long)) ∙ (λ i. (take-add 1 8 file ∙ (λ j. gate j ++ has.fields.magic_is j)) i ++ has.fields.profile_is i ∷ [])
 
   before_host : take 47 file ≡ (((1 ∷ (magic ++ 1 ∷ [])) ++ to_le_bytes w32 (height_at file)) ++ hash_at file) ++ host_length_at file ∷ []
-  before_host = one_more file 46 (omega (arith, long)) ∙ (λ i. (take-add 14 32 file ∙ (λ j. (take-add 10 4 file ∙ (λ k. before_height k ++ height_is (~ k))) j ++ hash_at file)) i ++ host_length_at file ∷ [])
+  before_host = one_more file 46 (omega (arith, long)) ∙ (λ i. (take-add 14 32 file ∙ (λ j. (take-add 10 4 file ∙ (λ k. before_height k ++ (sym height_is) k)) j ++ hash_at file)) i ++ host_length_at file ∷ [])
 
   host_size : length (host_at file) ≡ host_length_at file
   host_size = omega (arith, length-take (host_length_at file) (drop 47 file), length-drop 47 file, has.fields.host.inside)

@@ -1,7 +1,8 @@
 -- Following the records of an area one by one.
-use Rattle.std.proofs.Common.{◌≡◌, ◌≢◌, ◌⊎◌, inl, inr, ℕ, suc, ◌+◌, ◌-◌, ◌<◌, ◌≤◌, Bool, true, false, List, [], ◌∷◌, ◌++◌, length, take, drop, get_or, Result, Ok, Err, refl, sym, ◌∙◌, ap, subst, arith, length-take, length-append}
-use Rattle.std.specs.Prelude.{IsTrue, slice_index, not}
-use Rattle.std.proofs.lemmas.List.{take-take, get_or-take, get_or_at}
+use Rattle.std.proofs.Common.{◌≡◌, inl, inr, ℕ, ◌+◌, ◌-◌, ◌<◌, ◌≤◌, Bool, true, false, List, [], ◌∷◌, ◌++◌, length, take, get_or, Ok, Err, refl, sym, ◌∙◌, ap, subst, arith, length-take, length-append}
+use Rattle.std.specs.Prelude.{IsTrue, not, IsErrOf}
+use Rattle.std.proofs.Common.{rules}
+use Rattle.std.proofs.lemmas.List.{get_or-take, get_or_at}
 use Rattle.disk_model.specs.Moments.{Files, EachMoment}
 use Rattle.disk_model.specs.Changes.{Unchanged}
 use Rattle.disk_model.specs.DiskSeen.{DiskSeen, bytes_in}
@@ -10,15 +11,13 @@ use Rattle.name_store.specs.declared.faults.OpenFault.{OpenFault}
 use Rattle.name_store.specs.declared.faults.OpenFault.TheVariants as faults
 use Rattle.fault_counts.specs.Faults.{Faults, NeverFell, Rose}
 use Rattle.chain_state.specs.Chain.{Indexed}
-use Rattle.chain_steps.specs.Standing as chains
 use Rattle.gate_journal.specs.Gate.{IsRecordAt, IsOpen, IsClosed, record_text, behind_gate}
 use Rattle.gate_journal.specs.Stand.{Stand}
 use Rattle.gate_journal.specs.Answers.{IsDamagedAt, NextAnswer}
 use Rattle.gate_journal.specs.declared.faults.JournalFault.{JournalFault}
 use Rattle.gate_journal.specs.declared.faults.JournalFault.TheVariants as journal
-use Rattle.gate_journal.specs.Records.{image_front, records_text}
+use Rattle.gate_journal.specs.Records.{image_front}
 use Rattle.gate_journal.proofs.RecordLemmas.{front-push, record_unique}
-use Rattle.gate_journal.proofs.ReadLemmas.{record_start}
 use Rattle.machine.specs.Chain.{Chain}
 use Rattle.machine.specs.Event.{Command, Connect, Disconnect}
 use Rattle.machine.specs.RunState.{after_commands, grown_by, record_length, longest_area}
@@ -198,3 +197,10 @@ never_fell first second = record { count = omega (arith, first.count, second.cou
 pub rose_since : {old mid new : Faults} → NeverFell old mid → Rose mid new → Rose old new
 rose_since first (inl more) = inl (omega (arith, first.count, more))
 rose_since first (inr last) = inr last
+
+-- a fault of the disk, whatever stands at Ok
+pub same_fault : {T U : Type 0} (fault : OpenFault) → IsErrOf {T = T} (Err fault) faults.DiskFault → IsErrOf {T = U} (Err fault) faults.DiskFault
+same_fault faults.Uninitialised is = search rules
+same_fault (faults.Damaged number at) is = search rules
+same_fault faults.DiskFault is = search rules
+same_fault faults.NoMemory is = search rules

@@ -1,4 +1,4 @@
-use Rattle.std.proofs.Common.{◌≡◌, Ok, refl, sym, subst, arith, rules}
+use Rattle.std.proofs.Common.{Ok, refl, sym, subst, arith, rules}
 use Rattle.std.specs.Prelude.{IsTrue}
 use Rattle.disk_model.specs.Moments.{start}
 use Rattle.disk_model.specs.DiskSeen.{bytes_in, file_in}
@@ -6,7 +6,7 @@ use Rattle.gate_journal.specs.Stand.{IsReadable}
 use Rattle.gate_journal.proofs.ReadLemmas.{unchanged_then}
 use Rattle.name_store.specs.declared.reading.Stepped.{Stepped}
 use Rattle.name_store.specs.Reading.{StepsOn, MovesOn, reading_of}
-use Rattle.name_store.proofs.ReadingLemmas.{followed_same, followed_all_same, fault_same, same_bytes, never_fell, rose_since}
+use Rattle.name_store.proofs.ReadingLemmas.{followed_same, followed_all_same, fault_same, same_bytes, never_fell, rose_since, same_fault}
 use Rattle.name_store.proofs.reading.read_all.Goals as goal
 
 pub records-init : goal.records-init
@@ -73,5 +73,5 @@ returns-in-Err g c =
       in_area = tt;
       time = λ told. unchanged_then (c.records.invariant.time told) (c.in-Err.ensures.time told);
       later = never_fell c.records.invariant.later c.in-Err.ensures.later;
-      fault = λ e. rose_since c.records.invariant.later (c.in-Err.ensures.fault e);
+      fault = λ e. rose_since c.records.invariant.later (c.in-Err.ensures.fault (same_fault c.in-Err.fault e));
     }
