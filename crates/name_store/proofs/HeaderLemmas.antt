@@ -1,8 +1,9 @@
 -- What the first bytes of file 0 tell of its header, the file tells.
-use Rattle.std.proofs.Common.{◌≡◌, inl, inr, ℕ, ◌+◌, ◌<◌, ◌≤◌, min, List, length, take, drop, Result, Ok, Err, refl, sym, ◌∙◌, ap, subst, arith, length-take}
+use Rattle.std.proofs.Common.{◌≡◌, inl, inr, ℕ, ◌+◌, ◌<◌, ◌≤◌, min, List, length, take, drop, get_or, Result, Ok, Err, refl, sym, ◌∙◌, ap, subst, arith, length-take}
 use Rattle.std.specs.Prelude.{slice_index}
 use Rattle.std.specs.Int.{w32, from_le_bytes, to_le_bytes}
-use Rattle.std.proofs.lemmas.List.{take-take, drop-take, get_or-take, take_min}
+use Rattle.std.proofs.lemmas.List.{take-take, drop-take, get_or-take, get_or-drop, get_or_past, take_min}
+use Rattle.std.proofs.lemmas.Bool.{cases_lt}
 use Rattle.disk_model.specs.Reads.{IsRead}
 use Rattle.name_store.specs.declared.faults.OpenFault.{OpenFault}
 use Rattle.name_store.specs.declared.faults.OpenFault.TheVariants.{Uninitialised, Damaged, DiskFault, NoMemory}
@@ -124,3 +125,10 @@ module _ (file : List ℕ) (byte : slice_index file 46 < 256) where
   ])
   answer_up (Err DiskFault) is = tt
   answer_up (Err NoMemory) is = tt
+
+-- four bytes of bytes are bytes
+pub piece_bytes : (bytes : List ℕ) → ((i : ℕ) → get_or bytes i 0 < 256) → (i : ℕ) → get_or (take 4 (drop 10 bytes)) i 0 < 256
+piece_bytes bytes fit i = elim (cases_lt i 4) [
+  | inl low ↦ subst (λ (n : ℕ). n < 256) (sym (get_or-take 4 (drop 10 bytes) i 0 low ∙ get_or-drop 10 bytes i 0)) (fit (10 + i))
+  | inr high ↦ omega (arith, get_or_past (take 4 (drop 10 bytes)) i 0 (omega (arith, length-take 4 (drop 10 bytes))))
+]

@@ -1,5 +1,5 @@
 -- What an opened store stands for.
-use Rattle.std.proofs.Common.{◌≡◌, ◌≢◌, ◌⊎◌, inl, inr, ℕ, suc, ◌+◌, ◌-◌, ◌<◌, ◌≤◌, ◌^◌, Bool, List, [], ◌∷◌, ◌++◌, length, take, drop, get_or, refl, sym, ◌∙◌, ap, subst, arith, length-take, length-drop, append_assoc}
+use Rattle.std.proofs.Common.{◌≡◌, ◌≢◌, ◌⊎◌, inl, inr, ℕ, suc, ◌+◌, ◌-◌, ◌<◌, ◌≤◌, ◌^◌, Bool, true, List, [], ◌∷◌, ◌++◌, length, take, drop, get_or, refl, sym, ◌∙◌, ap, subst, arith, length-take, length-drop, append_assoc}
 use Rattle.std.specs.Prelude.{IsTrue, slice_index, All}
 use Rattle.std.specs.Int.{w32, to_le_bytes}
 use Rattle.std.proofs.Math.Seq.{drop-cons, take-add}
@@ -18,13 +18,18 @@ use Rattle.gate_journal.proofs.RecordLemmas.{pushed_fit}
 use Rattle.machine.specs.Chain.{Chain}
 use Rattle.machine.specs.Event.{Command, Connect, Disconnect}
 use Rattle.machine.specs.RunState.{RunState, on_base, after_commands, longest_area}
-use Rattle.name_store.specs.Opening.{AddsNoImage}
+use Rattle.name_store.specs.Opening.{AddsNoImage, IsOpened, OpenAnswer}
+use Rattle.name_store.specs.declared.faults.OpenFault.{OpenFault}
+use Rattle.name_store.specs.declared.faults.OpenFault.TheVariants as faults
+use Rattle.name_store.specs.Damage as damage
+use Rattle.name_store.specs.Damage.{HasNoImage}
+use Rattle.std.proofs.Common.{Err}
 use Rattle.name_store.specs.Header.{IsBegun, HasHeader, HasFields, magic, header_text, base_at, host_at, hash_at, host_length_at, height_at, selections_at}
 use Rattle.name_store.specs.Host.{IsHostOf}
-use Rattle.name_store.specs.Commands.{IsAllowed, AreAllowed, record_of, records_of}
-use Rattle.name_store.specs.Stands.{IsRunState, Stands}
+use Rattle.name_store.specs.Commands.{IsAllowed, AreAllowed, record_of, records_of, gate_behind}
+use Rattle.name_store.specs.Stands.{Bytes, IsRunState, Stands}
 use Rattle.name_store.specs.Stored.{Stored, StandsFor, IsOn}
-use Rattle.name_store.specs.Reading.{HasFollowed, HasFollowedAll}
+use Rattle.name_store.specs.Reading.{HasFollowed, HasFollowedAll, AreaAnswer, FollowsArea}
 use Rattle.name_store.proofs.ReadingLemmas.{area_size}
 
 -- ---- syncs
@@ -127,3 +132,64 @@ module _ (tells : Bool) (base : Base) (text name area : List ℕ) (index : Index
     area = some.reached_is;
     is_state = is_run;
   }
+
+-- commands leave the base
+base_kept : (first : Chain) (commands : List Command) → (after_commands first commands).base ≡ first.base
+base_kept first [] = refl
+base_kept first (Connect block ∷ commands) = base_kept first commands
+base_kept first (Disconnect hash ∷ commands) = base_kept first commands
+
+-- ---- a store on its disk
+
+-- The store of what was followed, over files that tell it: they were synced, and stand for the run state.
+pub opened : (tells : Bool) → IsTrue tells → (file : Files) (name : List ℕ) (index : Indexed) (reached : ℕ) → HasHeader (file 0).bytes → to_le_bytes w32 (height_at (file 0).bytes) ≡ take 4 (drop 10 (file 0).bytes)
+    → IsHostOf (host_at (file 0).bytes) name → HasFollowedAll tells (on_base (base_at (file 0).bytes) []) (file 1).bytes index reached → reached ≤ longest_area → IsSettled (file 0) → IsSettled (file 1)
+    → IsOpened (record { index = index; host = name; area = reached }) file
+opened tells told file name index reached has height_is host_is all within settled_header settled_area =
+    let header = (file 0).bytes in
+    let base = base_at header in
+    let text = host_at header in
+    let some = all.some in
+    let read = some.read told in
+    let first = on_base base [] in
+    let gate : reached - 1 ≡ gate_behind some.commands = omega (arith, some.reached_is, area_size first some.commands some.allowed) in
+    let closed_area : IsArea [] (records_of some.commands) (file 1).bytes = record {
+      closed = record {
+        begins = read.begins;
+        inside = read.inside;
+        closed = subst (IsClosed (file 1).bytes) gate (all.shut told).closed;
+      };
+      fit = records_fit first some.commands some.allowed;
+    } in
+    let begun = header_begun header has height_is in
+    let follows = stands_for tells base text name (file 1).bytes index reached begun host_is some within in
+    let closed_header = header_closed header has height_is in
+    record {
+      run = run_of base text some.commands;
+      stands = record { header = closed_header; area = closed_area; is_state = follows.is_state };
+      follows = follows;
+      on_disk = record {
+        text = text;
+        host = host_is;
+        header = subst (λ (b : Base). ClosedAfter (header_text b text) header) (sym (some.stands.base_is ∙ base_kept first some.commands)) closed_header;
+        records = records_of some.commands;
+        area = closed_area;
+        length_is = some.reached_is ∙ area_size first some.commands some.allowed;
+        settled_header = settled_header;
+        settled_area = settled_area;
+      };
+    }
+
+-- ---- damage behind a header that is in order
+
+pub area_bad : (old : Bytes) (new : Files) (fault : OpenFault) → HasHeader (old 0) → AreaAnswer (old 1) (Err fault) → OpenAnswer old new (Err fault)
+area_bad old new faults.Uninitialised has is = absurd is
+area_bad old new (faults.Damaged number at) has is = damage.image is.0 has is.1 is.2
+area_bad old new faults.DiskFault has is = tt
+area_bad old new faults.NoMemory has is = tt
+
+pub commands_bad : (tells : Bool) → IsTrue tells → (old : Bytes) (new : Files) (fault : OpenFault) → HasHeader (old 0) → HasNoImage (old 1) → FollowsArea tells (base_at (old 0)) (old 1) (Err fault) → OpenAnswer old new (Err fault)
+commands_bad tells told old new faults.Uninitialised has none is = absurd is
+commands_bad tells told old new (faults.Damaged number at) has none is = let bad = is told in damage.command bad.0 has none bad.1
+commands_bad tells told old new faults.DiskFault has none is = tt
+commands_bad tells told old new faults.NoMemory has none is = tt
