@@ -10,7 +10,7 @@ use Rattle.machine.specs.RunState.{on_base}
 use Rattle.std.proofs.Common.{Err}
 use Rattle.std.proofs.lemmas.Result.{err_from_is_err_and}
 use Rattle.name_store.specs.Header.{base_at, HasHeader}
-use Rattle.name_store.specs.Opening.{IsOpened}
+use Rattle.name_store.specs.Opening.{IsOpened, OpenAnswer}
 use Rattle.name_store.specs.Reading.{HasFollowedAll, AreaAnswer, FollowsArea}
 use Rattle.name_store.specs.Stored.{Stored, StandsFor}
 use Rattle.name_store.proofs.OpenLemmas.{adds_then, unchanged_adds, opened, run_of, stands_for, area_bad, commands_bad}
@@ -35,8 +35,8 @@ returns-in_err-journal-clause-answer g c = λ told.
     let old = bytes_in (g.D.Disk.seen c.args.disk.now) in
     let same = c.in_ok-sync_all.ensures.same told in
     let same_area = ap (λ (files : Files). (files 1).bytes) (last_moment (c.read_header.ensures.time told)) ∙ same.1 in
-    rw (p.1, p.2) (area_bad old (g.D.Disk.seen c.open_area.new.disk).moments.now _ (subst HasHeader same.0 (c.in_ok-header.ensures.answer told).0)
-    (subst (λ (l : List ℕ). AreaAnswer l (Err c.in_err-journal.field-0)) same_area (c.in_err-journal.ensures.answer told)))
+    subst (λ r. OpenAnswer old (g.D.Disk.seen c.open_area.new.disk).moments.now r) (sym (p.1 ∙ ap Err p.2)) (area_bad old (g.D.Disk.seen c.open_area.new.disk).moments.now c.in_err-journal.field-0.0 (subst HasHeader same.0 (c.in_ok-header.ensures.answer told).0)
+    (subst (λ (l : List ℕ). AreaAnswer l (Err c.in_err-journal.field-0.0)) same_area (c.in_err-journal.ensures.answer told)))
 
 pub returns-in_err-reading-clause-answer : goal.returns-in_err-reading-clause-answer
 returns-in_err-reading-clause-answer g c = λ told.
@@ -47,10 +47,10 @@ returns-in_err-reading-clause-answer g c = λ told.
     let same_area = ap (λ (files : Files). (files 1).bytes) (last_moment (c.read_header.ensures.time told)) ∙ same.1 in
     let same_read = ap (λ (files : Files). (files 1).bytes) (last_moment (c.open_area.ensures.time told)) ∙ same_area in
     let has = c.in_ok-header.ensures.answer told in
-    rw (p.1, p.2) (commands_bad tells told old (g.D.Disk.seen c.follow_area.new.disk).moments.now _ (subst HasHeader same.0 has.0) (subst HasNoImage same_area (c.in_ok-journal.ensures.answer told))
-    (subst (λ (l : List ℕ). FollowsArea tells (base_at l) (old 1) (Err c.in_err-reading.field-0)) same.0
-    (subst (λ (l : List ℕ). FollowsArea tells (base_at (bytes_in (g.D.Disk.seen c.sync_all.new.disk) 0)) l (Err c.in_err-reading.field-0)) same_read
-    (subst (λ (b : Base). FollowsArea tells b (bytes_in (g.D.Disk.seen c.open_area.new.disk) 1) (Err c.in_err-reading.field-0)) has.1.base_is c.in_err-reading.ensures.follows))))
+    subst (λ r. OpenAnswer old (g.D.Disk.seen c.follow_area.new.disk).moments.now r) (sym (p.1 ∙ ap Err p.2)) (commands_bad tells told old (g.D.Disk.seen c.follow_area.new.disk).moments.now c.in_err-reading.field-0.0 (subst HasHeader same.0 has.0) (subst HasNoImage same_area (c.in_ok-journal.ensures.answer told))
+    (subst (λ (l : List ℕ). FollowsArea tells (base_at l) (old 1) (Err c.in_err-reading.field-0.0)) same.0
+    (subst (λ (l : List ℕ). FollowsArea tells (base_at (bytes_in (g.D.Disk.seen c.sync_all.new.disk) 0)) l (Err c.in_err-reading.field-0.0)) same_read
+    (subst (λ (b : Base). FollowsArea tells b (bytes_in (g.D.Disk.seen c.open_area.new.disk) 1) (Err c.in_err-reading.field-0.0)) has.1.base_is c.in_err-reading.ensures.follows))))
 
 pub returns-in_err-reading-clause-untouched : goal.returns-in_err-reading-clause-untouched
 returns-in_err-reading-clause-untouched g c = λ tells.
