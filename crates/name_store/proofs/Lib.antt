@@ -1,8 +1,12 @@
-mod KeepLemmas
-mod StateLemmas
-mod StoreLemmas
-mod ConnectLemmas
-mod DisconnectLemmas
-mod StepLemmas
-mod MakingLemmas
-mod SpellingLemmas
+pub mod AllowedLemmas
+pub mod HeaderLemmas
+pub mod ReadingLemmas
+pub mod OpenLemmas
+pub mod KeepLemmas
+pub mod StateLemmas
+pub mod StoreLemmas
+pub mod ConnectLemmas
+pub mod DisconnectLemmas
+pub mod StepLemmas
+pub mod MakingLemmas
+pub mod SpellingLemmas

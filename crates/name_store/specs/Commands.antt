@@ -1,13 +1,12 @@
 -- The commands of an area: its records, each a command that the chain takes at its turn. Lists of commands have the newest
 -- first, as those of a run state.
-use Rattle.std.specs.Prelude.{◌≡◌, ℕ, ◌+◌, ◌<◌, ◌≤◌, List, [], ◌∷◌, ◌++◌, length, take, replicate}
+use Rattle.std.specs.Prelude.{◌≡◌, ℕ, ◌<◌, ◌≤◌, List, [], ◌∷◌, ◌++◌, length, take}
 use Rattle.nmc_base.specs.declared.limits.TheConstants.{LONGEST_BLOCK}
-use Rattle.nmc_base.specs.declared.chain_ends.Base.{Base}
 use Rattle.gate_journal.specs.Gate.{IsRecordAt}
 use Rattle.gate_journal.specs.Records.{records_text, image_front}
 use Rattle.machine.specs.Chain.{Chain}
 use Rattle.machine.specs.Event.{Command, Connect, Disconnect}
-use Rattle.machine.specs.RunState.{after_commands, on_base}
+use Rattle.machine.specs.RunState.{after_commands}
 use Rattle.machine.specs.Connecting.{IsValid}
 use Rattle.machine.specs.Disconnecting.{IsValidBack}
 

@@ -1,4 +1,5 @@
 pub mod Host
+pub mod Faults
 pub mod Spelling
 pub mod Header
 pub mod Commands
@@ -7,6 +8,7 @@ pub mod Damage
 pub mod Stored
 pub mod Keeping
 pub mod Opening
+pub mod Reading
 pub mod Making
 pub mod MakingSteps
 pub mod Connecting

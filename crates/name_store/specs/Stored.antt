@@ -1,5 +1,5 @@
 -- What a store keeps, what it stands for, and when it is on a disk.
-use Rattle.std.specs.Prelude.{◌≡◌, ℕ, ◌+◌, List, [], ◌∷◌, ◌++◌, length}
+use Rattle.std.specs.Prelude.{◌≡◌, ℕ, ◌+◌, List, [], ◌++◌, length}
 use Rattle.disk_model.specs.FileState.{IsSettled}
 use Rattle.disk_model.specs.Moments.{Files}
 use Rattle.gate_journal.specs.Gate.{ClosedAfter}

@@ -1,4 +1,7 @@
+use crate::limits::AREA_FILE;
 use disk_model::Failed;
+use gate_journal::JournalFault;
+use nmc_base::NoMemory as NoRoom;
 
 /// Why a store was not opened.
 #[derive(Clone, Copy, Debug, PartialEq, Eq)]
@@ -45,5 +48,35 @@ impl From<Failed> for OpenFault {
 
     fn from(_: Failed) -> Self {
         OpenFault::DiskFault
+    }
+}
+
+impl From<NoRoom> for OpenFault {
+    ghost use Rattle.std.specs.Prelude.{◌≡◌};
+    ghost use Rattle.name_store.specs.declared.faults.OpenFault.TheVariants.{NoMemory};
+
+    ghost from_gives = { λ _ e. e ≡ NoMemory };
+
+    fn from(_: NoRoom) -> Self {
+        OpenFault::NoMemory
+    }
+}
+
+/// The fault of the area's journal.
+impl From<JournalFault> for OpenFault {
+    ghost use Rattle.std.specs.Prelude.{◌≡◌};
+    ghost use Rattle.name_store.specs.Faults.{of_journal};
+
+    ghost from_gives = { λ fault e. e ≡ of_journal fault };
+
+    fn from(fault: JournalFault) -> Self {
+        match fault {
+            JournalFault::DiskFault => OpenFault::DiskFault,
+            JournalFault::Damaged { at } => OpenFault::Damaged {
+                file: AREA_FILE,
+                at,
+            },
+            JournalFault::NoMemory => OpenFault::NoMemory,
+        }
     }
 }

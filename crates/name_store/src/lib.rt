@@ -1,7 +1,10 @@
 //! The store: an index of names whose commands are kept in files that outlive a crash.
 #![tactic(auto)]
 
+mod area;
 mod faults;
+mod following;
+mod header;
 mod host;
 mod host_text;
 mod initialised;
@@ -10,6 +13,7 @@ mod limits;
 mod making;
 mod making_steps;
 mod opening;
+mod reading;
 mod store;
 
 pub use faults::{CreateFault, OpenFault};

@@ -3,6 +3,7 @@ ghost use Rattle.fault_counts.specs.Faults.{NeverFell, Rose};
 ghost use Rattle.nmc_base.specs.declared.limits.TheConstants.{LONGEST_BLOCK};
 ghost use Rattle.machine.specs.RunState.{RunState, longest_area};
 ghost use Rattle.name_store.specs.Stored.{StandsFor, IsOn};
+ghost use Rattle.name_store.specs.declared.limits.TheConstants.{EMPTY_AREA};
 ghost use Rattle.name_store.specs.Connecting as connecting;
 ghost use Rattle.name_store.specs.Disconnecting as disconnecting;
 
@@ -59,6 +60,15 @@ pub enum BackOutcome {
 }
 
 impl Store {
+    /// The store of these parts.
+    pub(crate) fn of(chain: Chain, host: Name, area: u64) -> Store
+        requires some { EMPTY_AREA ≤ area }
+        requires within { area ≤ longest_area }
+        ensures { result ≡ record { index = chain; host = host; area = area } }
+    {
+        Store { chain, host, area }
+    }
+
     /// The index.
     pub fn chain(&self) -> &Chain
         ensures { result.now ≡ self.now.index }
