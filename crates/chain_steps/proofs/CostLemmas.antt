@@ -13,8 +13,7 @@ IsCheapCommit bytes staged before after = (block : Block) → IsBlock bytes bloc
 
 -- the bytes are one block alone
 pub cheap_block : (staged : StagedIndex) (bytes : List ℕ) (read : Block) (before after : ℕ) → IsBlock bytes read
-    → after + commit_steps staged ≤ before + 8 * (touched_by read + length staged.whole.expired.items) + 8
-    → (block : Block) → IsBlock bytes block → after + commit_steps staged ≤ before + 8 * (touched_by block + length staged.whole.expired.items) + 8
+    → after + commit_steps staged ≤ before + 8 * (touched_by read + length staged.whole.expired.items) + 8 → IsCheapCommit bytes staged before (after + commit_steps staged)
 cheap_block staged bytes read before after is cost = λ block also.
     let same : touched_by read ≡ touched_by block = ap touched_by (same_block bytes read block is also) in
     omega (arith, cost, same)
