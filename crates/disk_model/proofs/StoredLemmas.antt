@@ -208,8 +208,12 @@ either_way : (b : Bool) (in_use other is : FileState) → (b ≡ true → in_use
 either_way true in_use other is low high = low refl
 either_way false in_use other is low high = high refl
 
+-- what is kept beside the list now counts as that call after what was kept there
+abbrev pub Adds : DiskCall → List Touched → List Touched → Type 0
+Adds call old new = (k : ℕ) (s : FileState) → touch (touched_at new k) s ≡ step k call (touch (touched_at old k) s)
+
 -- the files after it
-module _ (old new : List Touched) (call : DiskCall) (named : call.file < 3) (so : (k : ℕ) (s : FileState) → touch (touched_at new k) s ≡ step k call (touch (touched_at old k) s)) where
+module _ (old new : List Touched) (call : DiskCall) (named : call.file < 3) (so : Adds call old new) where
   -- where some were kept beside the list before
   full_at : (k : ℕ) (s : FileState) → (if nat_lt k 3 then touch (touched_at new k) s else s) ≡ step k call (if nat_lt k 3 then touch (touched_at old k) s else s)
   full_at k s =
