@@ -7,21 +7,20 @@ use Rattle.std.proofs.lemmas.Bool.{cases_eq}
 use Rattle.std.proofs.lemmas.List.{map-append, map-set, length-map, get_or-set_same, get_or-set_other}
 use Rattle.fault_counts.specs.Counts.{Counts}
 use Rattle.disk_model.specs.FileState.{FileState, synced_file}
-use Rattle.disk_model.specs.Moments.{Files, Moments, after}
+use Rattle.disk_model.specs.Moments.{Files, Moments}
 use Rattle.disk_model.specs.Reads.{seen}
-use Rattle.disk_model.specs.Calls.{Effect, looked, written, cut_to, DiskCall, call_on, effect_on, step, after_call}
+use Rattle.disk_model.specs.Calls.{Effect, looked, written, cut_to, synced, DiskCall, call_on, effect_on, step, after_call}
 use Rattle.disk_model.specs.Touched.{Touched, touched_at, touch, LeavesAll}
-use Rattle.disk_model.specs.MemoryLog.{first_files, moments_after, moments_touched, KeptInList, KeptTogether}
-use Rattle.disk_model.specs.Kept.{effect_of, failed_effect, call_of, calls_of, touched_of, touched_in}
+use Rattle.disk_model.specs.MemoryLog.{DiskLog, first_files, moments_after, moments_touched, KeptInList, KeptTogether}
+use Rattle.disk_model.specs.Kept.{failed_effect, call_of, calls_of, touched_of, touched_in}
 use Rattle.disk_model.specs.Stored.{IsStored, KeepsFailed}
 use Rattle.disk_model.specs.declared.kept.KeptCall.{KeptCall}
-use Rattle.disk_model.specs.declared.kept.KeptEffect.{KeptEffect}
-use Rattle.disk_model.specs.declared.kept.KeptEffect.TheVariants.{Failed, Sync}
+use Rattle.disk_model.specs.declared.kept.KeptEffect.TheVariants.{Failed}
 use Rattle.disk_model.specs.declared.kept.FailedEffect.{FailedEffect}
 use Rattle.disk_model.specs.declared.kept.FailedEffect.TheVariants.{FailedLook, FailedWrite, FailedCut}
 use Rattle.disk_model.specs.declared.touched.TouchedFile.{TouchedFile}
 use Rattle.disk_model.proofs.CallLemmas.{moments_from-push, step_here, step_other}
-use Rattle.disk_model.proofs.TouchedLemmas.{touch_nothing, low_test, is_low, not_named}
+use Rattle.disk_model.proofs.TouchedLemmas.{touch_nothing, is_low, not_named}
 
 -- what the stored lists of bytes hold
 abbrev pub bytes_of : List (Vec ℕ Global) → List (List ℕ)
@@ -86,66 +85,79 @@ keeps_bytes FailedLook s = refl
 keeps_bytes (FailedWrite at count) s = refl
 keeps_bytes (FailedCut count) s = refl
 
-module _ (first : List (List ℕ)) (calls later : List KeptCall) (file : ℕ) (effect : KeptEffect) (pushed : later ≡ calls ++ record { file = file; effect = effect } ∷ []) where
-  abbrev was : Moments
-  was = moments_after first (calls_of calls)
+-- what is stored beside the list of calls: the bytes of the files, whether the list had no room for a call, and
+-- what is kept beside it
+pub record Store : Type 0 where
+  pub bytes : List (List ℕ)
+  pub is_full : Bool
+  pub touched : List Touched
 
-  abbrev is_now : Moments
-  is_now = moments_after first (calls_of later)
+-- The bytes are those of these files. While the list has room, nothing is kept beside it.
+pub record StoresFiles (store : Store) (files : Files) : Type 0 where
+  pub same : (k : ℕ) → k < 3 → slice_index_or store.bytes k [] ≡ (files k).bytes
+  pub nothing_beside : store.is_full ≡ false → (k : ℕ) → k < 3 → LeavesAll (touched_at store.touched k) (files k)
 
-  added : moments_after first (calls_of later) ≡ after (moments_after first (calls_of calls)) (after_call (call_on file (effect_of effect)) (moments_after first (calls_of calls)).now)
-  added =
-      ap (λ (l : List KeptCall). moments_after first (calls_of l)) pushed
-      ∙ ap (λ (l : List DiskCall). moments_after first l) (map-append call_of calls (record { file = file; effect = effect } ∷ []))
-      ∙ moments_from-push (record { now = first_files first; past = [] }) (calls_of calls) (call_on file (effect_of effect))
+pub stores : (store : Store) (first : List (List ℕ)) (calls : List DiskCall) → IsStored store.bytes first calls store.is_full store.touched → StoresFiles store (moments_after first calls).now
+stores store first calls is = record { same = is.bytes; nothing_beside = is.nothing_beside }
 
-  now_here : (moments_after first (calls_of later)).now file ≡ effect_on (effect_of effect) ((moments_after first (calls_of calls)).now file)
-  now_here = ap (λ (m : Moments). m.now file) added ∙ step_here file (effect_of effect) (was.now file)
+-- the files after one call more
+added : (first : List (List ℕ)) (calls later : List KeptCall) (call : KeptCall) → later ≡ calls ++ call ∷ []
+    → (moments_after first (calls_of later)).now ≡ after_call (call_of call) (moments_after first (calls_of calls)).now
+added first calls later call pushed =
+    ap (λ (l : List KeptCall). (moments_after first (calls_of l)).now) pushed
+    ∙ ap (λ (l : List DiskCall). (moments_after first l).now) (map-append call_of calls (call ∷ []))
+    ∙ ap (λ (m : Moments). m.now) (moments_from-push (record { now = first_files first; past = [] }) (calls_of calls) (call_of call))
 
-  now_other : (k : ℕ) → k ≢ file → (moments_after first (calls_of later)).now k ≡ (moments_after first (calls_of calls)).now k
-  now_other k differ = ap (λ (m : Moments). m.now k) added ∙ step_other file k (effect_of effect) (was.now k) differ
+pub stored_after : (store : Store) (first : List (List ℕ)) (calls later : List KeptCall) (call : KeptCall) → later ≡ calls ++ call ∷ []
+    → StoresFiles store (after_call (call_of call) (moments_after first (calls_of calls)).now) → IsStored store.bytes first (calls_of later) store.is_full store.touched
+stored_after store first calls later call pushed so =
+    let is : StoresFiles store (moments_after first (calls_of later)).now = subst (λ (files : Files). StoresFiles store files) (sym (added first calls later call pushed)) so in
+    record { bytes = is.same; nothing_beside = is.nothing_beside }
 
-  -- a fact of each file goes on where it does for the file that the call names
-  goes_on : (P : ℕ → FileState → Type 0) → P file (effect_on (effect_of effect) ((moments_after first (calls_of calls)).now file)) → (k : ℕ) → P k ((moments_after first (calls_of calls)).now k)
-      → P k ((moments_after first (calls_of later)).now k)
-  goes_on P here k so = elim (cases_eq k file) [
-    | inl same ↦ subst (λ (n : ℕ). P n (is_now.now n)) (sym same) (subst (P file) (sym now_here) here)
-    | inr differ ↦ subst (P k) (sym (now_other k differ)) so
-  ]
+-- a fact of each file goes on where it does for the file that the call names
+goes_on : (call : DiskCall) (old : Files) (P : ℕ → FileState → Type 0) → P call.file (effect_on call.effect (old call.file)) → (k : ℕ) → P k (old k) → P k (after_call call old k)
+goes_on call old P here k so = elim (cases_eq k call.file) [
+  | inl same ↦ subst (λ (n : ℕ). P n (after_call call old n)) (sym same) (subst (P call.file) (sym (step_here call.file call.effect (old call.file))) here)
+  | inr differ ↦ subst (P k) (sym (step_other call.file k call.effect (old k) differ)) so
+]
 
-  module _ (files : List (Vec ℕ Global)) (was_full is_full : Bool) (touched : List Touched) (room : is_full ≡ false → was_full ≡ false) (named : file < 3)
-      (stored : IsStored (bytes_of files) first (calls_of calls) was_full touched) where
-    narrowed : Narrows (effect_of effect) → is_full ≡ false → (k : ℕ) → k < 3 → LeavesAll (touched_at touched k) ((moments_after first (calls_of later)).now k)
-    narrowed narrows open_now k low =
-        goes_on (λ n s. LeavesAll (touched_at touched n) s) (narrows (touched_at touched file) (was.now file) (stored.nothing_beside (room open_now) file named)) k
-        (stored.nothing_beside (room open_now) k low)
+-- a call to a file in use, after which nothing is settled that was not
+pub record NarrowsFile (call : DiskCall) : Type 0 where
+  pub named : call.file < 3
+  pub narrows : Narrows call.effect
 
-    -- a call after which reads give the same
-    pub stored_same : ((s : FileState) → (effect_on (effect_of effect) s).bytes ≡ s.bytes) → Narrows (effect_of effect) → IsStored (bytes_of files) first (calls_of later) is_full touched
-    stored_same same narrows = record {
-      bytes = λ k low. goes_on (λ n s. slice_index_or (bytes_of files) n [] ≡ s.bytes) (stored.bytes file named ∙ sym (same (was.now file))) k (stored.bytes k low);
-      nothing_beside = narrowed narrows;
-    }
+narrowed : (store : Store) (old : Files) (call : DiskCall) → NarrowsFile call → StoresFiles store old → store.is_full ≡ false → (k : ℕ) → k < 3
+    → LeavesAll (touched_at store.touched k) (after_call call old k)
+narrowed store old call narrow stored open_now k low =
+    goes_on call old (λ n s. LeavesAll (touched_at store.touched n) s) (narrow.narrows (touched_at store.touched call.file) (old call.file) (stored.nothing_beside open_now call.file narrow.named)) k
+    (stored.nothing_beside open_now k low)
 
-    -- a call that changes what reads give of the file that it names
-    pub stored_changed : (change : List ℕ → List ℕ) (v d : Vec ℕ Global) → file < length files → ((s : FileState) → (effect_on (effect_of effect) s).bytes ≡ change s.bytes)
-        → v.items ≡ change (slice_index_or files file d).items → Narrows (effect_of effect) → IsStored (bytes_of (slice_set files file v)) first (calls_of later) is_full touched
-    stored_changed change v d inside so is narrows = record {
-      bytes = λ k low. elim (cases_eq k file) [
-        | inl same ↦ subst (λ (n : ℕ). slice_index_or (bytes_of (slice_set files file v)) n [] ≡ seen is_now n) (sym same) changed
-        | inr differ ↦
-            ap (λ (l : List (List ℕ)). slice_index_or l k []) (map-set (λ v. v.items) files file v)
-            ∙ get_or-set_other (bytes_of files) file k v.items [] differ ∙ stored.bytes k low ∙ sym (ap (λ (s : FileState). s.bytes) (now_other k differ))
-      ];
-      nothing_beside = narrowed narrows;
-    }
-      where
-        changed : slice_index_or (bytes_of (slice_set files file v)) file [] ≡ seen (moments_after first (calls_of later)) file
-        changed =
-            ap (λ (l : List (List ℕ)). slice_index_or l file []) (map-set (λ v. v.items) files file v)
-            ∙ get_or-set_same (bytes_of files) file v.items [] (omega (arith, length-map files (λ (v : Vec ℕ Global). v.items)))
-            ∙ is ∙ ap change (sym (get_or-items files file d inside) ∙ stored.bytes file named)
-            ∙ sym (so (was.now file)) ∙ sym (ap (λ (s : FileState). s.bytes) now_here)
+-- a call after which reads give the same
+pub stored_same : (store : Store) (old : Files) (call : DiskCall) → NarrowsFile call → ((s : FileState) → (effect_on call.effect s).bytes ≡ s.bytes) → StoresFiles store old
+    → StoresFiles store (after_call call old)
+stored_same store old call narrow same stored = record {
+  same = λ k low. goes_on call old (λ n s. slice_index_or store.bytes n [] ≡ s.bytes) (stored.same call.file narrow.named ∙ sym (same (old call.file))) k (stored.same k low);
+  nothing_beside = narrowed store old call narrow stored;
+}
+
+-- a call that changes what reads give of the file that it names
+pub stored_changed : (store : Store) (old : Files) (call : DiskCall) (bytes : List ℕ) → NarrowsFile call → call.file < length store.bytes → bytes ≡ (effect_on call.effect (old call.file)).bytes
+    → StoresFiles store old → StoresFiles (record store { bytes = slice_set store.bytes call.file bytes }) (after_call call old)
+stored_changed store old call bytes narrow inside is stored = record {
+  same = λ k low. elim (cases_eq k call.file) [
+    | inl same ↦ subst (λ (n : ℕ). slice_index_or (slice_set store.bytes call.file bytes) n [] ≡ (after_call call old n).bytes) (sym same)
+        (get_or-set_same store.bytes call.file bytes [] inside ∙ is ∙ sym (ap (λ (s : FileState). s.bytes) (step_here call.file call.effect (old call.file))))
+    | inr differ ↦
+        get_or-set_other store.bytes call.file k bytes [] differ ∙ stored.same k low ∙ sym (ap (λ (s : FileState). s.bytes) (step_other call.file k call.effect (old k) differ))
+  ];
+  nothing_beside = narrowed store old call narrow stored;
+}
+
+pub bytes_of-set : (files : List (Vec ℕ Global)) (file : ℕ) (v : Vec ℕ Global) → bytes_of (slice_set files file v) ≡ slice_set (bytes_of files) file v.items
+bytes_of-set files file v = map-set (λ (v : Vec ℕ Global). v.items) files file v
+
+pub touched_in-set : (files : List TouchedFile) (file : ℕ) (v : TouchedFile) → touched_in (slice_set files file v) ≡ slice_set (touched_in files) file (touched_of v)
+touched_in-set files file v = map-set touched_of files file v
 
 -- what is kept together changes nothing that reads give
 pub seen_touched : (together : Option (List Touched)) (m : Moments) (k : ℕ) → seen (moments_touched together m) k ≡ seen m k
@@ -154,119 +166,128 @@ seen_touched (Some touched) m k =
     elim (nat_lt k 3) as (λ b. (if b then touch (touched_at touched k) (m.now k) else m.now k).bytes ≡ (m.now k).bytes) [ true ↦ refl | false ↦ refl ]
 
 -- what is stored of a file
-pub stored_at : (files : List (Vec ℕ Global)) (first : List (List ℕ)) (calls : List DiskCall) (is_full : Bool) (touched : List Touched) (file : ℕ) (d : Vec ℕ Global)
-    → IsStored (bytes_of files) first calls is_full touched → file < 3 → file < length files → (slice_index_or files file d).items ≡ seen (moments_after first calls) file
-stored_at files first calls is_full touched file d stored named inside = sym (get_or-items files file d inside) ∙ stored.bytes file named
+pub stored_at : (files : List (Vec ℕ Global)) (file : ℕ) (d : Vec ℕ Global) (bytes : List ℕ) → file < length files → slice_index_or (bytes_of files) file [] ≡ bytes
+    → (slice_index_or files file d).items ≡ bytes
+stored_at files file d bytes inside held = sym (get_or-items files file d inside) ∙ held
 
 -- after a sync nothing is kept beside
-pub stored_synced : (first : List (List ℕ)) (calls later : List KeptCall) (file : ℕ) → later ≡ calls ++ record { file = file; effect = Sync } ∷ []
-    → (files : List (Vec ℕ Global)) (is_full : Bool) (touched : List TouchedFile) (v : TouchedFile) → file < 3 → file < length touched
-    → IsStored (bytes_of files) first (calls_of calls) is_full (touched_in touched)
-    → LeavesAll (touched_of v) (synced_file (seen (moments_after first (calls_of calls)) file))
-    → IsStored (bytes_of files) first (calls_of later) is_full (touched_in (slice_set touched file v))
-stored_synced first calls later file pushed files is_full touched v named inside stored all = record {
-  bytes = λ k low. goes_on first calls later file Sync pushed (λ n s. slice_index_or (bytes_of files) n [] ≡ s.bytes) (stored.bytes file named) k (stored.bytes k low);
-  nothing_beside = λ open_now k low. elim (cases_eq k file) [
-    | inl same ↦ subst (λ (n : ℕ). LeavesAll (touched_at (touched_in (slice_set touched file v)) n) ((moments_after first (calls_of later)).now n)) (sym same) here
-    | inr differ ↦
-        subst (λ t. LeavesAll t ((moments_after first (calls_of later)).now k)) (sym (other k differ))
-        (subst (LeavesAll (touched_at (touched_in touched) k)) (sym (now_other first calls later file Sync pushed k differ)) (stored.nothing_beside open_now k low))
-  ];
-}
-  where
-    set_is : touched_in (slice_set touched file v) ≡ slice_set (touched_in touched) file (touched_of v)
-    set_is = map-set touched_of touched file v
-
-    same_place : touched_at (touched_in (slice_set touched file v)) file ≡ touched_of v
-    same_place = ap (λ (l : List Touched). touched_at l file) set_is ∙ get_or-set_same (touched_in touched) file (touched_of v) _ (omega (arith, length-map touched touched_of))
-
-    other : (k : ℕ) → k ≢ file → touched_at (touched_in (slice_set touched file v)) k ≡ touched_at (touched_in touched) k
-    other k differ = ap (λ (l : List Touched). touched_at l k) set_is ∙ get_or-set_other (touched_in touched) file k (touched_of v) _ differ
-
-    here : LeavesAll (touched_at (touched_in (slice_set touched file v)) file) ((moments_after first (calls_of later)).now file)
-    here = subst (λ t. LeavesAll t ((moments_after first (calls_of later)).now file)) (sym same_place) (subst (LeavesAll (touched_of v)) (sym (now_here first calls later file Sync pushed)) all)
+pub stored_synced : (store : Store) (old : Files) (file : ℕ) (t : Touched) → file < 3 → file < length store.touched → LeavesAll t (synced_file (old file).bytes) → StoresFiles store old
+    → StoresFiles (record store { touched = slice_set store.touched file t }) (after_call (call_on file synced) old)
+stored_synced store old file t named inside all stored =
+    let here : touched_at (slice_set store.touched file t) file ≡ t = get_or-set_same store.touched file t _ inside in
+    let other : (k : ℕ) → k ≢ file → touched_at (slice_set store.touched file t) k ≡ touched_at store.touched k = λ k differ. get_or-set_other store.touched file k t _ differ in
+    let later = after_call (call_on file synced) old in
+    record {
+      same = λ k low. goes_on (call_on file synced) old (λ n s. slice_index_or store.bytes n [] ≡ s.bytes) (stored.same file named) k (stored.same k low);
+      nothing_beside = λ open_now k low. elim (cases_eq k file) [
+        | inl same ↦ subst (λ (n : ℕ). LeavesAll (touched_at (slice_set store.touched file t) n) (later n)) (sym same)
+            (subst (λ u. LeavesAll u (later file)) (sym here) (subst (LeavesAll t) (sym (step_here file synced (old file))) all))
+        | inr differ ↦ subst (λ u. LeavesAll u (later k)) (sym (other k differ))
+            (subst (LeavesAll (touched_at store.touched k)) (sym (step_other file k synced (old k) differ)) (stored.nothing_beside open_now k low))
+      ];
+    }
 
 -- one more failed call beside the list
-pub added_beside : (files : List TouchedFile) (file : ℕ) (v d : TouchedFile) (effect : Effect) → file < length files
-    → ((s : FileState) → touch (touched_of v) s ≡ effect_on effect (touch (touched_of (slice_index_or files file d)) s))
-    → (k : ℕ) (s : FileState) → touch (touched_at (touched_in (slice_set files file v)) k) s ≡ step k (call_on file effect) (touch (touched_at (touched_in files) k) s)
-added_beside files file v d effect inside so k s = elim (cases_eq k file) [
-  | inl same ↦ subst (λ (n : ℕ). touch (touched_at (touched_in (slice_set files file v)) n) s ≡ step n (call_on file effect) (touch (touched_at (touched_in files) n) s)) (sym same)
-      (ap (λ t. touch t s) same_place ∙ so s ∙ ap (λ t. effect_on effect (touch t s)) (sym (touched_at-of files file d inside)) ∙ sym (step_here file effect (touch (touched_at (touched_in files) file) s)))
-  | inr differ ↦ ap (λ t. touch t s) (ap (λ (l : List Touched). touched_at l k) set_is ∙ get_or-set_other (touched_in files) file k (touched_of v) _ differ)
-      ∙ sym (step_other file k effect (touch (touched_at (touched_in files) k) s) differ)
+pub added_beside : (files : List TouchedFile) (call : DiskCall) (v d : TouchedFile) → call.file < length files
+    → ((s : FileState) → touch (touched_of v) s ≡ effect_on call.effect (touch (touched_of (slice_index_or files call.file d)) s))
+    → (k : ℕ) (s : FileState) → touch (touched_at (touched_in (slice_set files call.file v)) k) s ≡ step k call (touch (touched_at (touched_in files) k) s)
+added_beside files call v d inside so k s = elim (cases_eq k call.file) [
+  | inl same ↦ subst (λ (n : ℕ). touch (touched_at (touched_in (slice_set files call.file v)) n) s ≡ step n call (touch (touched_at (touched_in files) n) s)) (sym same)
+      (ap (λ t. touch t s) same_place ∙ so s ∙ ap (λ t. effect_on call.effect (touch t s)) (sym (touched_at-of files call.file d inside))
+      ∙ sym (step_here call.file call.effect (touch (touched_at (touched_in files) call.file) s)))
+  | inr differ ↦ ap (λ t. touch t s) (ap (λ (l : List Touched). touched_at l k) (touched_in-set files call.file v) ∙ get_or-set_other (touched_in files) call.file k (touched_of v) _ differ)
+      ∙ sym (step_other call.file k call.effect (touch (touched_at (touched_in files) k) s) differ)
 ]
   where
-    set_is : touched_in (slice_set files file v) ≡ slice_set (touched_in files) file (touched_of v)
-    set_is = map-set touched_of files file v
+    same_place : touched_at (touched_in (slice_set files call.file v)) call.file ≡ touched_of v
+    same_place =
+        ap (λ (l : List Touched). touched_at l call.file) (touched_in-set files call.file v)
+        ∙ get_or-set_same (touched_in files) call.file (touched_of v) _ (omega (arith, length-map files touched_of))
 
-    same_place : touched_at (touched_in (slice_set files file v)) file ≡ touched_of v
-    same_place = ap (λ (l : List Touched). touched_at l file) set_is ∙ get_or-set_same (touched_in files) file (touched_of v) _ (omega (arith, length-map files touched_of))
+either_way : (b : Bool) (in_use other is : FileState) → (b ≡ true → in_use ≡ is) → (b ≡ false → other ≡ is) → (if b then in_use else other) ≡ is
+either_way true in_use other is low high = low refl
+either_way false in_use other is low high = high refl
+
+-- what is kept beside the list now counts as that call after what was kept there
+abbrev pub Adds : DiskCall → List Touched → List Touched → Type 0
+Adds call old new = (k : ℕ) (s : FileState) → touch (touched_at new k) s ≡ step k call (touch (touched_at old k) s)
 
 -- the files after it
-module _ (first : List (List ℕ)) (calls : List DiskCall) (was_full : Bool) (old new : List Touched) (file : ℕ) (effect : Effect) (named : file < 3)
-    (nothing : was_full ≡ false → (k : ℕ) → k < 3 → LeavesAll (touched_at old k) ((moments_after first calls).now k))
-    (so : (k : ℕ) (s : FileState) → touch (touched_at new k) s ≡ step k (call_on file effect) (touch (touched_at old k) s)) where
-  each_low : (full : Bool) → was_full ≡ full → (k : ℕ) → k < 3
-      → touch (touched_at new k) ((moments_after first calls).now k) ≡ step k (call_on file effect) ((moments_touched (if full then Some old else None) (moments_after first calls)).now k)
-  each_low true is k low =
-      so k ((moments_after first calls).now k)
-      ∙ ap (λ b. step k (call_on file effect) (if b then touch (touched_at old k) ((moments_after first calls).now k) else (moments_after first calls).now k)) (sym (low_test k low))
-  each_low false is k low = so k ((moments_after first calls).now k) ∙ ap (step k (call_on file effect)) (touch_nothing (touched_at old k) ((moments_after first calls).now k) (nothing is k low))
+module _ (old new : List Touched) (call : DiskCall) (named : call.file < 3) (so : Adds call old new) where
+  -- where some were kept beside the list before
+  full_at : (k : ℕ) (s : FileState) → (if nat_lt k 3 then touch (touched_at new k) s else s) ≡ step k call (if nat_lt k 3 then touch (touched_at old k) s else s)
+  full_at k s =
+      let was = λ (b : Bool). step k call (if b then touch (touched_at old k) s else s) in
+      either_way (nat_lt k 3) (touch (touched_at new k) s) s (was (nat_lt k 3)) (λ low. so k s ∙ ap was (sym low))
+      (λ high. sym (step_other call.file k call.effect s (not_named k call.file high named)) ∙ ap was (sym high))
 
-  each_high : (full : Bool) (k : ℕ) → nat_lt k 3 ≡ false
-      → (moments_after first calls).now k ≡ step k (call_on file effect) ((moments_touched (if full then Some old else None) (moments_after first calls)).now k)
-  each_high true k high =
-      sym (step_other file k effect ((moments_after first calls).now k) (not_named k file high named))
-      ∙ ap (λ b. step k (call_on file effect) (if b then touch (touched_at old k) ((moments_after first calls).now k) else (moments_after first calls).now k)) (sym high)
-  each_high false k high = sym (step_other file k effect ((moments_after first calls).now k) (not_named k file high named))
+  -- and where none were
+  open_at : (k : ℕ) (s : FileState) → (k < 3 → LeavesAll (touched_at old k) s) → (if nat_lt k 3 then touch (touched_at new k) s else s) ≡ step k call s
+  open_at k s nothing =
+      either_way (nat_lt k 3) (touch (touched_at new k) s) s (step k call s) (λ low. so k s ∙ ap (step k call) (touch_nothing (touched_at old k) s (nothing (is_low k low))))
+      (λ high. sym (step_other call.file k call.effect s (not_named k call.file high named)))
 
-  each : (in_use : Bool) (k : ℕ) → nat_lt k 3 ≡ in_use
-      → (if in_use then touch (touched_at new k) ((moments_after first calls).now k) else (moments_after first calls).now k)
-      ≡ step k (call_on file effect) ((moments_touched (if was_full then Some old else None) (moments_after first calls)).now k)
-  each true k test = each_low was_full refl k (is_low k test)
-  each false k test = each_high was_full k test
+  pub together_files : (m : Moments) (was_full : Bool) → (was_full ≡ false → (k : ℕ) → k < 3 → LeavesAll (touched_at old k) (m.now k))
+      → (moments_touched (Some new) m).now ≡ after_call call (moments_touched (if was_full then Some old else None) m).now
+  together_files m true nothing = λ i k. full_at k (m.now k) i
+  together_files m false nothing = λ i k. open_at k (m.now k) (nothing refl k) i
 
-  pub together_files : (moments_touched (Some new) (moments_after first calls)).now ≡ after_call (call_on file effect) (moments_touched (if was_full then Some old else None) (moments_after first calls)).now
-  together_files i k = each (nat_lt k 3) k refl i
+-- the calls that are kept in a list, whether it had no room for one, and what those since touched
+pub record Keeping : Type 0 where
+  pub calls : List KeptCall
+  pub is_full : Bool
+  pub touched : List TouchedFile
 
-module _ (files : List (Vec ℕ Global)) (first : List (List ℕ)) (calls later : List KeptCall) (was_full is_full : Bool) (old new : List TouchedFile) (file : ℕ) (failed : FailedEffect)
-    (named : file < 3) (stored : IsStored (bytes_of files) first (calls_of calls) was_full (touched_in old)) (keeps : KeepsFailed file failed calls later was_full is_full old new) where
-  -- a failed call keeps it
-  pub stored_failed : IsStored (bytes_of files) first (calls_of later) is_full (touched_in new)
-  stored_failed = elim keeps [
-    | inl put_in ↦ subst (λ (l : List TouchedFile). IsStored (bytes_of files) first (calls_of later) is_full (touched_in l)) (sym put_in.same)
-        (stored_same first calls later file (Failed failed) put_in.calls files was_full is_full (touched_in old) (λ open_now. put_in.had_room) named stored (keeps_bytes failed) (narrows_failed failed))
-    | inr beside ↦ record {
-      bytes = λ k low. stored.bytes k low ∙ sym (ap (λ (l : List KeptCall). seen (moments_after first (calls_of l)) k) beside.calls);
-      nothing_beside = λ open_now. absurd (no_both (sym beside.has_no_room ∙ open_now));
-    }
-  ]
-    where
-      no_both : true ≡ false → ⊥
-      no_both same = cc
+-- A call to a file in use failed where this was stored, and was kept.
+pub record FailsAt (bytes first : List (List ℕ)) (was is_now : Keeping) (file : ℕ) (failed : FailedEffect) : Type 0 where
+  pub named : file < 3
+  pub stored : IsStored bytes first (calls_of was.calls) was.is_full (touched_in was.touched)
+  pub keeps : KeepsFailed file failed was.calls is_now.calls was.is_full is_now.is_full was.touched is_now.touched
 
-  -- and is kept as what it named
-  pub kept_failed : (old_counts new_counts : Counts)
-      → KeptInList (call_on file (failed_effect failed)) (record { first = first; calls = calls_of calls; together = (if was_full then Some (touched_in old) else None); counts = old_counts })
-      (record { first = first; calls = calls_of later; together = (if is_full then Some (touched_in new) else None); counts = new_counts })
-      ⊎ KeptTogether (call_on file (failed_effect failed)) (record { first = first; calls = calls_of calls; together = (if was_full then Some (touched_in old) else None); counts = old_counts })
-      (record { first = first; calls = calls_of later; together = (if is_full then Some (touched_in new) else None); counts = new_counts })
-  kept_failed old_counts new_counts = elim keeps [
-    | inl put_in ↦ inl (record {
-      calls = ap calls_of put_in.calls ∙ map-append call_of calls (record { file = file; effect = Failed failed } ∷ []);
-      had_room = ap (λ b. if b then Some (touched_in old) else None) put_in.had_room;
-      has_room = ap (λ b. if b then Some (touched_in new) else None) put_in.has_room;
-    })
-    | inr beside ↦ inr (record {
-      calls = ap calls_of beside.calls;
-      is_full = subst (λ b. IsSome (if b then Some (touched_in new) else None)) (sym beside.has_no_room) refl;
-      files =
-          subst (λ b. (moments_touched (if b then Some (touched_in new) else None) (moments_after first (calls_of later))).now ≡ after_it) (sym beside.has_no_room)
-          (subst (λ (l : List KeptCall). (moments_touched (Some (touched_in new)) (moments_after first (calls_of l))).now ≡ after_it) (sym beside.calls)
-          (together_files first (calls_of calls) was_full (touched_in old) (touched_in new) file (failed_effect failed) named stored.nothing_beside beside.files));
-    })
-  ]
-    where
-      after_it : Files
-      after_it = after_call (call_on file (failed_effect failed)) (moments_touched (if was_full then Some (touched_in old) else None) (moments_after first (calls_of calls))).now
+no_both : true ≡ false → ⊥
+no_both same = cc
+
+-- a failed call keeps it
+pub stored_failed : (bytes first : List (List ℕ)) (was is_now : Keeping) (file : ℕ) (failed : FailedEffect) → FailsAt bytes first was is_now file failed
+    → IsStored bytes first (calls_of is_now.calls) is_now.is_full (touched_in is_now.touched)
+stored_failed bytes first was is_now file failed fails = elim fails.keeps [
+  | inl put_in ↦
+      let store : Store = record { bytes = bytes; is_full = is_now.is_full; touched = touched_in was.touched } in
+      let stored : IsStored bytes first (calls_of was.calls) is_now.is_full (touched_in was.touched) =
+      subst (λ b. IsStored bytes first (calls_of was.calls) b (touched_in was.touched)) (put_in.had_room ∙ sym put_in.has_room) fails.stored in
+      subst (λ (l : List TouchedFile). IsStored bytes first (calls_of is_now.calls) is_now.is_full (touched_in l)) (sym put_in.same)
+      (stored_after store first was.calls is_now.calls (record { file = file; effect = Failed failed }) put_in.calls
+      (stored_same store (moments_after first (calls_of was.calls)).now (call_on file (failed_effect failed)) (record { named = fails.named; narrows = narrows_failed failed }) (keeps_bytes failed)
+      (stores store first (calls_of was.calls) stored)))
+  | inr beside ↦ record {
+    bytes = λ k low. fails.stored.bytes k low ∙ sym (ap (λ (l : List KeptCall). seen (moments_after first (calls_of l)) k) beside.calls);
+    nothing_beside = λ open_now. absurd (no_both (sym beside.has_no_room ∙ open_now));
+  }
+]
+
+-- the disk that keeps them
+abbrev pub log_of : List (List ℕ) → Keeping → Counts → DiskLog
+log_of first keeping counts = record { first = first; calls = calls_of keeping.calls; together = (if keeping.is_full then Some (touched_in keeping.touched) else None); counts = counts }
+
+-- and is kept as what it named
+pub kept_failed : (bytes first : List (List ℕ)) (was is_now : Keeping) (file : ℕ) (failed : FailedEffect) → FailsAt bytes first was is_now file failed → (counts : Counts)
+    → KeptInList (call_on file (failed_effect failed)) (log_of first was counts) (log_of first is_now counts)
+    ⊎ KeptTogether (call_on file (failed_effect failed)) (log_of first was counts) (log_of first is_now counts)
+kept_failed bytes first was is_now file failed fails counts = elim fails.keeps [
+  | inl put_in ↦ inl (record {
+    calls = ap calls_of put_in.calls ∙ map-append call_of was.calls (record { file = file; effect = Failed failed } ∷ []);
+    had_room = ap (λ b. if b then Some (touched_in was.touched) else None) put_in.had_room;
+    has_room = ap (λ b. if b then Some (touched_in is_now.touched) else None) put_in.has_room;
+  })
+  | inr beside ↦ inr (record {
+    calls = ap calls_of beside.calls;
+    is_full = subst (λ b. IsSome (if b then Some (touched_in is_now.touched) else None)) (sym beside.has_no_room) refl;
+    files =
+        subst (λ b. (moments_touched (if b then Some (touched_in is_now.touched) else None) (moments_after first (calls_of is_now.calls))).now ≡ after_it) (sym beside.has_no_room)
+        (subst (λ (l : List KeptCall). (moments_touched (Some (touched_in is_now.touched)) (moments_after first (calls_of l))).now ≡ after_it) (sym beside.calls)
+        (together_files (touched_in was.touched) (touched_in is_now.touched) (call_on file (failed_effect failed)) fails.named beside.files (moments_after first (calls_of was.calls)) was.is_full fails.stored.nothing_beside));
+  })
+]
+  where
+    after_it : Files
+    after_it = after_call (call_on file (failed_effect failed)) (moments_touched (if was.is_full then Some (touched_in was.touched) else None) (moments_after first (calls_of was.calls))).now

@@ -14,7 +14,7 @@ returns-then-is_full c =
     inr (record {
       calls = refl;
       has_no_room = c.if-is_full.true;
-      files = added_beside c.args.touched.now c.args.file _ c.index-touched-file.result (failed_effect c.args.failed) inside c.add.ensures;
+      files = added_beside c.args.touched.now (call_on c.args.file (failed_effect c.args.failed)) _ c.index-touched-file.result inside c.add.ensures;
     })
 
 pub returns : goal.returns
@@ -31,6 +31,6 @@ returns c =
         calls = w.in-Err.ensures.items;
         has_no_room = w.is_full-is;
         files = subst (λ (l : List TouchedFile). (k : ℕ) (s : FileState) → touch (touched_at (touched_in l) k) s ≡ step k (call_on c.args.file (failed_effect c.args.failed)) (touch (touched_at (touched_in c.args.touched.now) k) s)) (sym w.touched-is)
-            (added_beside c.args.touched.now c.args.file _ w.index-touched-file-in-Err.result (failed_effect c.args.failed) inside w.add-in-Err.ensures);
+            (added_beside c.args.touched.now (call_on c.args.file (failed_effect c.args.failed)) _ w.index-touched-file-in-Err.result inside w.add-in-Err.ensures);
       })
     ]

@@ -18,7 +18,7 @@ pub returns-clause-measures : goal.returns-clause-measures
 returns-clause-measures c =
     let inside : c.args.file < length c.self.inside.files = search rules in
     let stored : (slice_index_or c.self.inside.files c.args.file c.index-self-file.result).items ≡ seen (moments_of c.args.self.now) c.args.file =
-    stored_at c.self.inside.files (map (λ v. v.items) c.self.inside.first) (calls_of c.self.inside.calls.items) c.self.inside.is_full (touched_in c.self.inside.touched) c.args.file c.index-self-file.result c.self.invariant c.requires inside
+    stored_at c.self.inside.files c.args.file c.index-self-file.result _ inside (c.self.invariant.bytes c.args.file c.requires)
     ∙ sym (seen_touched (if c.self.inside.is_full then Some (touched_in c.self.inside.touched) else None) (moments_after (map (λ v. v.items) c.self.inside.first) (calls_of c.self.inside.calls.items)) c.args.file)
     ∙ ap (λ (log : DiskLog). seen (moments_of log) c.args.file) c.self.view_is ∙ look_seen c.args.self.now c.look.new.self c.args.file c.args.file c.look.result c.look.ensures.kept in
     record {
