@@ -1,0 +1,45 @@
+/// The bytes of a header (RFC 1035, 4.1.1).
+pub const HEADER_SIZE: usize = 12;
+
+/// A reply may be given no lower limit: the bytes of a message over UDP (RFC 1035, 4.2.1).
+pub const LEAST_LIMIT: usize = 512;
+
+/// A reply may be given no higher limit: the bytes of a message over TCP, whose length has 16 bits
+/// (RFC 1035, 4.2.2).
+pub const GREATEST_LIMIT: usize = 65_535;
+
+/// The time to live of each record, in seconds (RFC 1035, 4.1.3).
+pub const TIME_TO_LIVE: u32 = 600;
+
+/// The class of each record: IN, the internet (RFC 1035, 3.2.4).
+pub(crate) const CLASS_IN: u16 = 1;
+
+/// The bytes of a record between its owner and its RDATA: TYPE, CLASS, TTL and RDLENGTH (RFC 1035, 4.1.3).
+pub(crate) const FIXED_SIZE: usize = 10;
+
+/// The bytes of a question behind its name: QTYPE and QCLASS (RFC 1035, 4.1.2).
+pub(crate) const TYPE_AND_CLASS_SIZE: usize = 4;
+
+/// A pointer to the question's name, which stands right behind the header: two bits 1, and the offset 12
+/// (RFC 1035, 4.1.4).
+pub(crate) const POINTER: [u8; 2] = [0xc0, 0x0c];
+
+// The fields of a header's flags (RFC 1035, 4.1.1), each by the weight of its lowest bit.
+
+/// QR: a response.
+pub(crate) const QR: u16 = 0x8000;
+
+/// OPCODE, of four bits: the kind of query.
+pub(crate) const OPCODE: u16 = 0x0800;
+
+/// AA: an authoritative answer.
+pub(crate) const AA: u16 = 0x0400;
+
+/// TC: the message was truncated.
+pub(crate) const TC: u16 = 0x0200;
+
+/// RD: recursion is desired.
+pub(crate) const RD: u16 = 0x0100;
+
+/// OPCODE of a standard query.
+pub(crate) const QUERY: u16 = 0;
