@@ -1,0 +1,6 @@
+pub mod Answers
+pub mod Ends
+pub mod Nodes
+pub mod Places
+pub mod Rdata
+pub mod Way
