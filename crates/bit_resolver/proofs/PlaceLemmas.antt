@@ -1,7 +1,7 @@
 -- Labels and the names that they make.
-use Rattle.std.proofs.Common.{◌≡◌, ℕ, zero, suc, ◌+◌, ◌<◌, ◌≤◌, ◌==◌, ◌||◌, List, [], ◌∷◌, ◌++◌, length, take, drop, reverse, Bool, true, false, refl, sym, ap, ap₂, ◌∙◌, arith, nat_le, nat_lt, if◌then◌else◌, Some, None, length-append, append_assoc}
+use Rattle.std.proofs.Common.{◌≡◌, ℕ, zero, suc, ◌+◌, ◌-◌, ◌<◌, ◌≤◌, ◌==◌, ◌||◌, Option, subst, take_all, List, [], ◌∷◌, ◌++◌, length, take, drop, reverse, Bool, true, false, refl, sym, ap, ap₂, ◌∙◌, arith, nat_le, nat_lt, if◌then◌else◌, Some, None, length-append, append_assoc}
 use Rattle.std.proofs.Math.Seq.{take-append_seam, drop-append_seam}
-use Rattle.std.proofs.lemmas.List.{reverse-append, reverse-reverse}
+use Rattle.std.proofs.lemmas.List.{reverse-append, reverse-reverse, length-drop}
 use Rattle.std.proofs.lemmas.Bool.Decides.{nat_tests}
 use Rattle.std.specs.List.{AllByRecursion}
 use Rattle.std.specs.Str.{bytes_eq}
@@ -137,3 +137,22 @@ one_more left more found after whole rest label behind step next grown holds =
     ∙ sym (joined_lists found (label ∷ []) (labels_within more behind))
     ∙ sym (ap (λ l. found ++ l) (within_more left more rest step ∙ ap (by_next (labels_within more)) next))
     ∙ holds
+
+pub top_wire : (b : Below) (w l e : List ℕ) → IsBelow b → w ≡ length l ∷ (l ++ e) → l ≡ b.x → e ≡ apex_name → IsName w
+top_wire b w l e is h x a = subst IsName (sym (h ∙ ap₂ (λ y z. length y ∷ (y ++ z)) x a)) (top_is_name b is)
+
+pub own_is_there : (b : Below) (k : ℕ) (xs : List (List ℕ)) (top : List ℕ) (o : Option (List ℕ)) → IsBelow b → top ≡ top_of b → xs ≡ b.path → o ≡ None → o ≡ if_fits (joined_to (take (length xs - k) (drop k xs)) top) → ⊥
+own_is_there b k xs top o is t e none h =
+    let all : take (length xs - k) (drop k xs) ≡ drop k b.path = take_all (length xs - k) (drop k xs) (omega (arith, length-drop k xs)) ∙ ap (drop k) e in
+    let some : o ≡ Some (own_of b (drop k b.path)) = h ∙ ap (λ l. if_fits (joined_to l top)) all ∙ own_there b k top is t in
+    some_not_none (own_of b (drop k b.path)) (sym some ∙ none)
+  where
+    some_not_none : (w : List ℕ) → Some w ≡ None → ⊥
+    some_not_none w e = cc
+
+pub place_named : (low : List ℕ) (labels : List (List ℕ)) (p : Place) → IsName low → labels ≡ labels_of low → p ≡ place_up (reverse labels) → IsPlace p
+place_named low labels p n is h =
+    let all : labels ≡ n.labels = is ∙ ap labels_of n.text ∙ labels_of-wire_of n.labels n.are in
+    let long = ap length (ap wire_of (reverse-reverse n.labels) ∙ sym n.text) in
+    let few = n.fits in
+    rw (h, all) (place_up-is (reverse n.labels) (are_reversed n.labels n.are) (omega (arith, long, few)))

@@ -1,5 +1,5 @@
 -- Going down the way.
-use Rattle.std.proofs.Common.{◌≡◌, ℕ, zero, suc, ◌+◌, ◌-◌, ◌<◌, ◌≤◌, List, [], ◌∷◌, ◌++◌, length, take, drop, get_or, Some, None, true, false, refl, sym, ap, ◌∙◌, arith, drop-cons}
+use Rattle.std.proofs.Common.{◌≡◌, ℕ, Bool, not, zero, suc, ◌+◌, ◌-◌, ◌<◌, ◌≤◌, List, [], ◌∷◌, ◌++◌, length, take, drop, get_or, Some, None, true, false, refl, sym, ap, ◌∙◌, arith, drop-cons}
 use Rattle.std.specs.Option.{option_map}
 use Rattle.std.proofs.lemmas.List.{take-append-drop, length-drop}
 use Rattle.std.proofs.lemmas.Grind.{common_steps}
@@ -121,3 +121,11 @@ ends_here live o b left here on none =
 -- how many labels stand below a node on the way
 pub take-below : {A : Type 0} (xs : List A) (left : ℕ) → left ≤ length xs → take (length xs - length (drop left xs)) xs ≡ take left xs
 take-below xs left le = ap (λ n. take n xs) (omega (arith, length-drop left xs))
+
+pub yes_cut : (r none : Bool) → r ≡ true → r ≡ not none → none ≡ false
+yes_cut r true t e = absurd (cc)
+yes_cut r false t e = refl
+
+pub no_cut : (r none : Bool) → r ≡ false → r ≡ not none → none ≡ true
+no_cut r true t e = refl
+no_cut r false t e = absurd (cc)

@@ -80,7 +80,6 @@ fn place_at(labels: Vec<Bytes>) -> Place
 }
 
 /// The place of a name.
-#[tactic(auto, using(crate::proofs::PlaceLemmas::place_is))]
 pub(crate) fn find_place(alloc: Global, name: &Name) -> Result<Place, NoMemory>
     ensures place { IfOk result (λ p. seen_place p ≡ place_of name.now) }
     ensures named { IfOk result (λ p. IsPlace (seen_place p)) }
@@ -150,7 +149,6 @@ pub(crate) fn name_before(
 
 impl Below {
     /// The name right below `bit.` that this one ends with.
-    #[tactic(auto, using(crate::proofs::PlaceLemmas::top_is_name))]
     pub(crate) fn top(&self, alloc: Global) -> Result<Name, NoMemory>
         requires { IsBelow (seen_below self.now) }
         ensures { IfOk result (λ n. n ≡ top_of (seen_below self.now)) }
@@ -164,7 +162,6 @@ impl Below {
     }
 
     /// The domain name of the node so many labels above this name.
-    #[tactic(auto, using(crate::proofs::PlaceLemmas::own_there))]
     pub(crate) fn own_at(&self, alloc: Global, top: &Name, left: usize) -> Result<Name, NoMemory>
         requires name { IsBelow (seen_below self.now) }
         requires top { top.now ≡ top_of (seen_below self.now) }
