@@ -70,8 +70,7 @@ further live o b left next here below on step servers target is =
     let e : suc next ≡ left = omega arith in
     let front : drop next b.path ≡ get_or b.path next [] ∷ drop left b.path = drop-cons b.path next [] inside ∙ ap (λ k. get_or b.path next [] ∷ drop k b.path) e in
     let stays : stop_above live o b (drop left b.path) ≡ None = stop_above-is live o b (drop left b.path) ∙ ap (λ r. or_else r (stop_here live o b (drop left b.path))) on.free ∙ ap (stop_with (drop left b.path)) (sym on.is_node) ∙ stop_none (drop left b.path) here on.exists servers target in
-    let of : child_of live here.of (get_or b.path next []) ≡ node live o (drop next b.path) = ap (λ n. child_of live n.of (get_or b.path next [])) on.is_node ∙ ap (node live o) (sym front) in
-    (
+    let of : child_of live here.of (get_or b.path next []) ≡ node live o (drop next b.path) = ap (λ n. child_of live n.of (get_or b.path next [])) on.is_node ∙ ap (node live o) (sym front) in (
       ap (stop_before live o b) front ∙ stays,
       is ∙ ap (λ n. record { own = own_of b (drop next b.path); top = n.top; of = child_of live here.of (get_or b.path next []) }) on.is_node ∙ ap (λ s. record { own = own_of b (drop next b.path); top = top_of b; of = s }) of,
     )

@@ -7,7 +7,6 @@ mod node;
 mod place;
 mod question;
 mod rdata;
-
 mod resource;
 pub mod rr_type;
 mod way;

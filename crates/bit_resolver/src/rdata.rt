@@ -99,31 +99,18 @@ pub(crate) fn rdata(
             algorithm,
             kind,
             digest,
-        } => Ok(Some(ds(
-            alloc,
-            *tag,
-            &[*algorithm, *kind],
-            digest.as_slice(),
-        )?)),
+        } => Ok(Some(ds(alloc, *tag, &[*algorithm, *kind], digest.as_slice())?)),
         Element::Tls {
             usage,
             selector,
             matching,
             digest,
-        } => Ok(Some(digest_behind(
-            alloc,
-            &[*usage, *selector, *matching],
-            digest.as_slice(),
-        )?)),
+        } => Ok(Some(digest_behind(alloc, &[*usage, *selector, *matching], digest.as_slice())?)),
         Element::Sshfp {
             algorithm,
             kind,
             digest,
-        } => Ok(Some(digest_behind(
-            alloc,
-            &[*algorithm, *kind],
-            digest.as_slice(),
-        )?)),
+        } => Ok(Some(digest_behind(alloc, &[*algorithm, *kind], digest.as_slice())?)),
         Element::Txt(strings) => Ok(Some(Bytes::copy_of(alloc, strings.as_slice())?)),
         Element::Srv {
             priority,

@@ -2,16 +2,16 @@
 
 /// The rules, one by one.
 pub(crate) const RULES: &str = r#"ns.example. 40
-d/a {"import":"d/b","ip":"192.0.2.1"}
-d/b {"import":"d/a","txt":"t"}
-d/example {"ip":["192.0.2.5","192.0.2.6"],"ip6":"2001:db8::5","mx":[[10,"mail"]],"txt":"v=spf1 mx -all","map":{"www":{"alias":"@"},"_tcp":{"map":{"_443":{"tls":[[3,1,1,"AQI="]]}}}}}
-d/cut {"ns":"ns1.example.org.","ds":[[1,8,2,"AQI="]],"alias":"a.bit.","translate":"y.bit.","map":{"w":{"ip":"1.2.3.4"}}}
-d/x {"translate":"y.bit."}
-d/dead []
-d/srv {"srv":[[1,2,443,"h"]],"sshfp":[[4,2,"AQI="]],"map":{"*":{"ip":"1.1.1.1"},"e":{}}}
-d/long {"translate":"aaaaaaaaaaaaaaaaaaaaaaaaaaaaaaaaaaaaaaaaaaaaaaaaaaaaaaaaaaaaaaa.bbbbbbbbbbbbbbbbbbbbbbbbbbbbbbbbbbbbbbbbbbbbbbbbbbbbbbbbbbbbbbb.ccccccccccccccccccccccccccccccccccccccccccccccccccccccccccccccc.dddddddddddddddddddddddddddddddddddddddd.y.bit."}
-d/-x {"ip":"1.2.3.4"}
-d/skip {"ns":"aaaaaaaaaaaaaaaaaaaaaaaaaaaaaaaaaaaaaaaaaaaaaaaaaaaaaaaaaaaaaaa.bbbbbbbbbbbbbbbbbbbbbbbbbbbbbbbbbbbbbbbbbbbbbbbbbbbbbbbbbbbbbbb.ccccccccccccccccccccccccccccccccccccccccccccccccccccccccccccccc.dddddddddddddddddddddddddddddddddddddddddddddddddddddddddd","ip":"1.2.3.4"}
+serve d/a {"import":"d/b","ip":"192.0.2.1"}
+serve d/b {"import":"d/a","txt":"t"}
+serve d/example {"ip":["192.0.2.5","192.0.2.6"],"ip6":"2001:db8::5","mx":[[10,"mail"]],"txt":"v=spf1 mx -all","map":{"www":{"alias":"@"},"_tcp":{"map":{"_443":{"tls":[[3,1,1,"AQI="]]}}}}}
+serve d/cut {"ns":"ns1.example.org.","ds":[[1,8,2,"AQI="]],"alias":"a.bit.","translate":"y.bit.","map":{"w":{"ip":"1.2.3.4"}}}
+serve d/x {"translate":"y.bit."}
+serve d/dead []
+serve d/srv {"srv":[[1,2,443,"h"]],"sshfp":[[4,2,"AQI="]],"map":{"*":{"ip":"1.1.1.1"},"e":{}}}
+serve d/long {"translate":"aaaaaaaaaaaaaaaaaaaaaaaaaaaaaaaaaaaaaaaaaaaaaaaaaaaaaaaaaaaaaaa.bbbbbbbbbbbbbbbbbbbbbbbbbbbbbbbbbbbbbbbbbbbbbbbbbbbbbbbbbbbbbbb.ccccccccccccccccccccccccccccccccccccccccccccccccccccccccccccccc.dddddddddddddddddddddddddddddddddddddddd.y.bit."}
+serve d/-x {"ip":"1.2.3.4"}
+serve d/skip {"ns":"aaaaaaaaaaaaaaaaaaaaaaaaaaaaaaaaaaaaaaaaaaaaaaaaaaaaaaaaaaaaaaa.bbbbbbbbbbbbbbbbbbbbbbbbbbbbbbbbbbbbbbbbbbbbbbbbbbbbbbbbbbbbbbb.ccccccccccccccccccccccccccccccccccccccccccccccccccccccccccccccc.dddddddddddddddddddddddddddddddddddddddddddddddddddddddddd","ip":"1.2.3.4"}
 a.bit. 1 1 0 1 01610362697400/1/c0000201 -
 A.BIT. 16 1 0 1 01610362697400/16/0174 -
 a.bit. 28 1 0 1 - 0362697400/6/026e73076578616d706c65000a686f73746d6173746572026e73076578616d706c650000000028000002580000025800001c2000000258
@@ -52,21 +52,21 @@ eeeeeeeeeeeeeee.long.bit. 1 1 6 1 046c6f6e670362697400/39/3f61616161616161616161
 
 /// Names that lead to others.
 pub(crate) const CHASES: &str = r#"ns.example. 40
-d/x {"alias":"@"}
-d/out {"alias":"example.org."}
-d/apex {"alias":"bit."}
-d/to {"alias":"w.cut.bit."}
-d/cut {"ns":"ns1.example.org."}
-d/gone {"alias":"n.bit."}
-d/c0 {"alias":"c1.bit."}
-d/c1 {"alias":"c2.bit."}
-d/c2 {"alias":"c3.bit."}
-d/c3 {"alias":"c4.bit."}
-d/c4 {"alias":"c5.bit."}
-d/c5 {"alias":"c6.bit."}
-d/c6 {"alias":"c7.bit."}
-d/c7 {"alias":"c8.bit."}
-d/c8 {"ip":"1.2.3.4"}
+serve d/x {"alias":"@"}
+serve d/out {"alias":"example.org."}
+serve d/apex {"alias":"bit."}
+serve d/to {"alias":"w.cut.bit."}
+serve d/cut {"ns":"ns1.example.org."}
+serve d/gone {"alias":"n.bit."}
+serve d/c0 {"alias":"c1.bit."}
+serve d/c1 {"alias":"c2.bit."}
+serve d/c2 {"alias":"c3.bit."}
+serve d/c3 {"alias":"c4.bit."}
+serve d/c4 {"alias":"c5.bit."}
+serve d/c5 {"alias":"c6.bit."}
+serve d/c6 {"alias":"c7.bit."}
+serve d/c7 {"alias":"c8.bit."}
+serve d/c8 {"ip":"1.2.3.4"}
 x.bit. 1 1 0 1 01780362697400/5/01780362697400,01780362697400/5/01780362697400,01780362697400/5/01780362697400,01780362697400/5/01780362697400,01780362697400/5/01780362697400,01780362697400/5/01780362697400,01780362697400/5/01780362697400,01780362697400/5/01780362697400 -
 c0.bit. 1 1 0 1 0263300362697400/5/0263310362697400,0263310362697400/5/0263320362697400,0263320362697400/5/0263330362697400,0263330362697400/5/0263340362697400,0263340362697400/5/0263350362697400,0263350362697400/5/0263360362697400,0263360362697400/5/0263370362697400,0263370362697400/5/0263380362697400 -
 c1.bit. 1 1 0 1 0263310362697400/5/0263320362697400,0263320362697400/5/0263330362697400,0263330362697400/5/0263340362697400,0263340362697400/5/0263350362697400,0263350362697400/5/0263360362697400,0263360362697400/5/0263370362697400,0263370362697400/5/0263380362697400,0263380362697400/1/01020304 -
@@ -76,66 +76,107 @@ to.bit. 1 1 0 1 02746f0362697400/5/0177036375740362697400 036375740362697400/2/0
 gone.bit. 1 1 3 1 04676f6e650362697400/5/016e0362697400 0362697400/6/026e73076578616d706c65000a686f73746d6173746572026e73076578616d706c650000000028000002580000025800001c2000000258"#;
 
 /// Answers of another program.
-pub(crate) const VECTORS: [&str; 5] = [
+pub(crate) const VECTORS: [&str; 9] = [
+    r#"a. 303341032
+serve d/n0 {"translate":"n1.bit.","alias":"a.n1.bit."}
+serve d/n1 {"translate":"n2.bit.","alias":"n2.bit."}
+serve d/n2 {"map":{"*":{"alias":"a.n3.bit."}},"alias":"a.n3.bit."}
+serve d/n3 {"alias":"n4.bit."}
+serve d/n4 {"translate":"n5.bit.","alias":"a.n5.bit."}
+serve d/n5 {"alias":"n6.b\u0069t."}
+serve d/n6 {"tran\u0073late":"n7.bit.","alias":"a.n7.bit."}
+serve d/n8 {}
+n1.bit. 43 0 5 0 - -
+b.n8.bit. 52 33643 5 0 - -
+n6.bIT. 251 1 5 0 - -
+new.www.new.n2.bit. 1 1 3 1 - 0362697400/6/0161000a686f73746d617374657201610012149de8000002580000025800001c2000000258"#,
+    r#"ns.a.bit. 0
+serve d/n0 {"ali\u0061s":"a.@","translate":"n1.bit."}
+serve d/n1 {"\u006Dap":{"*":{"\u0061lias":"a.n2.bit."}},"alias":"a.n2.bit."}
+serve d/n2 {"map":{"*":{"alias":"a.n3.bit."}},"alia\u0073":"a.n3.bit."}
+serve d/n3 {"alias":"n4.bit."}
+serve d/n4 {"alias":"a.@","translate":"n5.bit."}
+serve d/n5 {"alias":"a.@","translate":"n6.bit."}
+serve d/n6 {"map":{"*":{"alias":"a.n7.bit."}},"alias":"a.n7.bit."}
+serve d/n7 {"alias":"a.@","translate":"n8.bit."}
+serve d/n8 {"alias":"a\u002E@","translate":"n9.bit."}
+serve d/n9 {"alias":"bit."}
+n9.bit. 255 1 0 1 026e390362697400/5/0362697400 -
+Mail.N9.Bit. 39 1 3 1 - 0362697400/6/026e73016103626974000a686f73746d6173746572026e730161036269740000000000000002580000025800001c2000000258
+NEw.nEw.n2.bIT. 255 1 3 1 - 0362697400/6/026e73016103626974000a686f73746d6173746572026e730161036269740000000000000002580000025800001c2000000258
+n0.bit. 16 1 3 1 026e300362697400/5/0161026e300362697400,026e300362697400/39/026e310362697400,0161026e300362697400/5/0161026e310362697400,0161026e310362697400/5/0161026e320362697400,0161026e320362697400/5/0161026e330362697400 0362697400/6/026e73016103626974000a686f73746d6173746572026e730161036269740000000000000002580000025800001c2000000258"#,
     r#"ns.bit. 40
-d/n0 {"alias":"n1.bit."}
-d/n1 {"translate":"n2.bit.","alias":"n2.bit."}
-d/n2 {"alias":"n3.bit."}
-d/n3 {"alias":"a.@","translate":"n4.bi\u0074."}
-d/n4 {"map":{"*":{"alias":"a.n5.bit."}},"alias":"a.n5.b\u0069t."}
-d/n5 {"a\u006Cias":"n6.bit."}
-d/n6 {"map":{"*":{"alias":"a.n7.bit."}},"alias":"a.n7.bi\u0074."}
-d/n7 {"map":{"*":{"alias":"a.n8.bit."}},"alias":"a.n8.bit."}
-d/n8 {"alias":"a.@","translate":"n9.bit."}
-d/n9 {"map":{"*":{"alias":"a.n10.bit."}},"alias":"a.n10.bit."}
-d/n10 {"ip":"9.9.9.9","map":{"a":{"ip":"9.9.9.8"}}}
+serve d/n0 {"alias":"n1.bit."}
+serve d/n1 {"translate":"n2.bit.","alias":"n2.bit."}
+serve d/n2 {"alias":"n3.bit."}
+serve d/n3 {"alias":"a.@","translate":"n4.bi\u0074."}
+serve d/n4 {"map":{"*":{"alias":"a.n5.bit."}},"alias":"a.n5.b\u0069t."}
+serve d/n5 {"a\u006Cias":"n6.bit."}
+serve d/n6 {"map":{"*":{"alias":"a.n7.bit."}},"alias":"a.n7.bi\u0074."}
+serve d/n7 {"map":{"*":{"alias":"a.n8.bit."}},"alias":"a.n8.bit."}
+serve d/n8 {"alias":"a.@","translate":"n9.bit."}
+serve d/n9 {"map":{"*":{"alias":"a.n10.bit."}},"alias":"a.n10.bit."}
+serve d/n10 {"ip":"9.9.9.9","map":{"a":{"ip":"9.9.9.8"}}}
 a.N10.bIt. 255 1 0 1 0161036e31300362697400/1/09090908 -
 N9.biT. 1 1 0 1 026e390362697400/5/0161036e31300362697400,0161036e31300362697400/1/09090908 -
 a.b.n7.bit. 43 1 3 1 - 0362697400/6/026e7303626974000a686f73746d6173746572026e73036269740000000028000002580000025800001c2000000258
-A.n10.bIT. 6 1 0 1 - 0362697400/6/026e7303626974000a686f73746d6173746572026e73036269740000000028000002580000025800001c2000000258
-new.b.n5.bit. 255 1 3 1 - 0362697400/6/026e7303626974000a686f73746d6173746572026e73036269740000000028000002580000025800001c2000000258
-n5.bit. 15 1 0 1 026e350362697400/5/026e360362697400,026e360362697400/5/0161026e370362697400,0161026e370362697400/5/0161026e380362697400,026e380362697400/39/026e390362697400,0161026e380362697400/5/0161026e390362697400,0161026e390362697400/5/0161036e31300362697400 0362697400/6/026e7303626974000a686f73746d6173746572026e73036269740000000028000002580000025800001c2000000258
-n5.bit. 28 1 0 1 026e350362697400/5/026e360362697400,026e360362697400/5/0161026e370362697400,0161026e370362697400/5/0161026e380362697400,026e380362697400/39/026e390362697400,0161026e380362697400/5/0161026e390362697400,0161026e390362697400/5/0161036e31300362697400 0362697400/6/026e7303626974000a686f73746d6173746572026e73036269740000000028000002580000025800001c2000000258"#,
+A.n10.bIT. 6 1 0 1 - 0362697400/6/026e7303626974000a686f73746d6173746572026e73036269740000000028000002580000025800001c2000000258"#,
     r#"ns.bit. 2000000000
-d/b {"srv":[[65535,65535,23907,"c.bit."]],"map":{"_443":{"tls":[[1,255,255,"pUk="],[1,198,255,"t/AYK+xZr/gIUDcAq7zfAjn2Rvc="],1.5]},"x":-0,"":{"import":"d/b","ip6":["0:1:c462:0:a2f5:0:0:1","1:0::1"],"ip6":"0:0:0:0:c2de:0:ebef:0","translate":"@","sshfp":[[0,255,"A==="]]}}}
+serve d/b {"srv":[[65535,65535,23907,"c.bit."]],"map":{"_443":{"tls":[[1,255,255,"pUk="],[1,198,255,"t/AYK+xZr/gIUDcAq7zfAjn2Rvc="],1.5]},"x":-0,"":{"import":"d/b","ip6":["0:1:c462:0:a2f5:0:0:1","1:0::1"],"ip6":"0:0:0:0:c2de:0:ebef:0","translate":"@","sshfp":[[0,255,"A==="]]}}}
 _443.b.bit. 255 3 5 0 - -
 b.bit. 28 1 0 1 01620362697400/28/0000000000000000c2de0000ebef0000 -
 b.bit. 5 1 0 1 - 0362697400/6/026e7303626974000a686f73746d6173746572026e73036269740077359400000002580000025800001c2000000258
-b.bit. 44 1 0 1 - 0362697400/6/026e7303626974000a686f73746d6173746572026e73036269740077359400000002580000025800001c2000000258
-b.bit. 6 1 0 1 - 0362697400/6/026e7303626974000a686f73746d6173746572026e73036269740077359400000002580000025800001c2000000258
-b.bit. 255 1 0 1 01620362697400/28/0000000000000000c2de0000ebef0000,01620362697400/33/ffffffff5d6301630362697400,01620362697400/39/01620362697400 -
-new.b.b.bit. 5 1 0 1 01620362697400/39/01620362697400,036e6577016201620362697400/5/036e6577016201620362697400,01620362697400/39/01620362697400,036e6577016201620362697400/5/036e6577016201620362697400,01620362697400/39/01620362697400,036e6577016201620362697400/5/036e6577016201620362697400,01620362697400/39/01620362697400,036e6577016201620362697400/5/036e6577016201620362697400,01620362697400/39/01620362697400,036e6577016201620362697400/5/036e6577016201620362697400,01620362697400/39/01620362697400,036e6577016201620362697400/5/036e6577016201620362697400,01620362697400/39/01620362697400,036e6577016201620362697400/5/036e6577016201620362697400,01620362697400/39/01620362697400,036e6577016201620362697400/5/036e6577016201620362697400 -"#,
+b.bit. 44 1 0 1 - 0362697400/6/026e7303626974000a686f73746d6173746572026e73036269740077359400000002580000025800001c2000000258"#,
+    r#"ns.bit. 1119887218
+serve d/n0 {"translate":"n1.bit.","alias":"a.n1.bi\u0074\u002E"}
+serve d/n1 {"alias":"n2.bit."}
+serve d/n2 {"map":{"*":{"alias":"a.n3.bit."}},"alias":"a.n3.bit."}
+serve d/n3 {"alias":"n4.bit."}
+serve d/n4 {"alias":"a.@","translate":"n5.bit."}
+serve d/n5 {"map":{"*":{"alias":"a.n6.bit."}},"alias":"a.n6.bit."}
+serve d/n7 {"alias":"a.@","translate":"n8.bit."}
+serve d/n8 {"map":{"*":{"alias":"a.n9.bit."}},"alias":"a.n9.bit."}
+serve d/n9 {"alias":"n0.bit."}
+n3.bit. 255 1 0 1 026e330362697400/5/026e340362697400 -
+lOnG-LaBel-1.LoNG-LABeL-1.N1.BIT. 43 1 3 1 - 0362697400/6/026e7303626974000a686f73746d6173746572026e73036269740042c01f72000002580000025800001c2000000258
+a.n9.bit. 52 1 3 1 - 0362697400/6/026e7303626974000a686f73746d6173746572026e73036269740042c01f72000002580000025800001c2000000258
+www.n9.bit. 1 1 3 1 - 0362697400/6/026e7303626974000a686f73746d6173746572026e73036269740042c01f72000002580000025800001c2000000258"#,
     r#"ns.a.bit. 40
-d/xn--bcher-kva {"ip":[],"map":{"*":{"ip6":["0:1:0:2690:0:1:1::"],"alias":"Www._tcp","translate":"www.@","ip6":["0:\u0031:0::fe0f:5279","1:a237:bed7:0:1::"],"ip":"208.102.142.130"},"":{"tls":[[255,255,0,"pf2GQ4ptX+j18+ObcggIrDwo/HW6J47W\u0046NGP3mc9jMk=",0]]},"*":{"ds":[[54651,0,255,"RD1FbXcfM44LDdtRe9eYQ/TIJWeDOMdCxbnYihFr6os="],[65535,1,151,"zeI="]],"import":[["d\/qqqqqqqqqqqqq\u0071qqqqqqqqqqqqqqqqqqqqqqqqqqqqqqqqqqqqqqqqqqqqqqqqq"]],"ip":["251.64.218.91","146.24.207.252","79.210.139.26","248.245.18.39"]}},"ip6":["672d:d768:1:9bf4::"]}
-d/b {"ns":[".a"],"import":18446744073709551615,"map":{"":{"ns":["maIL.a.d1.Bit.","x._tcp","www.d1.bit.","b.bit."],"map":{"a":{"alias":"lllllllllllllllllllllllllllllllllllllllllllllllllllllllllll.nnnnnnnnnnnnnnnnnnnnnnnnnnnnnnnnnnnnnnnnnnnnnnnnnnnnnnnnnnnnnnn.kkkkkkkkkkkkkkkkkkkkkkkkkkkkkkkkkkkkkkkkkkkkkkkkkkkkkkkkkkkkkkk.bit.","ip":["157.135.65.215",18446744073709551615,"1.2.3","177.143.82.214"],"ip6":18446744073709551615,"ip":["13.214.74.197","64.221.240.111"],"ip":["239.49.74\u002e222","179.168.67.141","241.160.138.198"]}},"ip":"1.2.3.4\u002E"}}}
-d/e-f {"ip6":["0:1:6a48:f11\u0030:1:1:8\u006322:1","1\u003A4cda:0:3399:a319:1:1:0","1:"]}
-d/qqqqqqqqqqqqqqqqqqqqqqqqqqqqqqqqqqqqqqqqqqqqqqqqqqqqqqqqqqqqqqq {"map":{"*":{"ns":"x.b.bit.","ds":[[65535,1,1,"pOu2N3db6qrAXywDZwqLdVe7Yyo7KpbETpTacRwN9vY="],[[]],[65535,1,1,"Fg5MnoYNH9V9tfDQtGHBGxSU4JY="],[65535,255,197,"T09RvJ7kL1v+BejKuCDjI+1tGW9J37mAMNDtErEHDhSc\/ndiHD1FMEtQ07beSZTG"]],"sshfp":[[125,51,"vT/W"],[0,0,"VYnM2rRgDo/IlokwAfeyZQk6w9I="],[1,254,"yQ=="],[1,0,"7g=="]],"ip":["72.228.20.58"]},"":{"ip":[],"map":{}}}}
+serve d/xn--bcher-kva {"ip":[],"map":{"*":{"ip6":["0:1:0:2690:0:1:1::"],"alias":"Www._tcp","translate":"www.@","ip6":["0:\u0031:0::fe0f:5279","1:a237:bed7:0:1::"],"ip":"208.102.142.130"},"":{"tls":[[255,255,0,"pf2GQ4ptX+j18+ObcggIrDwo/HW6J47W\u0046NGP3mc9jMk=",0]]},"*":{"ds":[[54651,0,255,"RD1FbXcfM44LDdtRe9eYQ/TIJWeDOMdCxbnYihFr6os="],[65535,1,151,"zeI="]],"import":[["d\/qqqqqqqqqqqqq\u0071qqqqqqqqqqqqqqqqqqqqqqqqqqqqqqqqqqqqqqqqqqqqqqqqq"]],"ip":["251.64.218.91","146.24.207.252","79.210.139.26","248.245.18.39"]}},"ip6":["672d:d768:1:9bf4::"]}
+serve d/b {"ns":[".a"],"import":18446744073709551615,"map":{"":{"ns":["maIL.a.d1.Bit.","x._tcp","www.d1.bit.","b.bit."],"map":{"a":{"alias":"lllllllllllllllllllllllllllllllllllllllllllllllllllllllllll.nnnnnnnnnnnnnnnnnnnnnnnnnnnnnnnnnnnnnnnnnnnnnnnnnnnnnnnnnnnnnnn.kkkkkkkkkkkkkkkkkkkkkkkkkkkkkkkkkkkkkkkkkkkkkkkkkkkkkkkkkkkkkkk.bit.","ip":["157.135.65.215",18446744073709551615,"1.2.3","177.143.82.214"],"ip6":18446744073709551615,"ip":["13.214.74.197","64.221.240.111"],"ip":["239.49.74\u002e222","179.168.67.141","241.160.138.198"]}},"ip":"1.2.3.4\u002E"}}}
+serve d/e-f {"ip6":["0:1:6a48:f11\u0030:1:1:8\u006322:1","1\u003A4cda:0:3399:a319:1:1:0","1:"]}
+serve d/qqqqqqqqqqqqqqqqqqqqqqqqqqqqqqqqqqqqqqqqqqqqqqqqqqqqqqqqqqqqqqq {"map":{"*":{"ns":"x.b.bit.","ds":[[65535,1,1,"pOu2N3db6qrAXywDZwqLdVe7Yyo7KpbETpTacRwN9vY="],[[]],[65535,1,1,"Fg5MnoYNH9V9tfDQtGHBGxSU4JY="],[65535,255,197,"T09RvJ7kL1v+BejKuCDjI+1tGW9J37mAMNDtErEHDhSc\/ndiHD1FMEtQ07beSZTG"]],"sshfp":[[125,51,"vT/W"],[0,0,"VYnM2rRgDo/IlokwAfeyZQk6w9I="],[1,254,"yQ=="],[1,0,"7g=="]],"ip":["72.228.20.58"]},"":{"ip":[],"map":{}}}}
 x.x.mail.long-label-1.b.bit. 52 1 3 1 - 0362697400/6/026e73016103626974000a686f73746d6173746572026e730161036269740000000028000002580000025800001c2000000258
 _443.b.bit. 255 1 3 1 - 0362697400/6/026e73016103626974000a686f73746d6173746572026e730161036269740000000028000002580000025800001c2000000258
 qqqqqqqqqqqqqqqqqqqqqqqqqqqqqqqqqqqqqqqqqqqqqqqqqqqqqqqqqqqqqqq.bit. 255 1 0 1 - 0362697400/6/026e73016103626974000a686f73746d6173746572026e730161036269740000000028000002580000025800001c2000000258
-b.BIt. 43 1 0 1 - 0362697400/6/026e73016103626974000a686f73746d6173746572026e730161036269740000000028000002580000025800001c2000000258
-a.qqqqqqqqqqqqqqqqqqqqqqqqqqqqqqqqqqqqqqqqqqqqqqqqqqqqqqqqqqqqqqq.bit. 2 1 0 0 - 01613f7171717171717171717171717171717171717171717171717171717171717171717171717171717171717171717171717171717171717171717171717171710362697400/2/017801620362697400
-b.x.qqqqqqqqqqqqqqqqqqqqqqqqqqqqqqqqqqqqqqqqqqqqqqqqqqqqqqqqqqqqqqq.bit. 1 1 0 0 - 01783f7171717171717171717171717171717171717171717171717171717171717171717171717171717171717171717171717171717171717171717171717171710362697400/2/017801620362697400
-long-label-1.qqqqqqqqqqqqqqqqqqqqqqqqqqqqqqqqqqqqqqqqqqqqqqqqqqqqqqqqqqqqqqq.bit. 15 1 0 0 - 0c6c6f6e672d6c6162656c2d313f7171717171717171717171717171717171717171717171717171717171717171717171717171717171717171717171717171717171717171717171717171710362697400/2/017801620362697400"#,
+b.BIt. 43 1 0 1 - 0362697400/6/026e73016103626974000a686f73746d6173746572026e730161036269740000000028000002580000025800001c2000000258"#,
     r#"ns.bit. 1890509047
-d/l0 {"import":[["d/l1"],["d\/l0"],["d/l0"]],"srv":[[65535,65535,0,"*.a"],[1.0,65535,58085,"b.d1.bit."],[0,59179,65535,"zZzZZzzZzzzzZzZzZzzZzzZZZzzzZZZzzzzzZZZzzzzzzzZzZzzzzZZzzzZzZZZ.D1.Bit."],[65535,65535,65535,"01.2.3.4"]],"map":{}}
-d/l1 {"import":[["d/l1","a"],["d/l1"],["d\/l1"],["d/l1"],["d/l1"],["d\/l1"],["d/l1"],["d/l0"]],"mx":[[28654,"a.@.b"],[65535,"_443._443.@"]],"sshfp":[5],"map":{"a":{"import":"d/l1","txt":"a"}}}
+serve d/l0 {"import":[["d/l1"],["d\/l0"],["d/l0"]],"srv":[[65535,65535,0,"*.a"],[1.0,65535,58085,"b.d1.bit."],[0,59179,65535,"zZzZZzzZzzzzZzZzZzzZzzZZZzzzZZZzzzzzZZZzzzzzzzZzZzzzzZZzzzZzZZZ.D1.Bit."],[65535,65535,65535,"01.2.3.4"]],"map":{}}
+serve d/l1 {"import":[["d/l1","a"],["d/l1"],["d\/l1"],["d/l1"],["d/l1"],["d\/l1"],["d/l1"],["d/l0"]],"mx":[[28654,"a.@.b"],[65535,"_443._443.@"]],"sshfp":[5],"map":{"a":{"import":"d/l1","txt":"a"}}}
 _443.x.l0.bit. 255 1 3 1 - 0362697400/6/026e7303626974000a686f73746d6173746572026e73036269740070aee0f7000002580000025800001c2000000258
 pppppppppppppppppppppppppp.www.a.a.a.a.zzzzzzzzzzzzzzzzzzzzzzzzzzzzzzzzzzzzzzzzzzzzzzzzzzzzzzzzzzzzzzz.a.kkkkkkkkkkk.zzzzzzzzzzzzzzzzzzzzzzzzzzzzzzzzzzzzzzzzzzzzzzzzzzzzzzzzzzzzzzz.zzzzzzzzzzzzzzzzzzzzzzzzzzzzzzzzzzzzzzzzzzzzzzzzzzzzzzzzzzzzzzz.l0.bit. 5 1 3 1 - 0362697400/6/026e7303626974000a686f73746d6173746572026e73036269740070aee0f7000002580000025800001c2000000258
 b._tcp.l0.bit. 33 1 3 1 - 0362697400/6/026e7303626974000a686f73746d6173746572026e73036269740070aee0f7000002580000025800001c2000000258
-a_b.bit. 43 1 3 1 - 0362697400/6/026e7303626974000a686f73746d6173746572026e73036269740070aee0f7000002580000025800001c2000000258
-wWw._TCp.L1.BIt. 52 1 3 1 - 0362697400/6/026e7303626974000a686f73746d6173746572026e73036269740070aee0f7000002580000025800001c2000000258
-a.l1.bit. 52 1 0 1 - 0362697400/6/026e7303626974000a686f73746d6173746572026e73036269740070aee0f7000002580000025800001c2000000258
-Www._443.A.L1.bit. 28 1 3 1 - 0362697400/6/026e7303626974000a686f73746d6173746572026e73036269740070aee0f7000002580000025800001c2000000258"#,
+a_b.bit. 43 1 3 1 - 0362697400/6/026e7303626974000a686f73746d6173746572026e73036269740070aee0f7000002580000025800001c2000000258"#,
+    r#"_x.-.y_. 40
+serve d/n0 {"translate":"n1.bit.","alias":"a.n1.bit."}
+serve d/n1 {"map":{"*":{"alias":"a.n2.bit."}},"alias":"a.n2.bit."}
+serve d/n2 {"translate":"n3.b\u0069t.","alias":"n3.bit."}
+serve d/n3 {"trans\u006Cate":"n4.bit.","alias":"n4.bit."}
+serve d/n4 {"translate":"n5.bit.","alias":"n5.bit."}
+serve d/n5 {"alias":"a.@","translate":"n6.bit."}
+serve d/n6 {"translate":"n7.bit.","alias":"a.n7.bit."}
+serve d/n7 {"map":{"*":{"alias":"a.n8.bit."}},"alias":"a.n8.bit."}
+serve d/n8 {"alias":"www.example.org."}
+n4.bit. 255 1 0 1 026e340362697400/5/026e350362697400 -
+mail.long-label-1._tcp._.n8.bit. 5 1 3 1 - 0362697400/6/025f78012d02795f000a686f73746d6173746572025f78012d02795f0000000028000002580000025800001c2000000258
+new.*.n7.bit. 39 1 3 1 - 0362697400/6/025f78012d02795f000a686f73746d6173746572025f78012d02795f0000000028000002580000025800001c2000000258
+_443.n7.bit. 44 1 3 1 045f343433026e370362697400/5/0161026e380362697400 0362697400/6/025f78012d02795f000a686f73746d6173746572025f78012d02795f0000000028000002580000025800001c2000000258"#,
     r#"NS1.Example.ORG. 40
-d/x {  }
-d/c {"tls":[[255,255,255,"ox+CY8VIIcBNcrjK60Ds02wfmAmWsuIoCGFqQ4BmIfBrvWQ/7OXA9s57l39wBW3F"],[1.0,0,30,"u5fm2uI22nEikaj+c3cPDD8muN0=",0]],"srv":[[],[1,65535,0,"example.org."],[65535,65535,1,"A.c.bit."],[1,65535,54324,"zzzzzzzzzzzzzzzzzzzzzzzzzzzzzzzzzzzzzzzzzzzzzzzzzzzzzzzzzzzzzzz._443.@"]]}
-d {"map":{},"srv":[[31948,0,1,"nnnnnnnnnnnnnnnnnnnnnnnnnnnnnnnnnnnnnnnnnnnnnnnnnnnnnnnnnn.nnnnnnnnnnnnnnnnnnnnnnnnnnnnnnnnnnnnnn\u006Ennnnnnnnnnnnnnnnnnnnnnnn.mmmmmmmmmmmmmmmmmmmmmmmmmmmmmmmmmmmmmmmmmmmmmmmmmmmmmmmmmmmmmmm.ll\u006cllllllllllllll\u006clllllllllllllllllllllllllllllllllllllllllllll"]]}
+serve d/x {  }
+serve d/c {"tls":[[255,255,255,"ox+CY8VIIcBNcrjK60Ds02wfmAmWsuIoCGFqQ4BmIfBrvWQ/7OXA9s57l39wBW3F"],[1.0,0,30,"u5fm2uI22nEikaj+c3cPDD8muN0=",0]],"srv":[[],[1,65535,0,"example.org."],[65535,65535,1,"A.c.bit."],[1,65535,54324,"zzzzzzzzzzzzzzzzzzzzzzzzzzzzzzzzzzzzzzzzzzzzzzzzzzzzzzzzzzzzzzz._443.@"]]}
+serve d {"map":{},"srv":[[31948,0,1,"nnnnnnnnnnnnnnnnnnnnnnnnnnnnnnnnnnnnnnnnnnnnnnnnnnnnnnnnnn.nnnnnnnnnnnnnnnnnnnnnnnnnnnnnnnnnnnnnn\u006Ennnnnnnnnnnnnnnnnnnnnnnn.mmmmmmmmmmmmmmmmmmmmmmmmmmmmmmmmmmmmmmmmmmmmmmmmmmmmmmmmmmmmmmm.ll\u006cllllllllllllll\u006clllllllllllllllllllllllllllllllllllllllllllll"]]}
 bit.org. 255 1 5 0 - -
 c.bit. 52 1 0 1 01630362697400/52/ffffffa31f8263c54821c04d72b8caeb40ecd36c1f980996b2e22808616a43806621f06bbd643fece5c0f6ce7b977f70056dc5 -
 x.bit. 255 1 0 1 - 0362697400/6/034e5331074578616d706c65034f5247000a686f73746d6173746572034e5331074578616d706c65034f52470000000028000002580000025800001c2000000258
-x.x.bit. 39 1 3 1 - 0362697400/6/034e5331074578616d706c65034f5247000a686f73746d6173746572034e5331074578616d706c65034f52470000000028000002580000025800001c2000000258
-Www.A.X.bIt. 2 1 3 1 - 0362697400/6/034e5331074578616d706c65034f5247000a686f73746d6173746572034e5331074578616d706c65034f52470000000028000002580000025800001c2000000258
-c.bit. 2 1 0 1 - 0362697400/6/034e5331074578616d706c65034f5247000a686f73746d6173746572034e5331074578616d706c65034f52470000000028000002580000025800001c2000000258
-C.BIt. 33 1 0 1 01630362697400/33/0001ffff0000076578616d706c65036f726700,01630362697400/33/ffffffff0001014101630362697400,01630362697400/33/0001ffffd4343f7a7a7a7a7a7a7a7a7a7a7a7a7a7a7a7a7a7a7a7a7a7a7a7a7a7a7a7a7a7a7a7a7a7a7a7a7a7a7a7a7a7a7a7a7a7a7a7a7a7a7a7a7a7a7a7a7a7a7a7a7a7a7a045f34343301630362697400 -"#,
+x.x.bit. 39 1 3 1 - 0362697400/6/034e5331074578616d706c65034f5247000a686f73746d6173746572034e5331074578616d706c65034f52470000000028000002580000025800001c2000000258"#,
 ];

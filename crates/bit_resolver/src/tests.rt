@@ -73,7 +73,13 @@ fn shown(alloc: Global, sections: &Sections) -> Result<String, Fail> {
     let answer = records(alloc, sections.answer.as_slice())?;
     let authority = records(alloc, sections.authority.as_slice())?;
     let aa = u8::from(sections.aa);
-    Ok(format!(in alloc; "{} {} {} {}", sections.rcode, aa, answer.as_str(), authority.as_str())?)
+    Ok(format!(in alloc;
+        "{} {} {} {}",
+        sections.rcode,
+        aa,
+        answer.as_str(),
+        authority.as_str()
+    )?)
 }
 
 fn same(rt: &impl Abort, got: &str, want: &str) {
@@ -131,7 +137,16 @@ fn zone(line: &str) -> Result<Zone, Fail> {
     Ok(Zone { host, serial })
 }
 
-/// Lines: the first is the zone's; one that begins with `d/` is a name and its value; any other is a question and its answer.
+/// A name and its value, with a space between them.
+fn served(line: &str) -> Result<Row<'_>, Fail> {
+    let (name, value) = line.split_once(' ').ok_or("no value")?;
+    Ok(Row {
+        name: name.as_bytes(),
+        value: value.as_bytes(),
+    })
+}
+
+/// Lines: the first is the zone's; one that begins with `serve` has a name and its value; any other is a question and its answer.
 fn table(rt: &impl Abort, alloc: Global, text: &str) -> Result<(), Fail> {
     let (first, rest) = text.split_once('\n').ok_or("no line")?;
     let zone = zone(first)?;
@@ -139,10 +154,9 @@ fn table(rt: &impl Abort, alloc: Global, text: &str) -> Result<(), Fail> {
         rows: Vec::new(alloc),
     };
     for line in rest.split('\n') {
-        if line.starts_with("d/") {
-            let (name, value) = line.split_once(' ').ok_or("no value")?;
-            let (name, value) = (name.as_bytes(), value.as_bytes());
-            index.rows.push(Row { name, value })?;
+        let (word, rest) = line.split_once(' ').ok_or("no word")?;
+        if word == "serve" {
+            index.rows.push(served(rest)?)?;
         } else {
             ask(rt, alloc, &index, &zone, line)?;
         }
