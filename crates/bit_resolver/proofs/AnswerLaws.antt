@@ -1,5 +1,5 @@
 -- What holds of every answer.
-use Rattle.std.proofs.Common.{◌≡◌, ℕ, zero, suc, ◌+◌, ◌≤◌, ◌==◌, ◌||◌, if◌then◌else◌, Bool, true, false, List, [], ◌∷◌, ◌++◌, refl, sym, ap, ◌∙◌, arith, Option, Some, None, Unit}
+use Rattle.std.proofs.Common.{◌≡◌, ℕ, zero, suc, ◌+◌, ◌≤◌, ◌==◌, ◌||◌, if◌then◌else◌, Bool, true, false, List, [], ◌∷◌, ◌++◌, refl, sym, ap, ◌∙◌, arith, Option, Some, None, subst}
 use Rattle.std.proofs.lemmas.Bool.Decides.{nat_tests}
 use Rattle.std.specs.List.{AllByRecursion}
 use Rattle.serde_json.specs.Data.{Members}
@@ -9,7 +9,8 @@ use Rattle.import_expand.specs.Sources.{Live}
 use Rattle.bit_resolver.specs.Places.{Below, Place, outside, apex, below, place_of, is_outside}
 use Rattle.bit_resolver.specs.Nodes.{Node, node_at, rdata_at, target_at, type_of, is_nil}
 use Rattle.bit_resolver.specs.Way.{Stop, missing, cut, moved, stop_on_way}
-use Rattle.bit_resolver.specs.Answers.{Answer, Found, done, renamed, answered, negative, or_no_data, referral, records_of, records_at, cname_of, apex_records, soa_of, ns_of, is_asked, matching, record_items, by_cname, by_alias, in_zone, at_cut, at_name, by_dname, dname_of, by_way, by_value, value_of, asked_at, after_records, go_on, chase, refused, is_refused, answer_at}
+use Rattle.bit_resolver.specs.Answers.{Answer, Found, done, renamed, answered, negative, or_no_data, referral, records_of, records_at, cname_of, apex_records, soa_of, ns_of, is_asked, matching, record_items, by_cname, by_alias, in_zone, at_cut, at_name, by_dname, dname_of, by_way, by_value, value_of, asked_at, after_records, go_on, chase, refused, is_refused, answer_at, answer_to}
+use Rattle.dns_message.specs.Query.{Query}
 use Rattle.bit_resolver.specs.Laws.{IsAnswerOf, asked, any, cname, dname, IsAuthority, server, start, cnames, IsLawful}
 use Rattle.bit_resolver.specs.declared.resource.Resource.{Resource}
 use Rattle.bit_resolver.specs.declared.zone.Zone.{Zone}
@@ -21,11 +22,11 @@ all_both P [] ys h k = k
 all_both P (x ∷ xs) ys h k = (h.0, all_both P xs ys h.1 k)
 
 cnames-append : (xs ys : List Resource) → cnames (xs ++ ys) ≡ cnames xs + cnames ys
-cnames-append [] ys = refl
+cnames-append [] ys = omega arith
 cnames-append (x ∷ xs) ys = by_test (x.kind == rr.CNAME) refl (cnames-append xs ys)
   where
     by_test : (t : Bool) → (x.kind == rr.CNAME) ≡ t → cnames (xs ++ ys) ≡ cnames xs + cnames ys → cnames ((x ∷ xs) ++ ys) ≡ cnames (x ∷ xs) + cnames ys
-    by_test true e more = rw e (ap suc more)
+    by_test true e more = rw e (omega (arith, more))
     by_test false e more = rw e more
 
 records_are : (P : Resource → Type 0) (owner : List ℕ) (kind : ℕ) (rdata : List (List ℕ)) → ((d : List ℕ) → P (record { owner = owner; kind = kind; rdata = d })) → AllByRecursion P (records_of owner kind rdata)
@@ -65,8 +66,10 @@ item_few n k false h = refl
 matching_few : (n : Node) (kind : ℕ) (keys : List Key) → AllByRecursion (λ k. (type_of k == rr.CNAME) ≡ false) keys → cnames (matching n kind keys) ≡ 0
 matching_few n kind [] h = refl
 matching_few n kind (k ∷ keys) h =
-    cnames-append (if is_asked kind k then records_at k n else []) (matching n kind keys)
-    ∙ ap (λ m. m + cnames (matching n kind keys)) (item_few n k (is_asked kind k) h.0) ∙ matching_few n kind keys h.1
+    let sum = cnames-append (if is_asked kind k then records_at k n else []) (matching n kind keys) in
+    let none = item_few n k (is_asked kind k) h.0 in
+    let more = matching_few n kind keys h.1 in
+    omega (arith, sum, none, more)
 
 -- the same of what one name is answered with
 abbrev IsLawfulFound : ℕ → Found → Type 0
@@ -162,3 +165,6 @@ answer_is live z kind «class» p = by_test (is_refused kind «class» p)
     by_test : (t : Bool) → IsLawful kind MOST_CNAMES (if t then refused else chase live z kind MOST_CNAMES p)
     by_test true = record { answer = tt; authority = tt; few = omega arith }
     by_test false = chase_is live z kind MOST_CNAMES p
+
+pub answer_to-is : (live : Live) (z : Zone) (q : Query) (a : Answer) → a ≡ answer_to live z q → IsLawful q.kind MOST_CNAMES a
+answer_to-is live z q a is = subst (IsLawful q.kind MOST_CNAMES) (sym is) (answer_is live z q.kind q.«class» (place_of q.name))

@@ -7,6 +7,7 @@ ghost use Rattle.dns_message.specs.Query.{query_of};
 ghost use Rattle.ifa_value.specs.Object.{members};
 ghost use Rattle.bit_resolver.specs.Places.{IsPlace};
 ghost use Rattle.bit_resolver.specs.Answers.{value_of, asked_at, after_records as after_records_of, chase as chase_of, is_refused as is_refused_of, answer_at, answer_to};
+ghost use Rattle.bit_resolver.specs.Laws.{IsLawful};
 ghost use Rattle.bit_resolver.specs.Ends.{seen_place, seen_sections, seen_asked};
 ghost use Rattle.bit_resolver.specs.declared.limits.TheConstants.{MOST_CNAMES as GREATEST};
 
@@ -134,9 +135,8 @@ fn answer<N: Names>(
     chase(alloc, names, zone, kind, place)
 }
 
-/// The answer of a question (RFC 1034, 4.3.2): from the value of `d/x` for a name at or below `x.bit.`, from the zone
-/// itself for `bit.`, and REFUSED for any other name.
-pub fn resolve<N: Names>(
+/// The answer of a question.
+fn answer_question<N: Names>(
     alloc: Global,
     names: &N,
     zone: &Zone,
@@ -152,4 +152,22 @@ pub fn resolve<N: Names>(
         }
         None => unreachable!(),
     }
+}
+
+/// The answer of a question (RFC 1034, 4.3.2): from the value of `d/x` for a name at or below `x.bit.`, from the zone
+/// itself for `bit.`, and REFUSED for any other name, another class than IN, and zone transfers.
+pub fn resolve<N: Names>(
+    alloc: Global,
+    names: &N,
+    zone: &Zone,
+    asked: &Question<'_>,
+) -> Result<Sections, NoMemory>
+    requires name { IsName asked.now.name.now }
+    // It is the definition's.
+    ensures answer { IfOk result (λ s. seen_sections s ≡ answer_to (N.served names.now) zone.now (query_of asked.now)) }
+    // Of each answer: why each record stands where it does, and that it has at most eight CNAME records.
+    ensures lawful { IfOk result (λ s. IsLawful asked.now.kind GREATEST (seen_sections s)) }
+{
+    let sections = answer_question(alloc, names, zone, asked)?;
+    Ok(sections)
 }
