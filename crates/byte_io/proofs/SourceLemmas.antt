@@ -1,7 +1,7 @@
 -- Reads one after the other.
-use Rattle.std.proofs.Common.{ℕ, ◌+◌, ◌<◌, ◌≡◌, min, false, List, [], ◌++◌, length, take, drop, Option, Some, None, refl, sym, ap, ◌∙◌, append_assoc, length-append, length-drop, arith}
-use Rattle.std.proofs.lemmas.List.{take_at, take-append-drop, drop-drop, length-take, nil_from_length}
-use Rattle.fault_counts.specs.Counts.{Counts, faults_of}
+use Rattle.std.proofs.Common.{ℕ, ◌≡◌, min, false, List, [], ◌++◌, length, take, drop, Option, Some, None, refl, sym, ap, ◌∙◌, append_assoc, length-append, length-drop, arith}
+use Rattle.std.proofs.lemmas.List.{take_at, take-append-drop, length-take, nil_from_length}
+use Rattle.fault_counts.specs.Counts.{faults_of}
 use Rattle.fault_counts.specs.Faults.{NeverFell}
 use Rattle.byte_io.specs.Source.{ReadsSome}
 use Rattle.byte_io.specs.MemorySource.{SourceView, memory_seen}

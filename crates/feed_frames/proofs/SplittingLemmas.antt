@@ -35,7 +35,6 @@ head_and kind n after = kind ∷ (to_le_bytes w32 n ++ after)
 fits_four : (kind n : ℕ) → IsLength kind n → n < 2 ^ 32
 fits_four kind n h = omega (arith, short kind n h)
 
--- a kind and a length tell themselves and what is behind them
 record Headed : Type 0 where
   kind : ℕ
   size : ℕ
@@ -44,6 +43,7 @@ record Headed : Type 0 where
 abbrev headed : ℕ → ℕ → List ℕ → Headed
 headed kind n after = record { kind = kind; size = n; after = after }
 
+-- a kind and a length tell themselves and what is behind them
 record SameHead (a b : Headed) : Type 0 where
   kind_is : a.kind ≡ b.kind
   length_is : a.size ≡ b.size

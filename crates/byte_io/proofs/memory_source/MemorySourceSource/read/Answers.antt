@@ -1,4 +1,4 @@
-use Rattle.std.proofs.Common.{◌≡◌, ◌+◌, ◌++◌, false, min, length, take, drop, arith, rules}
+use Rattle.std.proofs.Common.{◌≡◌, ◌+◌, ◌++◌, min, length, take, drop, rules}
 use Rattle.std.proofs.lemmas.List.{drop-drop}
 use Rattle.byte_io.proofs.SourceLemmas.{reads_front}
 use Rattle.byte_io.proofs.memory_source.MemorySourceSource.read.Goals as goal
