@@ -1,20 +1,20 @@
 -- What holds of every answer.
-use Rattle.std.proofs.Common.{◌≡◌, ℕ, zero, suc, ◌+◌, ◌≤◌, ◌==◌, ◌||◌, if◌then◌else◌, Bool, true, false, List, [], ◌∷◌, ◌++◌, refl, sym, ap, ◌∙◌, arith, Option, Some, None, subst}
+use Rattle.std.proofs.Common.{◌≡◌, ℕ, zero, suc, ◌+◌, ◌≤◌, ◌==◌, ◌||◌, if◌then◌else◌, Bool, true, false, List, [], ◌∷◌, ◌++◌, refl, sym, ◌∙◌, arith, Option, Some, None, subst}
 use Rattle.std.proofs.lemmas.Bool.Decides.{nat_tests}
 use Rattle.std.specs.List.{AllByRecursion}
 use Rattle.serde_json.specs.Data.{Members}
 use Rattle.ifa_value.specs.declared.item.Key.{Key}
 use Rattle.ifa_value.specs.declared.item.Key.TheVariants as key
 use Rattle.import_expand.specs.Sources.{Live}
-use Rattle.bit_resolver.specs.Places.{Below, Place, outside, apex, below, place_of, is_outside}
+use Rattle.bit_resolver.specs.Places.{Below, Place, outside, apex, below, place_of}
 use Rattle.bit_resolver.specs.Nodes.{Node, node_at, rdata_at, target_at, type_of, is_nil}
 use Rattle.bit_resolver.specs.Way.{Stop, missing, cut, moved, stop_on_way}
-use Rattle.bit_resolver.specs.Answers.{Answer, Found, done, renamed, answered, negative, or_no_data, referral, records_of, records_at, cname_of, apex_records, soa_of, ns_of, is_asked, matching, record_items, by_cname, by_alias, in_zone, at_cut, at_name, by_dname, dname_of, by_way, by_value, value_of, asked_at, after_records, go_on, chase, refused, is_refused, answer_at, answer_to}
+use Rattle.bit_resolver.specs.Answers.{Answer, Found, done, renamed, answered, negative, or_no_data, referral, records_of, records_at, cname_of, apex_records, soa_of, ns_of, is_asked, matching, record_items, by_cname, by_alias, in_zone, at_cut, at_name, by_dname, dname_of, by_way, by_value, value_of, asked_at, go_on, chase, refused, is_refused, answer_at, answer_to}
 use Rattle.dns_message.specs.Query.{Query}
 use Rattle.bit_resolver.specs.Laws.{IsAnswerOf, asked, any, cname, dname, IsAuthority, server, start, cnames, IsLawful}
 use Rattle.bit_resolver.specs.declared.resource.Resource.{Resource}
 use Rattle.bit_resolver.specs.declared.zone.Zone.{Zone}
-use Rattle.bit_resolver.specs.declared.limits.TheConstants.{CLASS_IN, MOST_CNAMES}
+use Rattle.bit_resolver.specs.declared.limits.TheConstants.{MOST_CNAMES}
 use Rattle.bit_resolver.specs.declared.rr_type.TheConstants as rr
 
 all_both : (P : Resource → Type 0) (xs ys : List Resource) → AllByRecursion P xs → AllByRecursion P ys → AllByRecursion P (xs ++ ys)
@@ -133,9 +133,11 @@ apex_are z kind = by_soa (kind == rr.SOA) refl
     by_any : (t : Bool) → (kind == rr.ANY) ≡ t → (AllByRecursion (IsAnswerOf kind) (if t then soa_of z ∷ ns_of z ∷ [] else [])) × (cnames (if t then soa_of z ∷ ns_of z ∷ [] else []) ≤ 1)
     by_any true e = let all : kind ≡ rr.ANY = grind (arith, nat_tests, e) in ((any all, (any all, tt)), omega arith)
     by_any false e = (tt, omega arith)
+
     by_ns : (t : Bool) → (kind == rr.NS) ≡ t → (AllByRecursion (IsAnswerOf kind) (if t then ns_of z ∷ [] else if kind == rr.ANY then soa_of z ∷ ns_of z ∷ [] else [])) × (cnames (if t then ns_of z ∷ [] else if kind == rr.ANY then soa_of z ∷ ns_of z ∷ [] else []) ≤ 1)
     by_ns true e = let same : rr.NS ≡ kind = grind (arith, nat_tests, e) in ((asked same, tt), omega arith)
     by_ns false e = by_any (kind == rr.ANY) refl
+
     by_soa : (t : Bool) → (kind == rr.SOA) ≡ t → (AllByRecursion (IsAnswerOf kind) (apex_records z kind)) × (cnames (apex_records z kind) ≤ 1)
     by_soa true e = let same : rr.SOA ≡ kind = grind (arith, nat_tests, e) in rw e ((asked same, tt), omega arith)
     by_soa false e = rw e (by_ns (kind == rr.NS) refl)

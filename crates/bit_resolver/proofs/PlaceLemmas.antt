@@ -1,5 +1,5 @@
 -- Labels and the names that they make.
-use Rattle.std.proofs.Common.{◌≡◌, ℕ, zero, suc, ◌+◌, ◌-◌, ◌<◌, ◌≤◌, ◌==◌, ◌||◌, Option, subst, take_all, List, [], ◌∷◌, ◌++◌, length, take, drop, reverse, Bool, true, false, refl, sym, ap, ap₂, ◌∙◌, arith, nat_le, nat_lt, if◌then◌else◌, Some, None, length-append, append_assoc}
+use Rattle.std.proofs.Common.{◌≡◌, ℕ, zero, suc, ◌-◌, ◌<◌, ◌≤◌, ◌==◌, Option, subst, take_all, List, [], ◌∷◌, ◌++◌, length, take, drop, reverse, Bool, true, false, refl, sym, ap, ap₂, ◌∙◌, arith, nat_le, nat_lt, Some, None, length-append, append_assoc}
 use Rattle.std.proofs.Math.Seq.{take-append_seam, drop-append_seam}
 use Rattle.std.proofs.lemmas.List.{reverse-append, reverse-reverse, length-drop}
 use Rattle.std.proofs.lemmas.Bool.Decides.{nat_tests}

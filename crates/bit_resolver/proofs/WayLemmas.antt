@@ -5,7 +5,7 @@ use Rattle.std.proofs.lemmas.List.{take-append-drop, length-drop}
 use Rattle.std.proofs.lemmas.Grind.{common_steps}
 use Rattle.serde_json.specs.Data.{Members}
 use Rattle.ifa_value.specs.declared.item.Key.TheVariants as key
-use Rattle.import_expand.specs.Sources.{Live, node, sources_of, child_of}
+use Rattle.import_expand.specs.Sources.{Live, node, child_of}
 use Rattle.bit_resolver.specs.Places.{Below, own_of, top_of}
 use Rattle.bit_resolver.specs.Nodes.{Node, node_at, rdata_at, target_at, is_nil}
 use Rattle.bit_resolver.specs.Way.{Stop, missing, cut, moved, or_else, stop_with, stop_here, stop_above, stop_before, stop_on_way, if_missing}

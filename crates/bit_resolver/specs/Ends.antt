@@ -1,5 +1,5 @@
 -- Values of the code as definitions see them.
-use Rattle.std.specs.Prelude.{◌≡◌, ◌≤◌, ℕ, map, drop, length, Some, None}
+use Rattle.std.specs.Prelude.{◌≡◌, ◌≤◌, map, drop, length, Some, None}
 use Rattle.serde_json.specs.Data.{Members}
 use Rattle.ifa_value.specs.Object.{members}
 use Rattle.import_expand.specs.Sources.{Live}

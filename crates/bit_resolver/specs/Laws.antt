@@ -3,7 +3,6 @@ use Rattle.std.specs.Prelude.{◌≡◌, ℕ, suc, ◌≤◌, ◌==◌, if◌the
 use Rattle.std.specs.List.{AllByRecursion}
 use Rattle.bit_resolver.specs.Answers.{Answer}
 use Rattle.bit_resolver.specs.declared.resource.Resource.{Resource}
-use Rattle.bit_resolver.specs.declared.limits.TheConstants.{MOST_CNAMES}
 use Rattle.bit_resolver.specs.declared.rr_type.TheConstants as rr
 
 -- Why a record stands in the answer section: it has the type that is asked, or all are asked for, or it leads to another name.
