@@ -3,7 +3,7 @@ use Rattle.std.proofs.Common.{◌≡◌, ℕ, ◌-◌, ◌<◌, ◌≤◌, List,
 use Rattle.std.proofs.lemmas.List.{append-nil, take_all}
 use Rattle.std.specs.Io.KnownBytes.{Consumes}
 use Rattle.feed_frames.specs.Frames.{Frame, frames_text, Splits, bad, partial, IsBadFrame, unknown_kind, wrong_length, IsPartialFrame, nothing}
-use Rattle.feed_frames.proofs.SplittingLemmas.{same_splitting, splits_more, bad_then}
+use Rattle.feed_frames.proofs.SplittingLemmas.{are_parts, same_splitting, splitting, splits_more, bad_then}
 use Rattle.frame_loop.specs.Causes.{SinkCause, failing, stalling}
 use Rattle.fault_counts.specs.Faults.{NeverFell}
 use Rattle.frame_loop.specs.Transcript.{Streams, Ends, Transcript}
@@ -41,7 +41,7 @@ module _ (old new : Streams) (limit : ℕ) where
       let e = f.ending in
       let all = read_all old.source.left new.source.left bytes f.read told f.given e.at_end in
       let front = take_all limit bytes (omega (arith, ap length all, e.below_limit)) ∙ all in
-      let same = same_as_read (take limit bytes) f.read frames rest [] e.answered front (partial (nothing refl)) split is_rest in
+      let same = same_as_read (take limit bytes) f.read [] (splitting frames rest split is_rest) e.answered front (partial (nothing refl)) in
       record { no_rest = same.rest; below_limit = omega (arith, ap length all, e.below_limit) }
 
   bad_shown : (offset : ℕ) → Shown (BadFrame offset) (endings.BadFrame offset)
@@ -50,7 +50,7 @@ module _ (old new : Streams) (limit : ℕ) where
       let front = read_front limit old.source.left new.source.left bytes f.read told f.given f.within in
       let more = take (limit - length f.read) front.left in
       let longer = splits_more f.read e.answered.frames e.rest more e.answered.split in
-      let same = same_splitting frames rest e.answered.frames (e.rest ++ more) split.framed longer.framed is_rest (bad (bad_then e.rest more e.bad)) (sym split.whole ∙ front.front_is ∙ longer.whole) in
+      let same = same_splitting frames rest e.answered.frames (e.rest ++ more) (are_parts frames rest split.framed is_rest) (are_parts e.answered.frames (e.rest ++ more) longer.framed (bad (bad_then e.rest more e.bad))) (sym split.whole ∙ front.front_is ∙ longer.whole) in
       record {
         bad = subst (λ (q : List ℕ). IsBadFrame q) (sym same.rest) (bad_then e.rest more e.bad);
         offset_is = omega (arith, e.offset_is, ap length e.answered.split.whole, length-append (frames_text e.answered.frames) e.rest, ap (λ (x : List Frame). length (frames_text x)) same.frames);
@@ -61,7 +61,7 @@ module _ (old new : Streams) (limit : ℕ) where
       let e = f.ending in
       let all = read_all old.source.left new.source.left bytes f.read told f.given e.at_end in
       let front = take_all limit bytes (omega (arith, ap length all, e.below_limit)) ∙ all in
-      let same = same_as_read (take limit bytes) f.read frames rest e.rest e.answered front (partial e.partial) split is_rest in
+      let same = same_as_read (take limit bytes) f.read e.rest (splitting frames rest split is_rest) e.answered front (partial e.partial) in
       record {
         partial = subst (λ (q : List ℕ). IsPartialFrame q) (sym same.rest) e.partial;
         some_left = omega (arith, e.some_left, ap length same.rest);
@@ -75,7 +75,7 @@ module _ (old new : Streams) (limit : ℕ) where
       let first = read_front limit old.source.left new.source.left bytes f.read told f.given f.within in
       let none : limit - length f.read ≡ 0 = omega (arith, e.at_limit) in
       let front : take limit bytes ≡ f.read = first.front_is ∙ ap (λ (n : ℕ). f.read ++ take n first.left) none ∙ append-nil f.read in
-      let same = same_as_read (take limit bytes) f.read frames rest e.rest e.answered front (partial e.partial) split is_rest in
+      let same = same_as_read (take limit bytes) f.read e.rest (splitting frames rest split is_rest) e.answered front (partial e.partial) in
       record {
         partial = subst (λ (q : List ℕ). IsPartialFrame q) (sym same.rest) e.partial;
         reached = omega (arith, e.at_limit, ap length first.bytes_are, length-append f.read first.left);

@@ -36,6 +36,6 @@ reached_next start r frame reply new a =
       events = r.is.events ++ a.event ∷ [];
       run = m.new;
       frames_are = ap (λ (fs : List Frame). fs ++ frame ∷ []) r.is.frames_are ∙ ap (λ (f : Frame). map frame_of r.is.events ++ f ∷ []) (sym a.same) ∙ frames_push r.is.events a.event;
-      runs = run_push start r.is.events r.replies r.is.run a.event reply m.new r.is.runs m.step;
+      runs = run_push start r.is.events r.replies r.is.run (record { event = a.event; reply = reply; next = m.new; step = m.step }) r.is.runs;
       stands = m.stands;
     }

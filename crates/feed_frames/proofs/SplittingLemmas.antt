@@ -142,20 +142,31 @@ pub record SameSplitting (es : List Frame) (r : List ℕ) (fs : List Frame) (s :
   pub frames : es ≡ fs
   pub rest : r ≡ s
 
-pub same_splitting : (es : List Frame) (r : List ℕ) (fs : List Frame) (s : List ℕ) → AllByRecursion IsFramed es → AllByRecursion IsFramed fs → IsRest r → IsRest s
-    → frames_text es ++ r ≡ frames_text fs ++ s → SameSplitting es r fs s
-same_splitting [] r [] s fe ff hr hs e = record { frames = refl; rest = e }
-same_splitting [] r (f ∷ fs) s fe ff hr hs e =
-    absurd (rest_begins_none r f (frames_text fs ++ s) hr ff.0 (e ∙ append_assoc (frame_text f) (frames_text fs) s))
-same_splitting (x ∷ es) r [] s fe ff hr hs e =
-    absurd (rest_begins_none s x (frames_text es ++ r) hs fe.0 (sym e ∙ append_assoc (frame_text x) (frames_text es) r))
-same_splitting (x ∷ es) r (f ∷ fs) s fe ff hr hs e =
-    let one = same_frames x (frames_text es ++ r) f (frames_text fs ++ s) fe.0 ff.0 (sym (append_assoc (frame_text x) (frames_text es) r) ∙ e ∙ append_assoc (frame_text f) (frames_text fs) s) in
-    let others = same_splitting es r fs s fe.1 ff.1 hr hs one.rest in
-    record { frames = cc (one.frame, others.frames); rest = others.rest }
+-- whole frames, and a rest that is none
+pub record AreParts (frames : List Frame) (rest : List ℕ) : Type 0 where
+  pub framed : AllByRecursion IsFramed frames
+  pub is_rest : IsRest rest
+
+abbrev pub are_parts : (frames : List Frame) (rest : List ℕ) → AllByRecursion IsFramed frames → IsRest rest → AreParts frames rest
+are_parts frames rest framed is_rest = record { framed = framed; is_rest = is_rest }
+
+pub same_splitting : (es : List Frame) (r : List ℕ) (fs : List Frame) (s : List ℕ) → AreParts es r → AreParts fs s → frames_text es ++ r ≡ frames_text fs ++ s → SameSplitting es r fs s
+same_splitting [] r [] s one two e = record { frames = refl; rest = e }
+same_splitting [] r (f ∷ fs) s one two e =
+    absurd (rest_begins_none r f (frames_text fs ++ s) one.is_rest two.framed.0 (e ∙ append_assoc (frame_text f) (frames_text fs) s))
+same_splitting (x ∷ es) r [] s one two e =
+    absurd (rest_begins_none s x (frames_text es ++ r) two.is_rest one.framed.0 (sym e ∙ append_assoc (frame_text x) (frames_text es) r))
+same_splitting (x ∷ es) r (f ∷ fs) s one two e =
+    let first = same_frames x (frames_text es ++ r) f (frames_text fs ++ s) one.framed.0 two.framed.0 (sym (append_assoc (frame_text x) (frames_text es) r) ∙ e ∙ append_assoc (frame_text f) (frames_text fs) s) in
+    let others = same_splitting es r fs s (are_parts es r one.framed.1 one.is_rest) (are_parts fs s two.framed.1 two.is_rest) first.rest in
+    record { frames = cc (first.frame, others.frames); rest = others.rest }
+
+abbrev pub splitting : {bytes : List ℕ} (frames : List Frame) (rest : List ℕ) → Splits bytes frames rest → IsRest rest → HasSplitting bytes
+splitting frames rest splits is_rest = record { frames = frames; rest = rest; splits = splits; is_rest = is_rest }
 
 pub one_splitting : (bytes : List ℕ) (s t : HasSplitting bytes) → SameSplitting s.frames s.rest t.frames t.rest
-one_splitting bytes s t = same_splitting s.frames s.rest t.frames t.rest s.splits.framed t.splits.framed s.is_rest t.is_rest (sym s.splits.whole ∙ t.splits.whole)
+one_splitting bytes s t =
+    same_splitting s.frames s.rest t.frames t.rest (are_parts s.frames s.rest s.splits.framed s.is_rest) (are_parts t.frames t.rest t.splits.framed t.is_rest) (sym s.splits.whole ∙ t.splits.whole)
 
 -- ---- a stream that grows, and a rest that loses its first frame
 

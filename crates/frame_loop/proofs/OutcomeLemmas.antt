@@ -5,8 +5,9 @@ use Rattle.std.proofs.lemmas.List.{append-nil, take_all}
 use Rattle.std.specs.Io.KnownBytes.{Consumes, IsAtEnd}
 use Rattle.std.proofs.lemmas.Option.{none-some}
 use Rattle.feed_frames.specs.Frames.{Frame, frames_text, Splits, IsRest, bad, partial, IsBadFrame, unknown_kind, wrong_length, IsPartialFrame, nothing}
+use Rattle.feed_frames.specs.Law.{HasSplitting}
 use Rattle.feed_frames.specs.Replies.{Reply}
-use Rattle.feed_frames.proofs.SplittingLemmas.{SameSplitting, same_splitting, splits_more, bad_then}
+use Rattle.feed_frames.proofs.SplittingLemmas.{SameSplitting, are_parts, same_splitting, splitting, splits_more, bad_then}
 use Rattle.frame_loop.specs.Causes.{SinkCause, failing, stalling}
 use Rattle.frame_loop.specs.Answering.{SoFar}
 use Rattle.frame_loop.specs.Transcript.{Streams, Transcript}
@@ -42,10 +43,10 @@ read_all (Some before) (Some left) bytes read e given end =
     sym same ∙ given ∙ ap (λ (q : List ℕ). read ++ q) end ∙ append-nil read
 
 -- the splitting of the bytes up to the limit is that of the bytes read, where these are they
-pub same_as_read : {X : Type 0} {Reached : List Frame → List Reply → X → Type 0} {now : X} {written : List ℕ} (front read : List ℕ) (frames : List Frame) (rest left : List ℕ)
-    → (answered : SoFar Reached read left written now) → front ≡ read → IsRest left → Splits front frames rest → IsRest rest → SameSplitting frames rest answered.frames left
-same_as_read front read frames rest left answered same is-left split is-rest =
-    same_splitting frames rest answered.frames left split.framed answered.split.framed is-rest is-left (sym split.whole ∙ same ∙ answered.split.whole)
+pub same_as_read : {X : Type 0} {Reached : List Frame → List Reply → X → Type 0} {now : X} {written : List ℕ} (front read left : List ℕ) (s : HasSplitting front)
+    → (answered : SoFar Reached read left written now) → front ≡ read → IsRest left → SameSplitting s.frames s.rest answered.frames left
+same_as_read front read left s answered same is-left =
+    same_splitting s.frames s.rest answered.frames left (are_parts s.frames s.rest s.splits.framed s.is_rest) (are_parts answered.frames left answered.split.framed is-left) (sym s.splits.whole ∙ same ∙ answered.split.whole)
 
 no_cause : (old new : Streams) → SinkCause old.sink new.sink → NothingFailed old new → ⊥
 no_cause old new (failing f rose) well = well.sink rose
@@ -57,14 +58,14 @@ determined Reached Broken old new limit Done now t = λ bytes frames rest told s
     let e = t.ending in
     let all = read_all old.source.left new.source.left bytes t.read told t.given e.at_end in
     let front = take_all limit bytes (omega (arith, ap length all, e.below_limit)) ∙ all in
-    let same = same_as_read (take limit bytes) t.read frames rest [] e.answered front (partial (nothing refl)) split is-rest in
+    let same = same_as_read (take limit bytes) t.read [] (splitting frames rest split is-rest) e.answered front (partial (nothing refl)) in
     record { no_rest = same.rest; below_limit = omega (arith, ap length all, e.below_limit) }
 determined Reached Broken old new limit (BadFrame offset) now t = λ bytes frames rest told split is-rest well.
     let e = t.ending in
     let f = read_front limit old.source.left new.source.left bytes t.read told t.given t.within in
     let more = take (limit - length t.read) f.left in
     let longer = splits_more t.read e.answered.frames e.rest more e.answered.split in
-    let same = same_splitting frames rest e.answered.frames (e.rest ++ more) split.framed longer.framed is-rest (bad (bad_then e.rest more e.bad)) (sym split.whole ∙ f.front_is ∙ longer.whole) in
+    let same = same_splitting frames rest e.answered.frames (e.rest ++ more) (are_parts frames rest split.framed is-rest) (are_parts e.answered.frames (e.rest ++ more) longer.framed (bad (bad_then e.rest more e.bad))) (sym split.whole ∙ f.front_is ∙ longer.whole) in
     record {
       bad = subst (λ (q : List ℕ). IsBadFrame q) (sym same.rest) (bad_then e.rest more e.bad);
       offset_is = omega (arith, e.offset_is, ap length e.answered.split.whole, length-append (frames_text e.answered.frames) e.rest, ap (λ (x : List Frame). length (frames_text x)) same.frames);
@@ -73,7 +74,7 @@ determined Reached Broken old new limit (CutFrame offset) now t = λ bytes frame
     let e = t.ending in
     let all = read_all old.source.left new.source.left bytes t.read told t.given e.at_end in
     let front = take_all limit bytes (omega (arith, ap length all, e.below_limit)) ∙ all in
-    let same = same_as_read (take limit bytes) t.read frames rest e.rest e.answered front (partial e.partial) split is-rest in
+    let same = same_as_read (take limit bytes) t.read e.rest (splitting frames rest split is-rest) e.answered front (partial e.partial) in
     record {
       partial = subst (λ (q : List ℕ). IsPartialFrame q) (sym same.rest) e.partial;
       some_left = omega (arith, e.some_left, ap length same.rest);
@@ -85,7 +86,7 @@ determined Reached Broken old new limit InputLimit now t = λ bytes frames rest 
     let f = read_front limit old.source.left new.source.left bytes t.read told t.given t.within in
     let none : limit - length t.read ≡ 0 = omega (arith, e.at_limit) in
     let front : take limit bytes ≡ t.read = f.front_is ∙ ap (λ (n : ℕ). t.read ++ take n f.left) none ∙ append-nil t.read in
-    let same = same_as_read (take limit bytes) t.read frames rest e.rest e.answered front (partial e.partial) split is-rest in
+    let same = same_as_read (take limit bytes) t.read e.rest (splitting frames rest split is-rest) e.answered front (partial e.partial) in
     record {
       partial = subst (λ (q : List ℕ). IsPartialFrame q) (sym same.rest) e.partial;
       reached = omega (arith, e.at_limit, ap length f.bytes_are, length-append t.read f.left);

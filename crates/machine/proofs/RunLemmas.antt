@@ -15,12 +15,19 @@ use Rattle.machine.specs.Surviving.{is_done, stays, SurvivesCommand, Surviving, 
 use Rattle.machine.proofs.RefusalLemmas.{decided, survives_once, fewer_none}
 use Rattle.machine.proofs.CommandLemmas.{without_journal, placed, coded, without_journal_back, placed_back, coded_back}
 
-pub run_push : (old : RunState) (events : List Event) (replies : List Reply) (mid : RunState) (event : Event) (reply : Reply) (new : RunState)
-    → Run old events replies mid → Step mid event reply new → Run old (events ++ event ∷ []) (replies ++ reply ∷ []) new
-run_push old [] [] mid event reply new run step = (new, subst (λ (r : RunState). Step r event reply new) run step, refl)
-run_push old [] (r ∷ replies) mid event reply new run step = absurd run
-run_push old (e ∷ events) [] mid event reply new run step = absurd run
-run_push old (e ∷ events) (r ∷ replies) mid event reply new run step = (run.0, run.1, run_push run.0 events replies mid event reply new run.2 step)
+-- the step after a run
+pub record NextStep (mid : RunState) : Type 0 where
+  pub event : Event
+  pub reply : Reply
+  pub next : RunState
+  pub step : Step mid event reply next
+
+pub run_push : (old : RunState) (events : List Event) (replies : List Reply) (mid : RunState) (s : NextStep mid)
+    → Run old events replies mid → Run old (events ++ s.event ∷ []) (replies ++ s.reply ∷ []) s.next
+run_push old [] [] mid s run = (s.next, subst (λ (r : RunState). Step r s.event s.reply s.next) run s.step, refl)
+run_push old [] (r ∷ replies) mid s run = absurd run
+run_push old (e ∷ events) [] mid s run = absurd run
+run_push old (e ∷ events) (r ∷ replies) mid s run = (run.0, run.1, run_push run.0 events replies mid s run.2)
 
 -- a reply to the event, and the state after the step
 abbrev pub Stepped : RunState → Event → Type 0
