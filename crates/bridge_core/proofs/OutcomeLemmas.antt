@@ -6,7 +6,7 @@ use Rattle.feed_frames.specs.Frames.{Frame, frames_text, Splits, bad, partial, I
 use Rattle.feed_frames.proofs.SplittingLemmas.{are_parts, same_splitting, splitting, splits_more, bad_then}
 use Rattle.frame_loop.specs.Causes.{SinkCause, failing, stalling}
 use Rattle.fault_counts.specs.Faults.{NeverFell}
-use Rattle.frame_loop.specs.Transcript.{Streams, Ends, Transcript}
+use Rattle.frame_loop.specs.Transcript.{Streams, passed, Ends, Transcript}
 use Rattle.frame_loop.specs.declared.following.Ending.{Ending}
 use Rattle.frame_loop.specs.declared.following.Ending.TheVariants as endings
 use Rattle.frame_loop.proofs.OutcomeLemmas.{read_front, read_all, same_as_read}
@@ -30,7 +30,7 @@ module _ (old new : Streams) (limit : ℕ) where
     last : Bridged × Unit {0}
     given : Consumes old.source.left new.source.left read
     within : length read ≤ limit
-    ending : Ends (BridgeReached first_state) (BridgeBroken first_state) old new limit read written how last
+    ending : Ends (BridgeReached first_state) (BridgeBroken first_state) old new limit (passed read written) how last
 
   -- what a transcript says by its ending
   abbrev Shown : Status → Ending → Type 0
@@ -133,7 +133,7 @@ module _ (old new : Streams) (limit : ℕ) where
     pub never_ended : l.how ≡ endings.Ended → ⊥
     never_ended e =
         let t = l.transcript in
-        let end = subst (λ (h : Ending). Ends (BridgeReached first_state) (BridgeBroken first_state) old new limit t.read t.written h l.last) e t.ending in
+        let end = subst (λ (h : Ending). Ends (BridgeReached first_state) (BridgeBroken first_state) old new limit (passed t.read t.written) h l.last) e t.ending in
         end.broken_off.broken
 
     ended_so : (status : Status) → Tells status l.how → EndsSo old new limit status

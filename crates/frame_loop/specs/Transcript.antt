@@ -71,14 +71,22 @@ pub record EndsWithIt {X : Type 0} (Broken : List Frame → List Reply → X →
   pub broken_off : BrokenOff Broken read rest written now
   pub one_piece : length rest < PIECE
 
-abbrev pub Ends : {X : Type 0} (Reached Broken : List Frame → List Reply → X → Type 0) (old new : Streams) (limit : ℕ) (read written : List ℕ) → Ending → X → Type 0
-Ends Reached Broken old new limit read written Done now = IsDone Reached new limit read written now
-Ends Reached Broken old new limit read written (BadFrame offset) now = EndsAtBadFrame Reached read written offset now
-Ends Reached Broken old new limit read written (CutFrame offset) now = EndsInFrame Reached new limit read written offset now
-Ends Reached Broken old new limit read written SourceFault now = EndsAtSource Reached old new limit read written now
-Ends Reached Broken old new limit read written SinkFault now = EndsAtSink Reached old new read written now
-Ends Reached Broken old new limit read written InputLimit now = EndsAtLimit Reached limit read written now
-Ends Reached Broken old new limit read written Ended now = EndsWithIt Broken read written now
+-- what was read from the source, and what the sink took
+pub record Passed : Type 0 where
+  pub read : List ℕ
+  pub written : List ℕ
+
+abbrev pub passed : List ℕ → List ℕ → Passed
+passed read written = record { read = read; written = written }
+
+abbrev pub Ends : {X : Type 0} (Reached Broken : List Frame → List Reply → X → Type 0) (old new : Streams) (limit : ℕ) → Passed → Ending → X → Type 0
+Ends Reached Broken old new limit bytes Done now = IsDone Reached new limit bytes.read bytes.written now
+Ends Reached Broken old new limit bytes (BadFrame offset) now = EndsAtBadFrame Reached bytes.read bytes.written offset now
+Ends Reached Broken old new limit bytes (CutFrame offset) now = EndsInFrame Reached new limit bytes.read bytes.written offset now
+Ends Reached Broken old new limit bytes SourceFault now = EndsAtSource Reached old new limit bytes.read bytes.written now
+Ends Reached Broken old new limit bytes SinkFault now = EndsAtSink Reached old new bytes.read bytes.written now
+Ends Reached Broken old new limit bytes InputLimit now = EndsAtLimit Reached limit bytes.read bytes.written now
+Ends Reached Broken old new limit bytes Ended now = EndsWithIt Broken bytes.read bytes.written now
 
 -- what was read from the source, what the sink took, and how it ended
 pub record Transcript {X : Type 0} (Reached Broken : List Frame → List Reply → X → Type 0) (old new : Streams) (limit : ℕ) (how : Ending) (now : X) : Type 0 where
@@ -87,7 +95,7 @@ pub record Transcript {X : Type 0} (Reached Broken : List Frame → List Reply �
   pub given : Consumes old.source.left new.source.left read
   pub took : Appends old.sink.taken new.sink.taken written
   pub within : length read ≤ limit
-  pub ending : Ends Reached Broken old new limit read written how now
+  pub ending : Ends Reached Broken old new limit (passed read written) how now
 
 -- from each start that led to the first state
 pub record Follows {Start X : Type 0} (Reached Broken : Start → List Frame → List Reply → X → Type 0) (old new : Streams) (limit : ℕ) (first : X) (how : Ending) (now : X) : Type 0 where
