@@ -1,5 +1,5 @@
 -- The outcomes of a connect.
-use Rattle.std.proofs.Common.{◌≡◌, ℕ, ◌+◌, ◌<◌, ◌≤◌, Bool, List, ◌∷◌, length, Ok, refl, sym, ◌∙◌, ap, subst, arith}
+use Rattle.std.proofs.Common.{◌≡◌, ℕ, ◌+◌, ◌<◌, ◌≤◌, Bool, List, ◌∷◌, length, Ok, refl, sym, ◌∙◌, subst, arith}
 use Rattle.std.specs.Prelude.{IsTrue, Result}
 use Rattle.nmc_base.specs.declared.limits.TheConstants.{LONGEST_BLOCK}
 use Rattle.nmc_base.specs.declared.chain_ends.Tip.{Tip}

@@ -1,12 +1,10 @@
 -- What an append leaves of the records of an area.
-use Rattle.std.proofs.Common.{◌≡◌, ◌⊎◌, ℕ, ◌+◌, ◌-◌, ◌<◌, ◌≤◌, ◌^◌, true, List, [], ◌∷◌, ◌++◌, length, take, refl, sym, ◌∙◌, ap, subst, arith, length-append}
-use Rattle.std.specs.Prelude.{All}
-use Rattle.disk_model.specs.FileState.{FileState, IsFileImage, IsSettled}
-use Rattle.disk_model.specs.Moments.{Files, Moments, EachMoment}
-use Rattle.disk_model.proofs.MomentLemmas.{weaken}
-use Rattle.gate_journal.specs.Gate.{ClosedAfter, record_text}
-use Rattle.gate_journal.specs.Records.{Fits, HasRecords, records_text, image_front, IsArea}
-use Rattle.gate_journal.specs.Stand.{Stand, gate_of, text_before, IsAtGate}
+use Rattle.std.proofs.Common.{◌≡◌, ℕ, ◌<◌, ◌^◌, true, List, [], ◌∷◌, ◌++◌, sym, ◌∙◌, ap}
+use Rattle.disk_model.specs.FileState.{FileState, IsSettled}
+use Rattle.disk_model.specs.Moments.{Files}
+use Rattle.gate_journal.specs.Gate.{record_text}
+use Rattle.gate_journal.specs.Records.{Fits, records_text, image_front, IsArea}
+use Rattle.gate_journal.specs.Stand.{Stand, text_before, IsAtGate}
 use Rattle.gate_journal.specs.Writes.{IsBeforeOrAfter}
 use Rattle.gate_journal.proofs.GateLemmas.{gate_behind}
 use Rattle.gate_journal.proofs.RecordLemmas.{with_or_without, records_before, front-push, pushed_fit}

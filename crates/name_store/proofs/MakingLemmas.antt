@@ -1,5 +1,5 @@
 -- What making the files leaves at each moment.
-use Rattle.std.proofs.Common.{◌≡◌, ◌≢◌, inl, inr, ℕ, ◌+◌, ◌<◌, ◌≤◌, max, List, [], ◌∷◌, ◌++◌, length, refl, sym, ◌∙◌, ap, subst, arith}
+use Rattle.std.proofs.Common.{◌≡◌, inl, inr, ℕ, ◌≤◌, List, [], ◌∷◌, ◌++◌, length, refl, sym, ◌∙◌, ap, subst, arith}
 use Rattle.std.specs.Prelude.{IsTrue, slice_index}
 use Rattle.nmc_base.specs.declared.chain_ends.Base.{Base}
 use Rattle.disk_model.specs.FileState.{FileState, IsFileImage, IsSettled, put}
@@ -13,7 +13,7 @@ use Rattle.gate_journal.specs.Gate.{ClosedAfter}
 use Rattle.gate_journal.proofs.AppendLemmas.{closed_front}
 use Rattle.gate_journal.proofs.RecordLemmas.{none_fit}
 use Rattle.machine.specs.RunState.{RunState}
-use Rattle.name_store.specs.Header.{IsBegun, header_fields, header_text, IsInitialised, IsUninitialised}
+use Rattle.name_store.specs.Header.{IsBegun, header_fields, header_text}
 use Rattle.name_store.specs.Stands.{Bytes, IsRunState, Stands, EachStands, begun_on}
 use Rattle.name_store.specs.Making.{IsEmpty, EachIsBegun}
 use Rattle.name_store.specs.MakingSteps.{HasSettled, LeavesOthers, IsShort, empty_area, closed_header}

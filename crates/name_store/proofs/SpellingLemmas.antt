@@ -1,11 +1,9 @@
 -- What the name of a host spells is its text.
-use Rattle.std.proofs.Common.{◌≡◌, ◌≢◌, ℕ, zero, suc, ◌+◌, ◌-◌, ◌<◌, ◌≤◌, List, [], ◌∷◌, ◌++◌, length, take, drop, get_or, refl, sym, ◌∙◌, ap, subst, arith, append_assoc, length-append, drop-cons, add-one}
+use Rattle.std.proofs.Common.{◌≡◌, ◌≢◌, ℕ, zero, suc, ◌+◌, ◌-◌, ◌<◌, List, [], ◌∷◌, ◌++◌, length, take, drop, get_or, refl, sym, ◌∙◌, ap, subst, arith, append_assoc, drop-cons, add-one}
 use Rattle.std.specs.List.{join_with_byte}
-use Rattle.std.proofs.lemmas.List.{append-nil}
-use Rattle.std.proofs.lemmas.Grind.{take-set_at}
 use Rattle.domain_text.specs.declared.host.Form.TheVariants.{Absolute, AtTop, AtOwn}
-use Rattle.domain_text.specs.Host.{HostText, IsHost, absolute, empty, at_sign, below_top, below_own, IsJoined, IsAbsoluteHost}
-use Rattle.domain_text.specs.Names.{joined_to, wire_of}
+use Rattle.domain_text.specs.Host.{HostText, IsHost, absolute, empty, at_sign, below_top, below_own}
+use Rattle.domain_text.specs.Names.{wire_of}
 use Rattle.name_store.specs.Host.{IsHostOf}
 use Rattle.name_store.specs.Spelling.{spelled_from, spelled}
 

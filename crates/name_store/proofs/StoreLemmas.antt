@@ -1,11 +1,11 @@
 -- A store on a disk, and what its files stand for while a command is kept.
-use Rattle.std.proofs.Common.{◌≡◌, ◌≢◌, ◌⊎◌, inl, inr, ℕ, ◌+◌, ◌<◌, ◌≤◌, Bool, List, [], ◌∷◌, ◌++◌, length, Ok, refl, sym, ◌∙◌, ap, subst, arith, length-append}
+use Rattle.std.proofs.Common.{◌≡◌, ◌⊎◌, inl, inr, ℕ, Bool, List, [], ◌∷◌, ◌++◌, length, Ok, sym, ◌∙◌, ap, subst, arith, length-append}
 use Rattle.std.specs.Prelude.{IsTrue, Result}
 use Rattle.nmc_base.specs.declared.chain_ends.Base.{Base}
 use Rattle.nmc_base.specs.declared.chain_ends.Tip.{Tip}
 use Rattle.disk_model.specs.declared.disk.Failed.{Failed}
 use Rattle.disk_model.specs.FileState.{FileState, IsFileImage, IsSettled}
-use Rattle.disk_model.specs.Moments.{Files, Moments, EachMoment, start, IsImage}
+use Rattle.disk_model.specs.Moments.{Files, EachMoment, start, IsImage}
 use Rattle.disk_model.specs.DiskSeen.{DiskSeen, file_in, bytes_in}
 use Rattle.disk_model.proofs.MomentLemmas.{weaken, last_moment}
 use Rattle.disk_model.proofs.ImageLemmas.{IsSettled-image}
@@ -17,7 +17,7 @@ use Rattle.chain_steps.specs.Standing as chains
 use Rattle.chain_steps.proofs.ChainTips.{index_tip}
 use Rattle.machine.specs.Chain.{Chain}
 use Rattle.machine.specs.Event.{Command}
-use Rattle.machine.specs.RunState.{RunState, chain_of, area_of, record_length, accepted}
+use Rattle.machine.specs.RunState.{RunState, chain_of, area_of, accepted}
 use Rattle.name_store.specs.Header.{header_text}
 use Rattle.name_store.specs.Host.{IsHostOf}
 use Rattle.name_store.specs.Commands.{record_of, records_of}

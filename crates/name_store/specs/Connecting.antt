@@ -2,7 +2,6 @@
 use Rattle.std.specs.Prelude.{ℕ, ◌+◌, ◌<◌, List}
 use Rattle.disk_model.specs.Moments.{Files, EachMoment}
 use Rattle.disk_model.specs.DiskSeen.{DiskSeen, bytes_in}
-use Rattle.chain_state.specs.declared.stage.Refusal.{Refusal}
 use Rattle.chain_steps.specs.Costs.{IsCheapConnect}
 use Rattle.chain_steps.specs.Views.{refusal_of}
 use Rattle.nmc_base.specs.declared.chain_ends.Tip.{Tip}

@@ -1,12 +1,12 @@
 -- What making the files answers, and what a crash leaves meanwhile.
-use Rattle.std.specs.Prelude.{◌≡◌, ◌⊎◌, ℕ, List, [], Result, Ok, Err, ⊤}
+use Rattle.std.specs.Prelude.{◌≡◌, ◌⊎◌, [], Result, Ok, Err, ⊤}
 use Rattle.disk_model.specs.FileState.{FileState, IsSettled}
 use Rattle.disk_model.specs.Moments.{Files, IsImage}
 use Rattle.machine.specs.RunState.{RunState}
 use Rattle.name_store.specs.declared.faults.CreateFault.{CreateFault}
 use Rattle.name_store.specs.declared.faults.CreateFault.TheVariants.{Initialised, DiskFault}
 use Rattle.name_store.specs.Header.{IsInitialised, IsUninitialised}
-use Rattle.name_store.specs.Stands.{Bytes, Stands, EachStands}
+use Rattle.name_store.specs.Stands.{Bytes, Stands}
 
 -- files that are initialised are left as they are; others are made
 abbrev pub CreateAnswer : Bytes → Result (Unit {0}) CreateFault → Type 0

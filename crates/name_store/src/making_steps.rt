@@ -5,6 +5,7 @@ ghost use Rattle.name_store.specs.Header.{header_fields};
 ghost use Rattle.name_store.specs.Header as header;
 ghost use Rattle.name_store.specs.MakingSteps.{HasSettled, MakesArea, MakesGate, MakesFields};
 ghost use Rattle.name_store.specs.declared.host_text.TheConstants.{LONGEST_HOST};
+ghost use Rattle.name_store.specs.declared.making_steps.TheConstants.{LONGEST_FIELDS};
 
 use crate::limits::{AREA_FILE, CLOSED, HEADER_FILE};
 use disk_model::{Disk, Failed};
@@ -16,7 +17,7 @@ const MAGIC: [u8; 8] = *b"NMCIDX1\n";
 /// The most bytes that stand behind the header's gate, with the gate behind them.
 const LONGEST_FIELDS: usize = 290;
 
-/// Makes the area: an image of no bytes, and a closed gate.
+/// Makes the area: the length 0 of an image, and a closed gate.
 pub fn make_area<D: Disk>(disk: &mut D) -> Result<(), Failed>
     ensures { MakesArea D.tells (D.seen disk.old) (D.seen disk.new) result }
 {
@@ -59,7 +60,7 @@ fn add(out: &mut [u8], at: usize, piece: &[u8]) -> usize
 
 /// Puts the fields of the header into the array, and a closed gate behind them, and says where it ends.
 fn add_fields(out: &mut [u8], base: &Base, host: &[u8]) -> usize
-    requires room { length out.old ≡ 290 }
+    requires room { length out.old ≡ LONGEST_FIELDS }
     requires short { length host.now ≤ LONGEST_HOST }
     ensures end { result ≤ length out.new }
     ensures bytes { take result out.new ≡ header_fields base.now host.now ++ 0 ∷ [] }

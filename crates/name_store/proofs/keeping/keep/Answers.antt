@@ -1,5 +1,5 @@
-use Rattle.std.proofs.Common.{rules, ◌≡◌, ℕ, ◌+◌, ◌<◌, ◌^◌, List, [], ◌∷◌, length, Ok, Err, ap, subst, ◌∙◌, arith}
-use Rattle.disk_model.specs.DiskSeen.{file_in, bytes_in}
+use Rattle.std.proofs.Common.{rules, ◌+◌, ◌<◌, ◌^◌, [], ◌∷◌, length, Ok, Err, ap, subst, arith}
+use Rattle.disk_model.specs.DiskSeen.{file_in}
 use Rattle.disk_model.specs.Moments.{Files}
 use Rattle.disk_model.proofs.MomentLemmas.{weaken}
 use Rattle.gate_journal.specs.Calls.{Appends}

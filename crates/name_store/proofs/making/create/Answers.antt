@@ -1,8 +1,7 @@
-use Rattle.std.proofs.Common.{rules, ◌≡◌, ◌≤◌, List, ℕ, length, subst, sym, ◌∙◌, arith}
+use Rattle.std.proofs.Common.{List, ℕ, subst, ◌∙◌}
 use Rattle.nmc_base.specs.declared.chain_ends.Base.{Base}
 use Rattle.name_store.specs.Header.{IsBegun}
-use Rattle.name_store.specs.Host.{IsHostOf}
-use Rattle.name_store.specs.Stands.{EachStands, begun_on}
+use Rattle.name_store.specs.Stands.{begun_on}
 use Rattle.name_store.specs.MakingSteps.{HasSettled, closed_header}
 use Rattle.name_store.proofs.MakingLemmas.{looked_begun, area_begun, gate_begun, fields_begun, opening_begun, opened_stands}
 use Rattle.name_store.proofs.making.create.Goals as goal

@@ -1,4 +1,4 @@
-use Rattle.std.proofs.Common.{rules, ◌≡◌, List, ℕ, [], ◌∙◌, ap}
+use Rattle.std.proofs.Common.{rules, List, ℕ, ◌∙◌, ap}
 use Rattle.disk_model.specs.Changes.{AfterWrite, AfterCut, AfterSync}
 use Rattle.disk_model.specs.FileState.{put}
 use Rattle.disk_model.specs.DiskSeen.{file_in, bytes_in}

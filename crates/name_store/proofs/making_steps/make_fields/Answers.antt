@@ -1,7 +1,5 @@
-use Rattle.std.proofs.Common.{rules, ◌≡◌, ◌+◌, ◌≤◌, List, ℕ, [], ◌∷◌, ◌++◌, length, take, ◌∙◌, ap, sym, subst, arith}
+use Rattle.std.proofs.Common.{rules, List, ℕ, [], ◌∷◌, ◌++◌, ◌∙◌, ap, arith}
 use Rattle.disk_model.specs.FileState.{put}
-use Rattle.disk_model.specs.Moments.{EachMoment}
-use Rattle.disk_model.specs.Changes.{Changes, AfterWrite}
 use Rattle.disk_model.specs.DiskSeen.{file_in, bytes_in}
 use Rattle.gate_journal.proofs.WriteLemmas.{keeps_written}
 use Rattle.name_store.specs.Header.{header_fields}
