@@ -12,3 +12,4 @@ pub mod MakingLemmas
 pub mod SpellingLemmas
 pub mod RunLemmas
 pub mod DamageLaws
+pub mod FollowLaws
