@@ -10,3 +10,6 @@ pub mod DisconnectLemmas
 pub mod StepLemmas
 pub mod MakingLemmas
 pub mod SpellingLemmas
+pub mod RunLemmas
+pub mod DamageLaws
+pub mod FollowLaws

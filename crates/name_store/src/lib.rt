@@ -9,6 +9,7 @@ mod host;
 mod host_text;
 mod initialised;
 mod keeping;
+mod law;
 mod limits;
 mod making;
 mod making_steps;
@@ -17,6 +18,7 @@ mod reading;
 mod store;
 
 pub use faults::{CreateFault, OpenFault};
+pub use law::{one_damage, one_kind_of_files, one_run_state};
 pub use making::create;
 pub use store::{BackOutcome, Outcome, Store};
 

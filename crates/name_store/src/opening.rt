@@ -6,7 +6,8 @@ ghost use Rattle.disk_model.specs.Changes.{Unchanged};
 ghost use Rattle.disk_model.specs.DiskSeen.{bytes_in, file_in};
 ghost use Rattle.gate_journal.specs.Stand.{IsReadable};
 ghost use Rattle.machine.specs.RunState.{RunState};
-ghost use Rattle.name_store.specs.Opening.{OpenAnswer, AddsNoImage};
+ghost use Rattle.name_store.specs.Opening.{OpenAnswer, OpensFor, AddsNoImage};
+ghost use Rattle.name_store.specs.Stands.{Stands};
 ghost use Rattle.name_store.specs.Reading.{IsBegunBy, FollowsArea, IsInArea, first_gate};
 ghost use Rattle.name_store.specs.Damage.{HasNoImage};
 ghost use Rattle.name_store.specs.Stored.{StandsFor};
@@ -79,6 +80,7 @@ impl Store {
     pub fn open<D: Disk>(alloc: Global, disk: &mut D) -> Result<Store, OpenFault>
         ensures found { IfOk result (λ store. (run : RunState) × StandsFor store run) }
         ensures answer { IsTrue D.tells → OpenAnswer (bytes_in (D.seen disk.old)) (D.seen disk.new).moments.now result }
+        ensures follows { IsTrue D.tells → (run : RunState) → Stands (bytes_in (D.seen disk.old)) run → OpensFor run result }
         ensures untouched { IsTrue D.tells
             → EachMoment (AddsNoImage (D.seen disk.old).moments.now) (D.seen disk.old).moments (D.seen disk.new).moments }
         ensures later { NeverFell (D.seen disk.old).faults (D.seen disk.new).faults }

@@ -1,4 +1,4 @@
-use Rattle.std.proofs.Common.{◌≡◌, List, ℕ, sym, ap, subst, ◌∙◌}
+use Rattle.std.proofs.Common.{List, ℕ, sym, ap, subst, ◌∙◌}
 use Rattle.disk_model.specs.FileState.{FileState, IsSettled}
 use Rattle.disk_model.specs.Moments.{Files}
 use Rattle.disk_model.proofs.MomentLemmas.{last_moment}
@@ -14,6 +14,8 @@ use Rattle.name_store.specs.Opening.{IsOpened, OpenAnswer}
 use Rattle.name_store.specs.Reading.{HasFollowedAll, AreaAnswer, FollowsArea}
 use Rattle.name_store.specs.Stored.{Stored, StandsFor}
 use Rattle.name_store.proofs.OpenLemmas.{adds_then, unchanged_adds, opened, run_of, stands_for, area_bad, commands_bad}
+use Rattle.name_store.specs.Reading.{HeaderAnswer}
+use Rattle.name_store.proofs.FollowLaws.{fails_for, header_fails_for, opens_for}
 use Rattle.name_store.proofs.store.Store.open.Goals as goal
 
 pub returns-in_err-header-clause-untouched : goal.returns-in_err-header-clause-untouched
@@ -62,9 +64,11 @@ returns-clause-found g c =
     let begun = c.in_ok-header.ensures.begun in
     let reading = c.in_ok-reading.reading in
     let all = c.in_ok-reading.ensures.follows in
-    let of_is = c.of.ensures ∙ ap (λ (n : ℕ). record { index = reading.chain; host = header.host; area = n }) c.length-area.ensures in
-    (run_of header.base begun.text all.some.commands, subst (λ (s : Stored). StandsFor s (run_of header.base begun.text all.some.commands)) (sym of_is)
-    (stands_for g.D.Disk.tells header.base begun.text header.host (bytes_in (g.D.Disk.seen c.open_area.new.disk) 1) reading.chain reading.journal.length begun.begun begun.host_is all.some c.in_ok-reading.ensures.in_area.within))
+    let of_is = c.of.ensures ∙ ap (λ (n : ℕ). record { index = reading.chain; host = header.host; area = n }) c.length-area.ensures in (
+      run_of header.base begun.text all.some.commands,
+      subst (λ (s : Stored). StandsFor s (run_of header.base begun.text all.some.commands)) (sym of_is)
+          (stands_for g.D.Disk.tells header.base begun.text header.host (bytes_in (g.D.Disk.seen c.open_area.new.disk) 1) reading.chain reading.journal.length begun.begun begun.host_is all.some c.in_ok-reading.ensures.in_area.within),
+    )
 
 pub returns-clause-answer : goal.returns-clause-answer
 returns-clause-answer g c = λ told.
@@ -85,3 +89,31 @@ returns-clause-answer g c = λ told.
 pub returns-clause-untouched : goal.returns-clause-untouched
 returns-clause-untouched g c = λ tells.
     adds_then (adds_then (adds_then (c.sync_all.ensures.time tells) (unchanged_adds (c.read_header.ensures.time tells))) (unchanged_adds (c.open_area.ensures.time tells))) (unchanged_adds (c.follow_area.ensures.time tells))
+
+pub returns-in_err-header-clause-follows : goal.returns-in_err-header-clause-follows
+returns-in_err-header-clause-follows g c = λ told run stands.
+    let p = err_from_is_err_and c.from_residual-in_err-header.result c.from_residual-in_err-header.ensures.1 in
+    let old = bytes_in (g.D.Disk.seen c.args.disk.now) in
+    let fault = c.in_err-header.field-0.0 in
+    let answer = subst (λ (l : List ℕ). HeaderAnswer l (Err fault)) (c.in_ok-sync_all.ensures.same told).0 (c.in_err-header.ensures.answer told) in
+    header_fails_for old c.from_residual-in_err-header.result fault run (p.1 ∙ ap Err p.2) answer stands
+
+pub returns-in_err-journal-clause-follows : goal.returns-in_err-journal-clause-follows
+returns-in_err-journal-clause-follows g c = λ told run stands.
+    let p = err_from_is_err_and c.from_residual-in_err-journal.result c.from_residual-in_err-journal.ensures.1 in
+    let old = bytes_in (g.D.Disk.seen c.args.disk.now) in
+    fails_for old (g.D.Disk.seen c.open_area.new.disk).moments.now c.from_residual-in_err-journal.result c.in_err-journal.field-0.0 run (p.1 ∙ ap Err p.2) (returns-in_err-journal-clause-answer g c told) stands
+
+pub returns-in_err-reading-clause-follows : goal.returns-in_err-reading-clause-follows
+returns-in_err-reading-clause-follows g c = λ told run stands.
+    let p = err_from_is_err_and c.from_residual-in_err-reading.result c.from_residual-in_err-reading.ensures.1 in
+    let old = bytes_in (g.D.Disk.seen c.args.disk.now) in
+    fails_for old (g.D.Disk.seen c.follow_area.new.disk).moments.now c.from_residual-in_err-reading.result c.in_err-reading.field-0.0 run (p.1 ∙ ap Err p.2) (returns-in_err-reading-clause-answer g c told) stands
+
+pub returns-clause-follows : goal.returns-clause-follows
+returns-clause-follows g c = λ told run stands.
+    let old = bytes_in (g.D.Disk.seen c.args.disk.now) in
+    let new = (g.D.Disk.seen c.follow_area.new.disk).moments.now in
+    let since = last_moment (c.follow_area.ensures.time told) ∙ last_moment (c.open_area.ensures.time told) ∙ last_moment (c.read_header.ensures.time told) in
+    let same = c.in_ok-sync_all.ensures.same told in
+    opens_for old new c.of.result run (returns-clause-answer g c told) (ap (λ (files : Files). (files 0).bytes) since ∙ same.0) (ap (λ (files : Files). (files 1).bytes) since ∙ same.1) stands
