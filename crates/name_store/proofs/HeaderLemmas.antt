@@ -119,10 +119,14 @@ module _ (file : List ℕ) (byte : slice_index file 46 < 256) where
   pub answer_up : (result : Result Header OpenFault) → HeaderAnswer front result → HeaderAnswer file result
   answer_up (Ok header) is = (record { initialised = initialised_up is.0.initialised; fields = fields_up is.0.fields; shut = shut_up is.0.shut }, header_up header is.1)
   answer_up (Err Uninitialised) is = λ has. is (initialised_down has)
-  answer_up (Err (Damaged number at)) is = (is.0, initialised_up is.1, elim is.2 [
-    | inl bad ↦ inl (bad_field_up at bad)
-    | inr bad ↦ inr (bad_gate_up at bad)
-  ])
+  answer_up (Err (Damaged number at)) is = (
+    is.0,
+    initialised_up is.1,
+    elim is.2 [
+      | inl bad ↦ inl (bad_field_up at bad)
+      | inr bad ↦ inr (bad_gate_up at bad)
+    ],
+  )
   answer_up (Err DiskFault) is = tt
   answer_up (Err NoMemory) is = tt
 

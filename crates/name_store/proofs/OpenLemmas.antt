@@ -121,7 +121,7 @@ abbrev pub run_of : Base → List ℕ → List Command → RunState
 run_of base text commands = record { base = base; host = text; start = []; saved = []; since = commands; selections = 0 }
 
 module _ (tells : Bool) (base : Base) (text name area : List ℕ) (index : Indexed) (reached : ℕ) (begun : IsBegun base text) (host_is : IsHostOf text name) (some : HasFollowed tells (on_base base []) area index reached)
-      (within : reached ≤ longest_area) where
+    (within : reached ≤ longest_area) where
   is_run : IsRunState (run_of base text some.commands)
   is_run = record { begun = begun; start_is = refl; saved_is = refl; selections_is = refl; allowed = some.allowed; fits = omega (arith, some.reached_is, within) }
 

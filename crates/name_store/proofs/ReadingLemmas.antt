@@ -158,7 +158,7 @@ pub stepped_bad : (tells : Bool) (first : Chain) (seen : ℕ → List ℕ) (inde
 stepped_bad tells first seen index old new into more e is answer follows some at at_is told = (
   refl,
   subst (HasBadRecord first longest_area (seen 1)) (sym at_is)
-  (bad_command tells first (seen 1) index old.length some told into (record_there seen old new into more e is (answer told)) (follows (after_commands first some.commands) some.stands)),
+      (bad_command tells first (seen 1) index old.length some told into (record_there seen old new into more e is (answer told)) (follows (after_commands first some.commands) some.stands)),
 )
 
 -- ---- of the same bytes, where the disk tells them
