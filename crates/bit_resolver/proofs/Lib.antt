@@ -1,4 +1,0 @@
-pub mod PlaceLemmas
-pub mod WayLemmas
-pub mod ChaseLemmas
-pub mod AnswerLaws
