@@ -1,0 +1,24 @@
+-- What an index serves is what the chain serves that it stands for.
+use Rattle.std.proofs.Common.{◌≡◌, ◌+◌, List, ℕ, length, Option, ap, subst, ◌∙◌}
+use Rattle.nmc_base.specs.declared.chain_ends.Base.{Base}
+use Rattle.chain_names.specs.Log.{Log}
+use Rattle.chain_names.specs.Coins.{Maps}
+use Rattle.chain_names.specs.Index.{served_value}
+use Rattle.chain_names.specs.Tables.{names_in}
+use Rattle.chain_state.specs.Chain.{Indexed}
+use Rattle.chain_laws.specs.Standing.{StandsForChain, chain_maps}
+use Rattle.dns_message.specs.declared.numbers.TheConstants.{LEAST_LIMIT}
+use Rattle.bit_replies.specs.Replies.{MayReply}
+use Rattle.bit_answers.specs.Serving.{served_by, served_on, zone_at, MayReplyBy, MayReplyOn}
+
+module _ (base : Base) (start : Log) (blocks : List (List ℕ)) (c : Indexed) (s : StandsForChain base start blocks c) where
+  same_served : served_by c ≡ served_on base start blocks
+  same_served =
+      ap (λ (b : Base). served_value b.profile (names_in c.tables.names) c.tip.height) s.base_is
+      ∙ ap (λ (m : Maps). served_value base.profile m.names c.tip.height) s.maps
+      ∙ ap (served_value base.profile (chain_maps base start blocks).names) s.height
+
+  pub may_reply_on : (host bytes : List ℕ) (reply : Option (List ℕ)) → MayReplyBy c host bytes reply → MayReplyOn base start blocks host bytes reply
+  may_reply_on host bytes reply may =
+      subst (λ live. MayReply live (zone_at host (base.height + length blocks)) LEAST_LIMIT bytes reply) same_served
+      (subst (λ height. MayReply (served_by c) (zone_at host height) LEAST_LIMIT bytes reply) s.height may)

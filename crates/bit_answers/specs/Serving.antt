@@ -1,0 +1,33 @@
+-- What a chain serves, and the replies to messages from it.
+use Rattle.std.specs.Prelude.{ℕ, ◌+◌, List, length, Option}
+use Rattle.nmc_base.specs.declared.chain_ends.Base.{Base}
+use Rattle.chain_names.specs.Log.{Log, log_of}
+use Rattle.chain_names.specs.Coins.{history_of}
+use Rattle.chain_names.specs.Index.{served_value}
+use Rattle.chain_names.specs.Tables.{names_in}
+use Rattle.chain_state.specs.Chain.{Indexed}
+use Rattle.import_expand.specs.Sources.{Live}
+use Rattle.dns_message.specs.declared.numbers.TheConstants.{LEAST_LIMIT}
+use Rattle.bit_resolver.specs.declared.zone.Zone.{Zone}
+use Rattle.bit_replies.specs.Replies.{MayReply}
+
+-- the values that an index serves at its tip
+abbrev pub served_by : Indexed → Live
+served_by c = served_value c.base.profile (names_in c.tables.names) c.tip.height
+
+-- the values that a chain serves at its tip: of each name that of its entry in the chain's log, while it isn't expired
+abbrev pub served_on : Base → Log → List (List ℕ) → Live
+served_on base start blocks = served_value base.profile (history_of (log_of start base.height blocks)) (base.height + length blocks)
+
+-- the zone of a host, at a tip of this height
+abbrev pub zone_at : List ℕ → ℕ → Zone
+zone_at host height = record { host = host; serial = height }
+
+-- What a message over UDP may be answered with from an index (RFC 1035, 4.2.1).
+abbrev pub MayReplyBy : Indexed → List ℕ → List ℕ → Option (List ℕ) → Type 0
+MayReplyBy c host bytes reply = MayReply (served_by c) (zone_at host c.tip.height) LEAST_LIMIT bytes reply
+
+-- the same from a chain
+abbrev pub MayReplyOn : Base → Log → List (List ℕ) → List ℕ → List ℕ → Option (List ℕ) → Type 0
+MayReplyOn base start blocks host bytes reply =
+    MayReply (served_on base start blocks) (zone_at host (base.height + length blocks)) LEAST_LIMIT bytes reply

@@ -1,0 +1,12 @@
+//! Replies to DNS messages from the index of a chain.
+#![tactic(auto)]
+
+mod answering;
+mod served;
+
+pub use answering::answer;
+pub use bit_replies::Answered;
+pub use served::Served;
+
+#[cfg(test)]
+mod tests;

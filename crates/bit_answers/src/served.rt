@@ -1,0 +1,29 @@
+ghost use Rattle.std.specs.Prelude.{◌≡◌};
+ghost use Rattle.bit_answers.specs.Serving.{served_by};
+
+use chain_state::Chain;
+use import_expand::Names;
+
+/// The names that a chain serves: each with the value that it was given last, while that isn't expired at the tip. Whether its
+/// coin can still be spent doesn't matter.
+#[derive(Clone, Copy)]
+pub struct Served<'a> {
+    chain: &'a Chain,
+}
+
+impl<'a> Served<'a> {
+    /// The names that this chain serves.
+    pub fn of(chain: &'a Chain) -> Served<'a>
+        ensures { result.chain.now ≡ chain.now }
+    {
+        Served { chain }
+    }
+}
+
+impl<'a> Names for Served<'a> {
+    ghost served = { λ s. served_by s.chain.now };
+
+    fn live(&self, name: &[u8]) -> Option<&[u8]> {
+        self.chain.live(name)
+    }
+}

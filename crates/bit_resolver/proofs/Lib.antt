@@ -1,0 +1,4 @@
+pub mod PlaceLemmas
+pub mod WayLemmas
+pub mod ChaseLemmas
+pub mod AnswerLaws

@@ -1,0 +1,6 @@
+use Rattle.std.proofs.Common.{◌≡◌, ◌++◌, take}
+use Rattle.bit_resolver.specs.Rdata.{numbers16}
+use Rattle.bit_resolver.proofs.rdata.add_numbers16.Given as goal
+
+abbrev pub invariant-loop-number : goal.invariant-loop-number
+invariant-loop-number l = l.into ≡ l.initial.into ++ numbers16 (take l.number-index l.numbers)

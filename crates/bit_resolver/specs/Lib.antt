@@ -1,0 +1,7 @@
+pub mod Answers
+pub mod Ends
+pub mod Laws
+pub mod Nodes
+pub mod Places
+pub mod Rdata
+pub mod Way

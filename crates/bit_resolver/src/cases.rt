@@ -1,0 +1,238 @@
+//! What a node answers.
+
+ghost use Rattle.std.specs.Prelude.{◌≡◌, ◌≤◌, ◌++◌, drop, length, IfOk, OnOk, Some};
+ghost use Rattle.ifa_value.specs.Object.{members};
+ghost use Rattle.bit_resolver.specs.Places.{IsBelow, own_of, top_of};
+ghost use Rattle.bit_resolver.specs.Answers.{negative as negative_of, or_no_data as or_no_data_of, apex_records as apex_records_of, answered as answered_of, referral as referral_of, is_asked as is_asked_of, matching as matching_of, record_items, by_cname as by_cname_of, in_zone as in_zone_of, at_cut as at_cut_of, at_name as at_name_of, by_dname as by_dname_of, dname_of, replaced, by_value};
+ghost use Rattle.bit_resolver.specs.Ends.{seen_sections, seen_asked, seen_node, seen_below};
+
+use crate::node::{Node, type_of};
+use crate::place::{Below, name_before};
+use crate::resource::{Asked, Resource, Resources, Sections, add, alone};
+use crate::rr_type;
+use crate::way::{Walk, go_down};
+use crate::zone::Zone;
+use dns_message::rcode;
+use domain_text::Name;
+use ifa_value::{IfaObject, Key};
+use import_expand::Names;
+use nmc_base::NoMemory;
+use std::alloc::Global;
+
+/// Records with authority.
+pub(crate) fn answered(alloc: Global, answer: Resources) -> Sections
+    ensures { seen_sections result ≡ answered_of answer.items }
+{
+    Sections {
+        answer,
+        authority: Resources::new(alloc),
+        rcode: rcode::NOERROR,
+        aa: true,
+    }
+}
+
+/// No records, and the SOA in the authority section (RFC 2308, 2).
+pub(crate) fn negative(alloc: Global, zone: &Zone, rcode: u8) -> Result<Sections, NoMemory>
+    ensures { IfOk result (λ s. seen_sections s ≡ negative_of zone.now rcode) }
+{
+    let soa = zone.soa(alloc)?;
+    let authority = alone(alloc, soa)?;
+    Ok(Sections {
+        answer: Resources::new(alloc),
+        authority,
+        rcode,
+        aa: true,
+    })
+}
+
+/// The records, or that there are none.
+pub(crate) fn or_no_data(
+    alloc: Global,
+    zone: &Zone,
+    answer: Resources,
+) -> Result<Sections, NoMemory>
+    ensures { IfOk result (λ s. seen_sections s ≡ or_no_data_of zone.now answer.items) }
+{
+    if answer.len() == 0 {
+        return negative(alloc, zone, rcode::NOERROR);
+    }
+    Ok(answered(alloc, answer))
+}
+
+/// A referral to these name servers.
+fn referral(alloc: Global, authority: Resources) -> Sections
+    ensures { seen_sections result ≡ referral_of authority.items }
+{
+    Sections {
+        answer: Resources::new(alloc),
+        authority,
+        rcode: rcode::NOERROR,
+        aa: false,
+    }
+}
+
+/// The records of `bit.` of a type.
+pub(crate) fn apex_records(alloc: Global, zone: &Zone, kind: u16) -> Result<Resources, NoMemory>
+    ensures { IfOk result (λ v. v.items ≡ apex_records_of zone.now kind) }
+{
+    let mut found = Resources::new(alloc);
+    if kind == rr_type::SOA || kind == rr_type::ANY {
+        add(&mut found, zone.soa(alloc)?)?;
+    }
+    if kind == rr_type::NS || kind == rr_type::ANY {
+        add(&mut found, zone.ns(alloc)?)?;
+    }
+    Ok(found)
+}
+
+/// Whether the records of an item match a QTYPE.
+fn is_asked(kind: u16, key: Key) -> bool
+    ensures { result ≡ is_asked_of kind key }
+{
+    kind == rr_type::ANY || kind == type_of(key)
+}
+
+/// The records of these items that match a QTYPE.
+fn matching(alloc: Global, node: &Node, kind: u16, keys: &[Key]) -> Result<Resources, NoMemory>
+    ensures { IfOk result (λ v. v.items ≡ matching_of (seen_node node.now) kind keys.now) }
+{
+    let mut found = Resources::new(alloc);
+    for key in keys {
+        if is_asked(kind, *key) {
+            node.add_item(alloc, *key, &mut found)?;
+        }
+    }
+    Ok(found)
+}
+
+/// The records of a node that match a QTYPE.
+fn matching_any(alloc: Global, node: &Node, kind: u16) -> Result<Resources, NoMemory>
+    ensures { IfOk result (λ v. v.items ≡ matching_of (seen_node node.now) kind record_items) }
+{
+    let keys = [
+        Key::Ip,
+        Key::Mx,
+        Key::Txt,
+        Key::Ip6,
+        Key::Srv,
+        Key::Translate,
+        Key::Sshfp,
+        Key::Tls,
+    ];
+    matching(alloc, node, kind, &keys)
+}
+
+/// A CNAME record, and the name that is asked next unless the record itself is asked for.
+fn by_cname(alloc: Global, kind: u16, own: &Name, target: Name) -> Result<Asked, NoMemory>
+    ensures { IfOk result (λ a. seen_asked a ≡ by_cname_of kind own.now target) }
+{
+    let record = Resource::new(alloc, own, rr_type::CNAME, target.wire())?;
+    let found = alone(alloc, record)?;
+    if kind == rr_type::CNAME || kind == rr_type::ANY {
+        return Ok(Asked::Done(answered(alloc, found)));
+    }
+    Ok(Asked::Renamed(found, target))
+}
+
+/// What the node of a name answers that is no cut.
+fn in_zone(alloc: Global, zone: &Zone, node: &Node, kind: u16) -> Result<Asked, NoMemory>
+    ensures { IfOk result (λ a. seen_asked a ≡ in_zone_of zone.now (seen_node node.now) kind) }
+{
+    match node.target(alloc, Key::Alias)? {
+        None => {
+            let found = matching_any(alloc, node, kind)?;
+            Ok(Asked::Done(or_no_data(alloc, zone, found)?))
+        }
+        Some(target) => by_cname(alloc, kind, &node.own, target),
+    }
+}
+
+/// What a cut at the name itself answers: DS stands above the cut.
+fn at_cut(alloc: Global, zone: &Zone, node: &Node, kind: u16) -> Result<Sections, NoMemory>
+    ensures { IfOk result (λ s. seen_sections s ≡ at_cut_of zone.now (seen_node node.now) kind) }
+{
+    if kind == rr_type::DS {
+        let found = node.records(alloc, Key::Ds)?;
+        return or_no_data(alloc, zone, found);
+    }
+    let servers = node.records(alloc, Key::Ns)?;
+    Ok(referral(alloc, servers))
+}
+
+/// What the node of a name answers.
+fn at_name(alloc: Global, zone: &Zone, node: &Node, kind: u16) -> Result<Asked, NoMemory>
+    ensures { IfOk result (λ a. seen_asked a ≡ at_name_of zone.now (seen_node node.now) kind) }
+{
+    if node.is_cut(alloc)? {
+        return Ok(Asked::Done(at_cut(alloc, zone, node, kind)?));
+    }
+    in_zone(alloc, zone, node, kind)
+}
+
+/// A DNAME record, and the CNAME that it makes of a name, or that the new name is too long.
+fn by_dname(
+    alloc: Global,
+    dname: Resource,
+    own: &Name,
+    target: Option<Name>,
+) -> Result<Asked, NoMemory>
+    ensures { IfOk result (λ a. seen_asked a ≡ by_dname_of dname own.now target) }
+{
+    let mut found = alone(alloc, dname)?;
+    match target {
+        None => Ok(Asked::Done(Sections {
+            answer: found,
+            authority: Resources::new(alloc),
+            rcode: rcode::YXDOMAIN,
+            aa: true,
+        })),
+        Some(target) => {
+            let record = Resource::new(alloc, own, rr_type::CNAME, target.wire())?;
+            add(&mut found, record)?;
+            Ok(Asked::Renamed(found, target))
+        }
+    }
+}
+
+/// What a node answers that is moved to another name, so many labels above the name that is asked.
+fn moved(
+    alloc: Global,
+    name: &Below,
+    node: &Node,
+    left: usize,
+    target: &Name,
+) -> Result<Asked, NoMemory>
+    requires name { IsBelow (seen_below name.now) }
+    requires top { node.now.top ≡ top_of (seen_below name.now) }
+    requires left { left ≤ length name.now.path.items }
+    ensures { IfOk result (λ a. let b = seen_below name.now in
+        seen_asked a ≡ by_dname_of (dname_of node.now.own target.now) (own_of b b.path) (replaced b (drop left b.path) target.now)) }
+{
+    let dname = Resource::new(alloc, &node.own, rr_type::DNAME, target.wire())?;
+    let own = name.own_at(alloc, &node.top, 0)?;
+    let target = name_before(alloc, &name.path[..left], target)?;
+    by_dname(alloc, dname, &own, target)
+}
+
+/// What a name below `bit.` is answered with, whose value is this object.
+pub(crate) fn by_object<N: Names>(
+    alloc: Global,
+    names: &N,
+    zone: &Zone,
+    name: &Below,
+    object: IfaObject,
+    kind: u16,
+) -> Result<Asked, NoMemory>
+    requires { IsBelow (seen_below name.now) }
+    ensures { IfOk result (λ a. seen_asked a ≡ by_value (N.served names.now) zone.now (seen_below name.now) kind (Some (members object))) }
+{
+    match go_down(alloc, names, name, object)? {
+        Walk::Missing => Ok(Asked::Done(negative(alloc, zone, rcode::NXDOMAIN)?)),
+        Walk::Cut(node, _) => {
+            let servers = node.records(alloc, Key::Ns)?;
+            Ok(Asked::Done(referral(alloc, servers)))
+        }
+        Walk::Moved(node, left, target) => moved(alloc, name, &node, left, &target),
+        Walk::Arrived(node) => at_name(alloc, zone, &node, kind),
+    }
+}

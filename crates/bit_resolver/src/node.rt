@@ -1,0 +1,116 @@
+//! What the node of a name gives.
+
+ghost use Rattle.std.specs.Prelude.{◌≡◌, not, IfOk, OnOk, ◌++◌};
+ghost use Rattle.bit_resolver.specs.Nodes.{rdata_at, target_at, host_in as host_of, is_nil, type_of as type_number};
+ghost use Rattle.bit_resolver.specs.Answers.{records_at};
+ghost use Rattle.bit_resolver.specs.Ends.{seen_node};
+ghost use Rattle.ifa_value.specs.declared.item.Key.TheVariants.{Ns};
+
+use crate::rdata::{each, host_name};
+use crate::resource::{Resources, add_records};
+use crate::rr_type;
+use domain_text::Name;
+use ifa_value::{Element, Key};
+use import_expand::Sources;
+use nmc_base::{Bytes, NoMemory};
+use std::alloc::Global;
+
+/// A node: its domain name, that of the name right below `bit.`, and its sources.
+#[derive(Drop)]
+pub(crate) struct Node {
+    pub(crate) own: Name,
+    pub(crate) top: Name,
+    pub(crate) of: Sources,
+}
+
+/// The TYPE of the records that an item gives; 0, which is no TYPE, for those that give none.
+pub(crate) fn type_of(key: Key) -> u16
+    ensures { result ≡ type_number key }
+{
+    match key {
+        Key::Ip => rr_type::A,
+        Key::Ip6 => rr_type::AAAA,
+        Key::Ns => rr_type::NS,
+        Key::Alias => rr_type::CNAME,
+        Key::Translate => rr_type::DNAME,
+        Key::Ds => rr_type::DS,
+        Key::Tls => rr_type::TLSA,
+        Key::Sshfp => rr_type::SSHFP,
+        Key::Txt => rr_type::TXT,
+        Key::Srv => rr_type::SRV,
+        Key::Mx => rr_type::MX,
+        Key::Map => 0,
+        Key::Import => 0,
+    }
+}
+
+impl Node {
+    /// RDATA of each element of an item that isn't skipped at the node.
+    pub(crate) fn rdata(&self, alloc: Global, key: Key) -> Result<Vec<Bytes>, NoMemory>
+        ensures { IfOk result (λ v. v.items ≡ rdata_at key (seen_node self.now)) }
+    {
+        match self.of.first_with(key) {
+            None => Ok(Vec::new(alloc)),
+            Some(object) => {
+                let elements = object.elements(alloc, key)?;
+                each(alloc, &self.own, &self.top, elements.as_slice())
+            }
+        }
+    }
+
+    /// The name of a host element.
+    fn host_in(&self, element: &Element) -> Option<Name>
+        ensures { result ≡ host_of (seen_node self.now) element.now }
+    {
+        match element {
+            Element::Host(text) => host_name(&self.own, &self.top, text.as_slice()),
+            _ => None,
+        }
+    }
+
+    /// The name that `alias` or `translate` gives. None exactly where there is none, or it is skipped at the node.
+    pub(crate) fn target(&self, alloc: Global, key: Key) -> Result<Option<Name>, NoMemory>
+        ensures { IfOk result (λ o. o ≡ target_at key (seen_node self.now)) }
+    {
+        match self.of.first_with(key) {
+            None => Ok(None),
+            Some(object) => {
+                let elements = object.elements(alloc, key)?;
+                match elements.as_slice().first() {
+                    None => Ok(None),
+                    Some(element) => Ok(self.host_in(element)),
+                }
+            }
+        }
+    }
+
+    /// Whether other servers have authority over the node.
+    pub(crate) fn is_cut(&self, alloc: Global) -> Result<bool, NoMemory>
+        ensures { IfOk result (λ b. b ≡ not (is_nil (rdata_at Ns (seen_node self.now)))) }
+    {
+        let servers = self.rdata(alloc, Key::Ns)?;
+        Ok(servers.len() > 0)
+    }
+
+    /// Adds the records of an item.
+    pub(crate) fn add_item(
+        &self,
+        alloc: Global,
+        key: Key,
+        into: &mut Resources,
+    ) -> Result<(), NoMemory>
+        ensures { OnOk result (into.new.items ≡ into.old.items ++ records_at key (seen_node self.now)) }
+    {
+        let rdata = self.rdata(alloc, key)?;
+        add_records(alloc, &self.own, type_of(key), rdata.as_slice(), into)
+    }
+
+    /// The records of an item.
+    pub(crate) fn records(&self, alloc: Global, key: Key) -> Result<Resources, NoMemory>
+        ensures { IfOk result (λ v. v.items ≡ records_at key (seen_node self.now)) }
+    {
+        let mut found = Resources::new(alloc);
+        self.add_item(alloc, key, &mut found)?;
+        Ok(found)
+    }
+}

@@ -1,0 +1,173 @@
+//! Answers of questions.
+
+ghost use Rattle.std.specs.Prelude.{◌≡◌, IfOk};
+ghost use Rattle.std.specs.Option.{option_map};
+ghost use Rattle.domain_text.specs.Names.{IsName};
+ghost use Rattle.dns_message.specs.Query.{query_of};
+ghost use Rattle.ifa_value.specs.Object.{members};
+ghost use Rattle.bit_resolver.specs.Places.{IsPlace};
+ghost use Rattle.bit_resolver.specs.Answers.{value_of, asked_at, after_records as after_records_of, chase as chase_of, is_refused as is_refused_of, answer_at, answer_to};
+ghost use Rattle.bit_resolver.specs.Laws.{IsLawful};
+ghost use Rattle.bit_resolver.specs.Ends.{seen_place, seen_sections, seen_asked};
+ghost use Rattle.bit_resolver.specs.declared.limits.TheConstants.{MOST_CNAMES as GREATEST};
+
+use crate::cases::{answered, apex_records, by_object, negative, or_no_data};
+use crate::limits::{CLASS_IN, MOST_CNAMES};
+use crate::place::{Place, find_place, is_domain_label};
+use crate::resource::{Asked, Resources, Sections, add_all};
+use crate::rr_type;
+use crate::zone::Zone;
+use dns_message::{Question, rcode};
+use domain_text::Name;
+use ifa_value::{IfaObject, read_value};
+use import_expand::Names;
+use nmc_base::{Bytes, NoMemory};
+use std::alloc::Global;
+
+/// The object of the name `d/` and this label. None exactly where the label is no domain label, or the name isn't served.
+fn value<N: Names>(alloc: Global, names: &N, x: &[u8]) -> Result<Option<IfaObject>, NoMemory>
+    ensures { IfOk result (λ o. option_map members o ≡ value_of (N.served names.now) x.now) }
+{
+    if !is_domain_label(x) {
+        return Ok(None);
+    }
+    let mut name = Bytes::copy_of(alloc, b"d/")?;
+    name.extend(x)?;
+    match names.live(name.as_slice()) {
+        None => Ok(None),
+        Some(value) => Ok(Some(read_value(alloc, value)?)),
+    }
+}
+
+/// What one name is answered with.
+fn ask<N: Names>(
+    alloc: Global,
+    names: &N,
+    zone: &Zone,
+    kind: u16,
+    place: &Place,
+) -> Result<Asked, NoMemory>
+    requires { IsPlace (seen_place place.now) }
+    ensures { IfOk result (λ a. seen_asked a ≡ asked_at (N.served names.now) zone.now kind (seen_place place.now)) }
+{
+    match place {
+        Place::Outside => Ok(Asked::Done(answered(alloc, Resources::new(alloc)))),
+        Place::Apex => {
+            let found = apex_records(alloc, zone, kind)?;
+            Ok(Asked::Done(or_no_data(alloc, zone, found)?))
+        }
+        Place::Below(name) => match value(alloc, names, name.x.as_slice())? {
+            None => Ok(Asked::Done(negative(alloc, zone, rcode::NXDOMAIN)?)),
+            Some(object) => by_object(alloc, names, zone, name, object, kind),
+        },
+    }
+}
+
+/// An answer behind the records that were answered before.
+fn after_records(alloc: Global, before: Resources, last: Sections) -> Result<Sections, NoMemory>
+    ensures { IfOk result (λ s. seen_sections s ≡ after_records_of before.items (seen_sections last)) }
+{
+    let mut answer = before;
+    let some = answer.len() > 0;
+    add_all(alloc, last.answer.as_slice(), &mut answer)?;
+    Ok(Sections {
+        answer,
+        authority: last.authority,
+        rcode: last.rcode,
+        aa: last.aa || some,
+    })
+}
+
+/// Asks a name, and each name that it is renamed to.
+fn chase<N: Names>(
+    alloc: Global,
+    names: &N,
+    zone: &Zone,
+    kind: u16,
+    first: Place,
+) -> Result<Sections, NoMemory>
+    requires { IsPlace (seen_place first) }
+    ensures { IfOk result (λ s. seen_sections s ≡ chase_of (N.served names.now) zone.now kind GREATEST (seen_place first)) }
+{
+    let mut before = Resources::new(alloc);
+    let mut place = first;
+    let mut left = MOST_CNAMES;
+    while left > 0 {
+        match ask(alloc, names, zone, kind, &place)? {
+            Asked::Done(last) => return after_records(alloc, before, last),
+            Asked::Renamed(found, target) => {
+                add_all(alloc, found.as_slice(), &mut before)?;
+                place = find_place(alloc, &target)?;
+            }
+        }
+        left -= 1;
+    }
+    Ok(answered(alloc, before))
+}
+
+/// Whether a question is refused: it has another class, asks for a zone transfer, or its name isn't within `bit.`
+fn is_refused(kind: u16, class: u16, place: &Place) -> bool
+    ensures { result ≡ is_refused_of kind class (seen_place place.now) }
+{
+    class != CLASS_IN || kind == rr_type::IXFR || kind == rr_type::AXFR || place.is_outside()
+}
+
+/// The answer of a question whose name has this place.
+fn answer<N: Names>(
+    alloc: Global,
+    names: &N,
+    zone: &Zone,
+    kind: u16,
+    class: u16,
+    place: Place,
+) -> Result<Sections, NoMemory>
+    requires { IsPlace (seen_place place) }
+    ensures { IfOk result (λ s. seen_sections s ≡ answer_at (N.served names.now) zone.now kind class (seen_place place)) }
+{
+    if is_refused(kind, class, &place) {
+        return Ok(Sections {
+            answer: Resources::new(alloc),
+            authority: Resources::new(alloc),
+            rcode: rcode::REFUSED,
+            aa: false,
+        });
+    }
+    chase(alloc, names, zone, kind, place)
+}
+
+/// The answer of a question.
+fn answer_question<N: Names>(
+    alloc: Global,
+    names: &N,
+    zone: &Zone,
+    asked: &Question<'_>,
+) -> Result<Sections, NoMemory>
+    requires name { IsName asked.now.name.now }
+    ensures { IfOk result (λ s. seen_sections s ≡ answer_to (N.served names.now) zone.now (query_of asked.now)) }
+{
+    match Name::from_wire(asked.name) {
+        Some(name) => {
+            let place = find_place(alloc, &name)?;
+            answer(alloc, names, zone, asked.kind, asked.class, place)
+        }
+        None => unreachable!(),
+    }
+}
+
+/// The answer of a question (RFC 1034, 4.3.2): from the value of `d/x` for a name at or below `x.bit.`, from the zone
+/// itself for `bit.`, and REFUSED for any other name, another class than IN, and zone transfers.
+pub fn resolve<N: Names>(
+    alloc: Global,
+    names: &N,
+    zone: &Zone,
+    asked: &Question<'_>,
+) -> Result<Sections, NoMemory>
+    requires name { IsName asked.now.name.now }
+    // It is the definition's.
+    ensures answer { IfOk result (λ s. seen_sections s ≡ answer_to (N.served names.now) zone.now (query_of asked.now)) }
+    // Of each answer: why each record stands where it does, and that it has at most eight CNAME records.
+    ensures lawful { IfOk result (λ s. IsLawful asked.now.kind GREATEST (seen_sections s)) }
+{
+    let sections = answer_question(alloc, names, zone, asked)?;
+    Ok(sections)
+}

@@ -1,0 +1,159 @@
+//! RDATA of elements.
+
+ghost use Rattle.std.specs.Prelude.{◌≡◌, ◌++◌, ◌∷◌, [], option_map, IfOk, OnOk};
+ghost use Rattle.domain_text.specs.Host.{host_name as host_name_of};
+ghost use Rattle.std.specs.List.{flat_map};
+ghost use Rattle.ifa_value.specs.Elements.{alone};
+ghost use Rattle.bit_resolver.specs.Rdata.{rdata_of, numbers16, numbers32};
+
+use domain_text::{Name, read_host};
+use ifa_value::Element;
+use nmc_base::{Bytes, NoMemory};
+use std::alloc::Global;
+
+/// Appends numbers of 16 bits, the high byte first.
+pub(crate) fn add_numbers16(numbers: &[u16], into: &mut Bytes) -> Result<(), NoMemory>
+    ensures { OnOk result (into.new ≡ into.old ++ numbers16 numbers.now) }
+{
+    for number in numbers {
+        into.extend(&number.to_be_bytes())?;
+    }
+    Ok(())
+}
+
+/// Appends numbers of 32 bits, the high byte first.
+pub(crate) fn add_numbers32(numbers: &[u32], into: &mut Bytes) -> Result<(), NoMemory>
+    ensures { OnOk result (into.new ≡ into.old ++ numbers32 numbers.now) }
+{
+    for number in numbers {
+        into.extend(&number.to_be_bytes())?;
+    }
+    Ok(())
+}
+
+/// The name of a host text at a node of this domain name, below the name at the top. None exactly where the text is no
+/// host text, or its name would have more than 255 bytes.
+pub(crate) fn host_name(own: &Name, top: &Name, text: &[u8]) -> Option<Name>
+    ensures { result ≡ host_name_of own.now top.now text.now }
+{
+    let host = read_host(text)?;
+    host.at(own, top)
+}
+
+/// The name of a host text behind some numbers, where it has one.
+fn host_behind(
+    alloc: Global,
+    own: &Name,
+    top: &Name,
+    numbers: &[u16],
+    text: &[u8],
+) -> Result<Option<Bytes>, NoMemory>
+    ensures { IfOk result (λ o. o ≡ option_map (λ n. numbers16 numbers.now ++ n) (host_name_of own.now top.now text.now)) }
+{
+    match host_name(own, top, text) {
+        None => Ok(None),
+        Some(name) => {
+            let mut found = Bytes::new(alloc);
+            add_numbers16(numbers, &mut found)?;
+            found.extend(name.wire())?;
+            Ok(Some(found))
+        }
+    }
+}
+
+/// A digest behind some numbers.
+fn digest_behind(alloc: Global, front: &[u8], digest: &[u8]) -> Result<Bytes, NoMemory>
+    ensures { IfOk result (λ b. b ≡ front.now ++ digest.now) }
+{
+    let mut found = Bytes::copy_of(alloc, front)?;
+    found.extend(digest)?;
+    Ok(found)
+}
+
+/// RDATA of a delegation signer.
+fn ds(alloc: Global, tag: u16, front: &[u8], digest: &[u8]) -> Result<Bytes, NoMemory>
+    ensures { IfOk result (λ b. b ≡ numbers16 (tag ∷ []) ++ (front.now ++ digest.now)) }
+{
+    let mut found = Bytes::new(alloc);
+    add_numbers16(&[tag], &mut found)?;
+    found.extend(front)?;
+    found.extend(digest)?;
+    Ok(found)
+}
+
+/// RDATA of an element at a node. None exactly where the element is skipped there, or gives no record.
+pub(crate) fn rdata(
+    alloc: Global,
+    own: &Name,
+    top: &Name,
+    element: &Element,
+) -> Result<Option<Bytes>, NoMemory>
+    ensures { IfOk result (λ o. o ≡ rdata_of (host_name_of own.now top.now) element.now) }
+{
+    match element {
+        Element::Ip4(address) => Ok(Some(Bytes::copy_of(alloc, address)?)),
+        Element::Ip6(address) => Ok(Some(Bytes::copy_of(alloc, address)?)),
+        Element::Host(text) => host_behind(alloc, own, top, &[], text.as_slice()),
+        Element::Ds {
+            tag,
+            algorithm,
+            kind,
+            digest,
+        } => Ok(Some(ds(alloc, *tag, &[*algorithm, *kind], digest.as_slice())?)),
+        Element::Tls {
+            usage,
+            selector,
+            matching,
+            digest,
+        } => Ok(Some(digest_behind(alloc, &[*usage, *selector, *matching], digest.as_slice())?)),
+        Element::Sshfp {
+            algorithm,
+            kind,
+            digest,
+        } => Ok(Some(digest_behind(alloc, &[*algorithm, *kind], digest.as_slice())?)),
+        Element::Txt(strings) => Ok(Some(Bytes::copy_of(alloc, strings.as_slice())?)),
+        Element::Srv {
+            priority,
+            weight,
+            port,
+            host,
+        } => host_behind(
+            alloc,
+            own,
+            top,
+            &[*priority, *weight, *port],
+            host.as_slice(),
+        ),
+        Element::Mx { preference, host } => {
+            host_behind(alloc, own, top, &[*preference], host.as_slice())
+        }
+        Element::Import { .. } => Ok(None),
+    }
+}
+
+/// Adds what there is.
+fn keep(rdata: Option<Bytes>, found: &mut Vec<Bytes>) -> Result<(), NoMemory>
+    ensures { OnOk result (found.new.items ≡ found.old.items ++ alone rdata) }
+{
+    if let Some(rdata) = rdata {
+        found.push(rdata)?;
+    }
+    Ok(())
+}
+
+/// RDATA of each of the elements that isn't skipped.
+pub(crate) fn each(
+    alloc: Global,
+    own: &Name,
+    top: &Name,
+    elements: &[Element],
+) -> Result<Vec<Bytes>, NoMemory>
+    ensures { IfOk result (λ v. v.items ≡ flat_map (λ e. alone (rdata_of (host_name_of own.now top.now) e)) elements.now) }
+{
+    let mut found = Vec::new(alloc);
+    for element in elements {
+        let rdata = rdata(alloc, own, top, element)?;
+        keep(rdata, &mut found)?;
+    }
+    Ok(found)
+}

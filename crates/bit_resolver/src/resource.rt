@@ -1,0 +1,111 @@
+//! Records and answers.
+
+ghost use Rattle.std.specs.Prelude.{◌≡◌, ◌++◌, ◌∷◌, [], OnOk, IfOk};
+ghost use Rattle.bit_resolver.specs.Answers.{records_of};
+
+use domain_text::Name;
+use nmc_base::{Bytes, NoMemory, RoomyList};
+use std::alloc::Global;
+
+/// A record of class IN (RFC 1035, 3.2.1).
+#[derive(Drop)]
+pub struct Resource {
+    /// NAME, in lower case.
+    pub owner: Name,
+    /// TYPE.
+    pub kind: u16,
+    /// RDATA, whose numbers have their high byte first and whose names are written out.
+    pub rdata: Bytes,
+}
+
+/// A list of records.
+pub type Resources = RoomyList<Resource>;
+
+/// An answer.
+#[derive(Drop)]
+pub struct Sections {
+    /// The records that answer the question: CNAME and DNAME before those of the name that they lead to.
+    pub answer: Resources,
+    /// The name servers of a referral, or the SOA of a negative answer.
+    pub authority: Resources,
+    /// RCODE (RFC 1035, 4.1.1).
+    pub rcode: u8,
+    /// AA: the answer has authority (RFC 1035, 4.1.1).
+    pub aa: bool,
+}
+
+/// What one name is answered with: all, or the CNAME records and the name that is asked next.
+#[derive(Drop)]
+pub(crate) enum Asked {
+    Done(Sections),
+    Renamed(Resources, Name),
+}
+
+impl Resource {
+    /// A record of this owner and RDATA.
+    pub(crate) fn new(
+        alloc: Global,
+        owner: &Name,
+        kind: u16,
+        rdata: &[u8],
+    ) -> Result<Resource, NoMemory>
+        ensures { IfOk result (λ r. r ≡ record { owner = owner.now; kind = kind; rdata = rdata.now }) }
+    {
+        let rdata = Bytes::copy_of(alloc, rdata)?;
+        Ok(Resource {
+            owner: owner.copy(),
+            kind,
+            rdata,
+        })
+    }
+}
+
+/// Adds a record.
+pub(crate) fn add(into: &mut Resources, resource: Resource) -> Result<(), NoMemory>
+    ensures { OnOk result (into.new.items ≡ into.old.items ++ resource ∷ []) }
+{
+    into.reserve(1)?;
+    into.push(resource);
+    Ok(())
+}
+
+/// Adds a record of each RDATA.
+pub(crate) fn add_records(
+    alloc: Global,
+    owner: &Name,
+    kind: u16,
+    rdata: &[Bytes],
+    into: &mut Resources,
+) -> Result<(), NoMemory>
+    ensures { OnOk result (into.new.items ≡ into.old.items ++ records_of owner.now kind rdata.now) }
+{
+    for data in rdata {
+        let resource = Resource::new(alloc, owner, kind, data.as_slice())?;
+        add(into, resource)?;
+    }
+    Ok(())
+}
+
+/// Adds the same records again.
+pub(crate) fn add_all(
+    alloc: Global,
+    from: &[Resource],
+    into: &mut Resources,
+) -> Result<(), NoMemory>
+    ensures { OnOk result (into.new.items ≡ into.old.items ++ from.now) }
+{
+    for record in from {
+        let resource = Resource::new(alloc, &record.owner, record.kind, record.rdata.as_slice())?;
+        add(into, resource)?;
+    }
+    Ok(())
+}
+
+/// A list of one record.
+pub(crate) fn alone(alloc: Global, resource: Resource) -> Result<Resources, NoMemory>
+    ensures { IfOk result (λ v. v.items ≡ resource ∷ []) }
+{
+    let mut found = Resources::new(alloc);
+    add(&mut found, resource)?;
+    Ok(found)
+}
