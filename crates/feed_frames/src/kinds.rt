@@ -8,11 +8,14 @@ pub struct Kind {
     pub greatest: usize,
 }
 
+/// No message of DNS is longer: its length has 16 bits (RFC 1035, 4.2.2).
+pub const LONGEST_MESSAGE: usize = 65_535;
+
 /// No kind of frame has a longer payload.
 pub const LONGEST_PAYLOAD: usize = LONGEST_BLOCK;
 
 /// The kinds of frames that are read. A kind that is to be read too is one row more.
-pub const KINDS: [Kind; 2] = [
+pub const KINDS: [Kind; 3] = [
     // a block that is to join the chain
     Kind {
         byte: 1,
@@ -24,5 +27,11 @@ pub const KINDS: [Kind; 2] = [
         byte: 2,
         least: 32,
         greatest: 32,
+    },
+    // a message of DNS, which is to be answered
+    Kind {
+        byte: 3,
+        least: 0,
+        greatest: LONGEST_MESSAGE,
     },
 ];

@@ -8,7 +8,7 @@ mod law;
 mod reader;
 
 pub use frame::Frame;
-pub use kinds::{KINDS, Kind, LONGEST_PAYLOAD};
+pub use kinds::{KINDS, Kind, LONGEST_MESSAGE, LONGEST_PAYLOAD};
 pub use law::{any_pieces, one_splitting};
 pub use reader::{BadFrame, Frames, PIECE};
 

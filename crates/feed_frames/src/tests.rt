@@ -79,7 +79,7 @@ fn tells(rt: &impl Abort, alloc: Global, bytes: &[u8], want: &[u8]) -> Result<()
 fn a_bad_frame_is_answered_again(rt: HostRuntime) -> Result<(), Fail> {
     let alloc = rt.alloc();
     tells(&rt, alloc, &[7], &[b'!', 0, b'!', 0, b'!', 0])?;
-    tells(&rt, alloc, &[3, 32, 0, 0, 0], &[b'!', 0, b'!', 0, b'!', 0])?;
+    tells(&rt, alloc, &[3, 0, 0, 1, 0], &[b'!', 0, b'!', 0, b'!', 0])?;
     tells(
         &rt,
         alloc,
@@ -97,6 +97,7 @@ fn a_part_of_a_frame_is_none(rt: HostRuntime) -> Result<(), Fail> {
     tells(&rt, alloc, &[1, 0xff, 0xff, 0xff], b"...")?;
     tells(&rt, alloc, &[2, 33], b"...")?;
     tells(&rt, alloc, &[1, 0, 0, 0x80, 0], b"...")?;
+    tells(&rt, alloc, &[3, 255, 255, 0, 0], b"...")?;
     tells(&rt, alloc, &[1, 0, 0, 0, 0], &[1, b'.', b'.'])
 }
 

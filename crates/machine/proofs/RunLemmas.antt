@@ -3,7 +3,7 @@ use Rattle.std.proofs.Common.{◌≡◌, ◌==◌, if◌then◌else◌, true, fa
 use Rattle.std.proofs.lemmas.Bool.{ne_eqb}
 use Rattle.block_grammar.specs.Block.{block_hash}
 use Rattle.machine.specs.Chain.{Chain, with_block}
-use Rattle.machine.specs.Event.{Command, Connect, Disconnect, Event, Do}
+use Rattle.machine.specs.Event.{Command, Connect, Disconnect, Event, Do, Ask}
 use Rattle.machine.specs.RunState.{RunState, chain_of, IsFull, accepted, all_accepted, after_command}
 use Rattle.feed_frames.specs.Replies.{Reply}
 use Rattle.machine.specs.Refusals.{accepts, declines, lacks_memory}
@@ -36,6 +36,7 @@ Stepped old event = (reply : Reply) × (new : RunState) × Step old event reply 
 pub decided_step : (old : RunState) (event : Event) (one two : Stepped old event) → one.0.code ≡ two.0.code → one.1 ≡ two.1
 decided_step old (Do (Connect block)) one two e = decided connects (Holds (IsFull old (Connect block)) (chain_of old) block) old (accepted old (Connect block)) coded one two e
 decided_step old (Do (Disconnect hash)) one two e = decided disconnects (HoldsBack (IsFull old (Disconnect hash)) (chain_of old) hash) old (accepted old (Disconnect hash)) coded_back one two e
+decided_step old (Ask message) (reply, new, one) (answer, other, two) e = one.unchanged ∙ sym two.unchanged
 
 -- ---- the surviving chain
 
@@ -95,6 +96,8 @@ run_state old new [] (r ∷ replies) run = absurd run
 run_state old new (e ∷ events) [] run = absurd run
 run_state old new (Do command ∷ events) (r ∷ replies) (mid, step, more) =
     state_after old mid new command r (accepted_of events replies) (step_leaves old mid command r step) (run_state mid new events replies more)
+run_state old new (Ask message ∷ events) (r ∷ replies) (mid, step, more) =
+    run_state mid new events replies more ∙ ap (λ (run : RunState). all_accepted run (accepted_of events replies)) step.unchanged
 
 chain_after : (old mid new : RunState) (command : Command) (reply : Reply) (later : List Command) → Leaves old command reply mid
     → Surviving (chain_of mid) later (chain_of new) → Surviving (chain_of old) (accepted_first command reply later) (chain_of new)
@@ -107,6 +110,8 @@ run_survives old new [] (r ∷ replies) run = absurd run
 run_survives old new (e ∷ events) [] run = absurd run
 run_survives old new (Do command ∷ events) (r ∷ replies) (mid, step, more) =
     chain_after old mid new command r (accepted_of events replies) (step_leaves old mid command r step) (run_survives mid new events replies more)
+run_survives old new (Ask message ∷ events) (r ∷ replies) (mid, step, more) =
+    subst (λ (run : RunState). Surviving (chain_of run) (accepted_of events replies) (chain_of new)) step.unchanged (run_survives mid new events replies more)
 
 -- ---- disconnecting is forgetting
 

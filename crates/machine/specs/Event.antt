@@ -11,8 +11,11 @@ pub data Command : Type 0 where
 
 pub data Event : Type 0 where
   Do : Command → Event
+  -- a message of DNS that is to be answered
+  Ask : List ℕ → Event
 
 -- each kind of frame is one kind of event
 abbrev pub frame_of : Event → Frame
 frame_of (Do (Connect block)) = record { kind = 1; payload = block }
 frame_of (Do (Disconnect hash)) = record { kind = 2; payload = hash }
+frame_of (Ask message) = record { kind = 3; payload = message }

@@ -5,5 +5,6 @@ pub mod Reply
 pub mod Refusals
 pub mod Connecting
 pub mod Disconnecting
+pub mod Querying
 pub mod Step
 pub mod Surviving

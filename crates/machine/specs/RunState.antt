@@ -1,8 +1,7 @@
 -- What the machine knows: where it started, and the commands that it accepted.
-use Rattle.std.specs.Prelude.{ℕ, ◌+◌, ◌<◌, ◌^◌, List, [], ◌∷◌, ◌++◌, length, replicate, codes}
+use Rattle.std.specs.Prelude.{ℕ, ◌+◌, ◌<◌, ◌^◌, List, [], ◌∷◌, ◌++◌, length}
 use Rattle.chain_names.specs.Log.{Log}
 use Rattle.nmc_base.specs.declared.chain_ends.Base.{Base}
-use Rattle.nmc_base.specs.declared.chain_ends.Profile.TheVariants.{Regtest}
 use Rattle.machine.specs.Chain.{Chain, with_block, without_newest}
 use Rattle.machine.specs.Event.{Command, Connect, Disconnect}
 
@@ -75,11 +74,3 @@ accepted run command = record {
 abbrev pub all_accepted : RunState → List Command → RunState
 all_accepted run [] = run
 all_accepted run (command ∷ commands) = all_accepted (accepted run command) commands
-
--- a regression-test chain from its very beginning
-abbrev pub regtest_base : Base
-regtest_base = record { profile = Regtest; height = 0; hash = record { 0 = replicate 32 0 } }
-
--- what a replay starts from while there are no files
-abbrev pub first_state : RunState
-first_state = record { base = regtest_base; host = codes "ns.example."; start = []; saved = []; since = []; selections = 0 }

@@ -1,15 +1,17 @@
 -- One step of the machine, and runs of steps.
 use Rattle.std.specs.Prelude.{◌≡◌, List, [], ◌∷◌}
-use Rattle.machine.specs.Event.{Event, Connect, Disconnect, Do}
+use Rattle.machine.specs.Event.{Event, Connect, Disconnect, Do, Ask}
 use Rattle.machine.specs.RunState.{RunState}
 use Rattle.feed_frames.specs.Replies.{Reply}
 use Rattle.machine.specs.Connecting.{Connects}
 use Rattle.machine.specs.Disconnecting.{Disconnects}
+use Rattle.machine.specs.Querying.{Queries}
 
 -- from the old state the machine may give this reply to the event and go on to the new state
 abbrev pub Step : RunState → Event → Reply → RunState → Type 0
 Step old (Do (Connect block)) reply new = Connects old block reply new
 Step old (Do (Disconnect hash)) reply new = Disconnects old hash reply new
+Step old (Ask message) reply new = Queries old message reply new
 
 -- the machine may give these replies to these events, one step after another
 abbrev pub Run : RunState → List Event → List Reply → RunState → Type 0

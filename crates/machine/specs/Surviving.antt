@@ -1,7 +1,7 @@
 -- The chain that commands leave, whoever answered them.
 use Rattle.std.specs.Prelude.{◌≡◌, List, [], ◌∷◌, ◌==◌, if◌then◌else◌}
 use Rattle.machine.specs.Chain.{Chain}
-use Rattle.machine.specs.Event.{Command, Connect, Disconnect, Event, Do}
+use Rattle.machine.specs.Event.{Command, Connect, Disconnect, Event, Do, Ask}
 use Rattle.machine.specs.RunState.{after_command}
 use Rattle.feed_frames.specs.Replies.{Reply}
 use Rattle.machine.specs.Refusals.{Refusals, IsFirst, HasNoneBelow}
@@ -23,9 +23,10 @@ abbrev pub Surviving : Chain → List Command → Chain → Type 0
 Surviving old [] new = new ≡ old
 Surviving old (command ∷ commands) new = (mid : Chain) × SurvivesCommand old command mid × Surviving mid commands new
 
--- the commands whose reply has code 0
+-- the commands whose reply has code 0; a query is none
 abbrev pub accepted_of : List Event → List Reply → List Command
 accepted_of [] replies = []
 accepted_of (event ∷ events) [] = []
 accepted_of (Do command ∷ events) (reply ∷ replies) =
     if reply.code == 0 then command ∷ accepted_of events replies else accepted_of events replies
+accepted_of (Ask message ∷ events) (reply ∷ replies) = accepted_of events replies
