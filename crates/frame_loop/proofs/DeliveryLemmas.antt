@@ -1,5 +1,6 @@
 -- A text that is given to a sink, write by write.
-use Rattle.std.proofs.Common.{◌≡◌, ℕ, ◌<◌, List, [], ◌++◌, length, take, drop, refl, sym, ap, subst, ◌∙◌, append_assoc}
+use Rattle.std.proofs.Common.{◌≡◌, ◌⊎◌, inl, inr, ℕ, ◌<◌, List, [], ◌++◌, length, take, drop, refl, sym, ap, subst, ◌∙◌, append_assoc}
+use Rattle.std.specs.Prelude.{Result, Ok, Err}
 use Rattle.std.proofs.lemmas.List.{append-nil, take-append-drop, nil_from_length}
 use Rattle.std.specs.Io.KnownBytes.{Appends}
 use Rattle.fault_counts.specs.Faults.{NeverFell}
@@ -7,7 +8,7 @@ use Rattle.fault_counts.proofs.FaultLemmas.{NeverFell_refl, NeverFell_trans, sta
 use Rattle.byte_io.specs.Sink.{SinkSeen, WritesSome, WriteFails}
 use Rattle.byte_io.proofs.SinkLemmas.{Appends_nothing, Appends_append, Appends_kept}
 use Rattle.frame_loop.specs.Causes.{SinkCause, failing, stalling}
-use Rattle.frame_loop.specs.Delivery.{TookAll, TookPart}
+use Rattle.frame_loop.specs.Delivery.{TookAll, TookPart, TookUpTo, Delivers}
 
 -- the sink took what stands before the rest
 pub record Delivering (old now : SinkSeen) (text rest : List ℕ) : Type 0 where
@@ -74,3 +75,27 @@ stalls old mid new text rest d some w = stops old mid new text rest d some (reco
 pub fails : (old mid new : SinkSeen) (text rest : List ℕ) → Delivering old mid text rest → 0 < length rest → WriteFails mid new → TookPart old new text
 fails old mid new text rest d some f =
     stops old mid new text rest d some (record { nothing = Appends_kept mid.taken new.taken f.kept; later = f.later; cause = failing f.failed f.rose })
+
+-- whatever came of it, the sink took the text or failed at it
+pub took_up_to : {E : Type 0} (old new : SinkSeen) (text : List ℕ) (r : Result (Unit {0}) E) → Delivers old new text r → TookUpTo old new text
+took_up_to old new text (Ok done) d = record {
+  part = text;
+  missing = [];
+  text_is = sym (append-nil text);
+  whole = inl refl;
+  took = d.took;
+  later = d.later;
+}
+took_up_to old new text (Err e) d = record {
+  part = d.part;
+  missing = d.missing;
+  text_is = d.text_is;
+  whole = inr d.cause;
+  took = d.took;
+  later = d.later;
+}
+
+-- a cause of the last stretch is one of the whole
+pub whole_since : (old mid new : SinkSeen) {P : Type 0} → NeverFell old.faults mid.faults → P ⊎ SinkCause mid new → P ⊎ SinkCause old new
+whole_since old mid new later (inl whole) = inl whole
+whole_since old mid new later (inr cause) = inr (since old mid new later cause)

@@ -1,6 +1,8 @@
 -- Frames that are answered one after the other.
 use Rattle.std.proofs.Common.{◌≡◌, ℕ, ◌<◌, List, [], ◌∷◌, ◌++◌, length, refl, sym, ap, subst, ◌∙◌, append_assoc, length-append, arith}
 use Rattle.std.proofs.lemmas.List.{append-nil, flat_map_more}
+use Rattle.fault_counts.specs.Faults.{NeverFell}
+use Rattle.frame_loop.specs.Causes.{SinkCause}
 use Rattle.fault_counts.proofs.FaultLemmas.{NeverFell_refl, NeverFell_trans}
 use Rattle.byte_io.specs.Sink.{SinkSeen}
 use Rattle.byte_io.proofs.SinkLemmas.{Appends_nothing, Appends_append}
@@ -9,11 +11,11 @@ use Rattle.feed_frames.specs.Feed.{Feed, Takes, Waits, Sticks}
 use Rattle.feed_frames.specs.Replies.{Reply, reply_text}
 use Rattle.feed_frames.proofs.SplittingLemmas.{partial_is_shorter, splits_push, length-frame_text}
 use Rattle.frame_loop.specs.Turns.{GoesOn, GoesOut}
-use Rattle.frame_loop.specs.Delivery.{TookAll, TookPart}
+use Rattle.frame_loop.specs.Delivery.{TookAll, TookPart, TookUpTo}
 use Rattle.frame_loop.specs.Answering.{SoFar, Interrupted, BrokenOff, Desk, desk, fed_to, IsBehind, Advances, none, some, Leads, Continues, HaltsAtPart, HaltsAtBad, Breaks, EndsThere, AnswersOne, AnswersAll}
 use Rattle.frame_loop.specs.declared.answering.Halted.{Halted}
 use Rattle.frame_loop.specs.declared.answering.Halted.TheVariants.{Partial, Bad, Undelivered, Ended}
-use Rattle.frame_loop.proofs.DeliveryLemmas.{since}
+use Rattle.frame_loop.proofs.DeliveryLemmas.{since, whole_since}
 
 -- no frame was answered
 pub stays : {Start X : Type 0} (Reached : Start → List Frame → List Reply → X → Type 0) (old : Desk X) → Continues Reached old old
@@ -47,9 +49,9 @@ split_one : (read : List ℕ) (frames : List Frame) (old new : Feed) (frame : Fr
 split_one read frames old new frame t s = splits_push read frames frame new.left t.framed (subst (λ (q : List ℕ). Splits read frames q) t.whole s)
 
 -- a frame was answered and its reply given to the sink
-pub answered_one : {Start X : Type 0} (Reached : Start → List Frame → List Reply → X → Type 0) (old new : Desk X) (frame : Frame) (reply : Reply)
-    → Takes old.feed frame new.feed → GoesOn Reached old.now frame reply new.now → TookAll old.sink new.sink (reply_text reply) → AnswersOne Reached old new
-answered_one Reached old new frame reply t turn took = record {
+pub answered_one : {Start X : Type 0} (Ready : X → Type 0) (Reached : Start → List Frame → List Reply → X → Type 0) (old new : Desk X) (frame : Frame) (reply : Reply)
+    → Takes old.feed frame new.feed → GoesOn Ready Reached old.now frame reply new.now → TookAll old.sink new.sink (reply_text reply) → AnswersOne Ready Reached old new
+answered_one Ready Reached old new frame reply t turn took = record {
   continues = record {
     later = took.later;
     fed = fed_after old.feed new.feed frame t;
@@ -66,14 +68,15 @@ answered_one Reached old new frame reply t turn took = record {
       };
     };
   };
+  ready = turn.ready;
   behind = behind_one old.feed new.feed frame t;
   less = less_one old.feed new.feed frame t;
 }
 
 -- a frame was answered, and the sink didn't take its whole reply
-pub broke : {Start X : Type 0} (Reached : Start → List Frame → List Reply → X → Type 0) (old new : Desk X) (frame : Frame) (reply : Reply)
-    → Takes old.feed frame new.feed → GoesOn Reached old.now frame reply new.now → TookPart old.sink new.sink (reply_text reply) → Breaks Reached old new
-broke Reached old new frame reply t turn took = record {
+pub broke : {Start X : Type 0} (Ready : X → Type 0) (Reached : Start → List Frame → List Reply → X → Type 0) (old new : Desk X) (frame : Frame) (reply : Reply)
+    → Takes old.feed frame new.feed → GoesOn Ready Reached old.now frame reply new.now → TookPart old.sink new.sink (reply_text reply) → Breaks Reached old new
+broke Ready Reached old new frame reply t turn took = record {
   leads = record {
     later = took.later;
     fed = fed_after old.feed new.feed frame t;
@@ -99,38 +102,61 @@ broke Reached old new frame reply t turn took = record {
   cause = took.cause;
 }
 
--- a frame led to the end of the run
-pub ended : {Start X : Type 0} (Reached Broken : Start → List Frame → List Reply → X → Type 0) (old : Desk X) (feed : Feed) (frame : Frame) (now : X)
-    → Takes old.feed frame feed → GoesOut Reached Broken old.now frame now → EndsThere Reached Broken old (desk old.sink feed now)
-ended Reached Broken old feed frame now t turn = record {
+-- a frame led to the end of the run, and its reply was given to the sink, as much as it took
+pub ended : {Start X : Type 0} (Reached Broken : Start → List Frame → List Reply → X → Type 0) (old new : Desk X) (frame : Frame) (reply : Reply)
+    → Takes old.feed frame new.feed → GoesOut Reached Broken old.now frame reply new.now → TookUpTo old.sink new.sink (reply_text reply) → EndsThere Reached Broken old new
+ended Reached Broken old new frame reply t turn took = record {
   leads = record {
-    later = NeverFell_refl old.sink.faults;
-    fed = fed_after old.feed feed frame t;
-    advances = some (behind_one old.feed feed frame t);
+    later = took.later;
+    fed = fed_after old.feed new.feed frame t;
+    advances = some (behind_one old.feed new.feed frame t);
     leads = λ start read written s. record {
-      more = [];
-      took = Appends_nothing old.sink.taken;
+      more = took.part;
+      took = took.took;
       then = record {
         frames = s.frames ++ frame ∷ [];
         replies = s.replies;
-        split = split_one read s.frames old.feed feed frame t s.split;
+        last = reply;
+        split = split_one read s.frames old.feed new.feed frame t s.split;
         broken = turn.goes_out start s.frames s.replies s.reached;
-        told = append-nil written ∙ s.told;
+        part = took.part;
+        missing = took.missing;
+        last_is = took.text_is;
+        whole = took.whole;
+        told = ap (λ (w : List ℕ). w ++ took.part) s.told;
       };
     };
   };
-  behind = behind_one old.feed feed frame t;
+  behind = behind_one old.feed new.feed frame t;
 }
 
 -- no whole frame is left
-pub waits : {Start X : Type 0} (Reached : Start → List Frame → List Reply → X → Type 0) (old : Desk X) (feed : Feed) → Waits old.feed feed → HaltsAtPart Reached old (desk old.sink feed old.now)
-waits Reached old feed w = subst (λ (f : Feed). HaltsAtPart Reached old (desk old.sink f old.now)) (sym w.same) (record { continues = stays Reached old; partial = w.partial })
+pub waits : {Start X : Type 0} (Ready : X → Type 0) (Reached : Start → List Frame → List Reply → X → Type 0) (old : Desk X) (feed : Feed) → Ready old.now → Waits old.feed feed
+    → HaltsAtPart Ready Reached old (desk old.sink feed old.now)
+waits Ready Reached old feed ready w =
+    subst (λ (f : Feed). HaltsAtPart Ready Reached old (desk old.sink f old.now)) (sym w.same) (record { continues = stays Reached old; ready = ready; partial = w.partial })
 
 -- what is left begins no frame
 pub sticks : {Start X : Type 0} (Reached : Start → List Frame → List Reply → X → Type 0) (old : Desk X) (feed : Feed) (offset : ℕ) → Sticks old.feed feed offset → HaltsAtBad Reached old (desk old.sink feed old.now) offset
 sticks Reached old feed offset w = subst (λ (f : Feed). HaltsAtBad Reached old (desk old.sink f old.now) offset) (sym w.same) (record { continues = stays Reached old; bad = w.bad; offset_is = w.offset_is })
 
 -- ---- one after the other
+
+-- what failed in the last stretch failed in the whole
+pub failed_since : {X : Type 0} (old mid new : SinkSeen) {Broken : List Frame → List Reply → X → Type 0} {read rest written : List ℕ} {now : X} → NeverFell old.faults mid.faults
+    → BrokenOff (SinkCause mid new) Broken read rest written now → BrokenOff (SinkCause old new) Broken read rest written now
+failed_since old mid new later b = record {
+  frames = b.frames;
+  replies = b.replies;
+  last = b.last;
+  split = b.split;
+  broken = b.broken;
+  part = b.part;
+  missing = b.missing;
+  last_is = b.last_is;
+  whole = whole_since old mid new later b.whole;
+  told = b.told;
+}
 
 behind_then : (a b c : List ℕ) → IsBehind a b → IsBehind b c → IsBehind a c
 behind_then a b c first second = record {
@@ -165,31 +191,46 @@ then_leads Reached After a b c first second = record {
       };
 }
 
-pub one_more : {Start X : Type 0} (Reached : Start → List Frame → List Reply → X → Type 0) (a b c : Desk X) → Continues Reached a b → AnswersOne Reached b c → Continues Reached a c
-one_more Reached a b c first second = then_leads Reached (λ start. SoFar (Reached start)) a b c first second.continues
+pub one_more : {Start X : Type 0} (Ready : X → Type 0) (Reached : Start → List Frame → List Reply → X → Type 0) (a b c : Desk X)
+    → Continues Reached a b → AnswersOne Ready Reached b c → Continues Reached a c
+one_more Ready Reached a b c first second = then_leads Reached (λ start. SoFar (Reached start)) a b c first second.continues
+
+-- the last reply failed within the last stretch, and so within the whole
+broken_since : {Start X : Type 0} (Reached Broken : Start → List Frame → List Reply → X → Type 0) (a b c : Desk X) → NeverFell a.sink.faults b.sink.faults
+    → Leads Reached (λ start. BrokenOff (SinkCause b.sink c.sink) (Broken start)) b c → Leads Reached (λ start. BrokenOff (SinkCause a.sink c.sink) (Broken start)) b c
+broken_since Reached Broken a b c later second = record {
+  later = second.later;
+  fed = second.fed;
+  advances = second.advances;
+  leads = λ start read written s.
+      let g = second.leads start read written s in
+      record { more = g.more; took = g.took; then = failed_since a.sink b.sink c.sink later g.then };
+}
 
 -- a sink, and the bytes that aren't answered
 pub record Beside : Type 0 where
   pub sink : SinkSeen
   pub feed : Feed
 
-pub finishes : {Start X : Type 0} (Reached Broken : Start → List Frame → List Reply → X → Type 0) (a b : Desk X) (end : Beside) (halted : Halted X)
-    → Continues Reached a b → AnswersAll Reached Broken b end.sink end.feed halted → AnswersAll Reached Broken a end.sink end.feed halted
-finishes Reached Broken a b end (Partial now) first second = record {
+pub finishes : {Start X : Type 0} (Ready : X → Type 0) (Reached Broken : Start → List Frame → List Reply → X → Type 0) (a b : Desk X) (end : Beside) (halted : Halted X)
+    → Continues Reached a b → AnswersAll Ready Reached Broken b end.sink end.feed halted → AnswersAll Ready Reached Broken a end.sink end.feed halted
+finishes Ready Reached Broken a b end (Partial now) first second = record {
   continues = then_leads Reached (λ start. SoFar (Reached start)) a b (desk end.sink end.feed now) first second.continues;
+  ready = second.ready;
   partial = second.partial;
 }
-finishes Reached Broken a b end (Bad now offset) first second = record {
+finishes Ready Reached Broken a b end (Bad now offset) first second = record {
   continues = then_leads Reached (λ start. SoFar (Reached start)) a b (desk end.sink end.feed now) first second.continues;
   bad = second.bad;
   offset_is = second.offset_is;
 }
-finishes Reached Broken a b end (Undelivered now) first second = record {
+finishes Ready Reached Broken a b end (Undelivered now) first second = record {
   leads = then_leads Reached (λ start. Interrupted (Reached start)) a b (desk end.sink end.feed now) first second.leads;
   behind = advances_then_behind a.feed.left b.feed.left end.feed.left first.advances second.behind;
   cause = since a.sink b.sink end.sink first.later second.cause;
 }
-finishes Reached Broken a b end (Ended now) first second = record {
-  leads = then_leads Reached (λ start. BrokenOff (Broken start)) a b (desk end.sink end.feed now) first second.leads;
+finishes Ready Reached Broken a b end (Ended now) first second = record {
+  leads = then_leads Reached (λ start. BrokenOff (SinkCause a.sink end.sink) (Broken start)) a b (desk end.sink end.feed now) first
+      (broken_since Reached Broken a b (desk end.sink end.feed now) first.later second.leads);
   behind = advances_then_behind a.feed.left b.feed.left end.feed.left first.advances second.behind;
 }

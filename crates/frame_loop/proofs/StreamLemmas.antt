@@ -17,6 +17,7 @@ use Rattle.frame_loop.specs.Answering.{SoFar, Desk, desk, fed_to, Continues, Hal
 use Rattle.frame_loop.specs.Transcript.{Streams, streams, Follows}
 use Rattle.frame_loop.specs.declared.following.Ending.TheVariants.{Done, BadFrame, CutFrame, SourceFault, SinkFault, Ended, InputLimit}
 use Rattle.frame_loop.proofs.DeliveryLemmas.{since}
+use Rattle.frame_loop.proofs.DeskLemmas.{failed_since}
 
 -- what was read and written from one start on
 pub record Since {X : Type 0} (Reached : List Frame → List Reply → X → Type 0) (old : Streams) (source : SourceSeen) (now : Desk X) : Type 0 where
@@ -145,8 +146,8 @@ at_bad_frame {b = b} before halts =
           };
     }
 
-pub at_limit : {Start X : Type 0} {Reached Broken : Start → List Frame → List Reply → X → Type 0} {old : Streams} {limit : ℕ} {first : X} {source : SourceSeen} {a b : Desk X}
-    → IsAt Reached old limit first source a → HaltsAtPart Reached a b → limit ≤ fed_to a.feed → Follows Reached Broken old (streams source b.sink) limit first InputLimit b.now
+pub at_limit : {Start X : Type 0} {Ready : X → Type 0} {Reached Broken : Start → List Frame → List Reply → X → Type 0} {old : Streams} {limit : ℕ} {first : X} {source : SourceSeen} {a b : Desk X}
+    → IsAt Reached old limit first source a → HaltsAtPart Ready Reached a b → limit ≤ fed_to a.feed → Follows Reached Broken old (streams source b.sink) limit first InputLimit b.now
 at_limit {b = b} before halts full =
     let at = moves before halts.continues in
     record {
@@ -209,7 +210,7 @@ at_its_end {old = old} {a = a} {b = b} arrives ends =
             within = omega (arith, s.counted, at.within);
             ending = record {
               rest = b.feed.left;
-              broken_off = g.then;
+              broken_off = failed_since old.sink a.sink b.sink at.sink_later g.then;
               one_piece = omega (arith, ends.behind.shorter fresh.partial fresh.piece fresh.rest_is fresh.cut, fresh.one_piece);
             };
           };

@@ -1,5 +1,5 @@
 -- What came of answering the frames that were read.
-use Rattle.std.specs.Prelude.{◌≡◌, ℕ, ◌+◌, ◌<◌, List, [], ◌∷◌, ◌++◌, length, Result, Ok, Err}
+use Rattle.std.specs.Prelude.{◌≡◌, ◌⊎◌, ℕ, ◌+◌, ◌<◌, List, [], ◌∷◌, ◌++◌, length, Result, Ok, Err}
 use Rattle.std.specs.Io.KnownBytes.{Appends}
 use Rattle.fault_counts.specs.Faults.{NeverFell}
 use Rattle.byte_io.specs.Sink.{SinkSeen}
@@ -31,13 +31,18 @@ pub record Interrupted {X : Type 0} (Reached : List Frame → List Reply → X �
   pub some_missing : 0 < length missing
   pub told : written ≡ replies_text replies ++ part
 
--- the last frame led to the end, and has no reply
-pub record BrokenOff {X : Type 0} (Broken : List Frame → List Reply → X → Type 0) (read rest written : List ℕ) (now : X) : Type 0 where
+-- the last frame led to the end, and its reply is whole, or else this failed
+pub record BrokenOff {X : Type 0} (failed : Type 0) (Broken : List Frame → List Reply → X → Type 0) (read rest written : List ℕ) (now : X) : Type 0 where
   pub frames : List Frame
   pub replies : List Reply
+  pub last : Reply
   pub split : Splits read frames rest
-  pub broken : Broken frames replies now
-  pub told : written ≡ replies_text replies
+  pub broken : Broken frames (replies ++ last ∷ []) now
+  pub part : List ℕ
+  pub missing : List ℕ
+  pub last_is : reply_text last ≡ part ++ missing
+  pub whole : (missing ≡ []) ⊎ failed
+  pub told : written ≡ replies_text replies ++ part
 
 -- where the answering stands: the sink, the bytes that aren't answered, and what answers, with its world
 pub record Desk (X : Type 0) : Type 0 where
@@ -80,8 +85,9 @@ abbrev pub Continues : {Start X : Type 0} (Reached : Start → List Frame → Li
 Continues Reached old new = Leads Reached (λ start. SoFar (Reached start)) old new
 
 -- all whole frames were answered
-pub record HaltsAtPart {Start X : Type 0} (Reached : Start → List Frame → List Reply → X → Type 0) (old new : Desk X) : Type 0 where
+pub record HaltsAtPart {Start X : Type 0} (Ready : X → Type 0) (Reached : Start → List Frame → List Reply → X → Type 0) (old new : Desk X) : Type 0 where
   pub continues : Continues Reached old new
+  pub ready : Ready new.now
   pub partial : IsPartialFrame new.feed.left
 
 -- what is left begins no frame
@@ -96,26 +102,27 @@ pub record Breaks {Start X : Type 0} (Reached : Start → List Frame → List Re
   pub behind : IsBehind old.feed.left new.feed.left
   pub cause : SinkCause old.sink new.sink
 
--- what answers has ended the run
+-- what answers has ended the run, and the sink took the last reply, or failed at it
 pub record EndsThere {Start X : Type 0} (Reached Broken : Start → List Frame → List Reply → X → Type 0) (old new : Desk X) : Type 0 where
-  pub leads : Leads Reached (λ start. BrokenOff (Broken start)) old new
+  pub leads : Leads Reached (λ start. BrokenOff (SinkCause old.sink new.sink) (Broken start)) old new
   pub behind : IsBehind old.feed.left new.feed.left
 
-abbrev pub AnswersAll : {Start X : Type 0} (Reached Broken : Start → List Frame → List Reply → X → Type 0) (old : Desk X) (sink : SinkSeen) (feed : Feed) → Halted X → Type 0
-AnswersAll Reached Broken old sink feed (Partial now) = HaltsAtPart Reached old (desk sink feed now)
-AnswersAll Reached Broken old sink feed (Bad now offset) = HaltsAtBad Reached old (desk sink feed now) offset
-AnswersAll Reached Broken old sink feed (Undelivered now) = Breaks Reached old (desk sink feed now)
-AnswersAll Reached Broken old sink feed (Ended now) = EndsThere Reached Broken old (desk sink feed now)
+abbrev pub AnswersAll : {Start X : Type 0} (Ready : X → Type 0) (Reached Broken : Start → List Frame → List Reply → X → Type 0) (old : Desk X) (sink : SinkSeen) (feed : Feed) → Halted X → Type 0
+AnswersAll Ready Reached Broken old sink feed (Partial now) = HaltsAtPart Ready Reached old (desk sink feed now)
+AnswersAll Ready Reached Broken old sink feed (Bad now offset) = HaltsAtBad Reached old (desk sink feed now) offset
+AnswersAll Ready Reached Broken old sink feed (Undelivered now) = Breaks Reached old (desk sink feed now)
+AnswersAll Ready Reached Broken old sink feed (Ended now) = EndsThere Reached Broken old (desk sink feed now)
 
 -- one frame was answered, and its reply given to the sink
-pub record AnswersOne {Start X : Type 0} (Reached : Start → List Frame → List Reply → X → Type 0) (old new : Desk X) : Type 0 where
+pub record AnswersOne {Start X : Type 0} (Ready : X → Type 0) (Reached : Start → List Frame → List Reply → X → Type 0) (old new : Desk X) : Type 0 where
   pub continues : Continues Reached old new
+  pub ready : Ready new.now
   pub behind : IsBehind old.feed.left new.feed.left
   pub less : length new.feed.left < length old.feed.left
 
-abbrev pub Answers : {Start X : Type 0} (Reached Broken : Start → List Frame → List Reply → X → Type 0) (old : Desk X) (sink : SinkSeen) (feed : Feed) → Result X (Halted X) → Type 0
-Answers Reached Broken old sink feed (Ok now) = AnswersOne Reached old (desk sink feed now)
-Answers Reached Broken old sink feed (Err halted) = AnswersAll Reached Broken old sink feed halted
+abbrev pub Answers : {Start X : Type 0} (Ready : X → Type 0) (Reached Broken : Start → List Frame → List Reply → X → Type 0) (old : Desk X) (sink : SinkSeen) (feed : Feed) → Result X (Halted X) → Type 0
+Answers Ready Reached Broken old sink feed (Ok now) = AnswersOne Ready Reached old (desk sink feed now)
+Answers Ready Reached Broken old sink feed (Err halted) = AnswersAll Ready Reached Broken old sink feed halted
 
 -- what answers, and the world beside it
 abbrev pub halted_beside : {X W : Type 0} → W → Halted X → Halted (X × W)

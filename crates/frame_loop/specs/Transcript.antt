@@ -65,10 +65,11 @@ pub record EndsAtSink {X : Type 0} (Reached : List Frame → List Reply → X �
   pub one_piece : length rest < PIECE
   pub cause : SinkCause old.sink new.sink
 
--- what answers has ended the run. Less than one piece wasn't dealt with
-pub record EndsWithIt {X : Type 0} (Broken : List Frame → List Reply → X → Type 0) (read written : List ℕ) (now : X) : Type 0 where
+-- what answers has ended the run: the sink took the last reply whole, or failed in the last write, or took nothing.
+-- Less than one piece wasn't dealt with
+pub record EndsWithIt {X : Type 0} (Broken : List Frame → List Reply → X → Type 0) (old new : Streams) (read written : List ℕ) (now : X) : Type 0 where
   pub rest : List ℕ
-  pub broken_off : BrokenOff Broken read rest written now
+  pub broken_off : BrokenOff (SinkCause old.sink new.sink) Broken read rest written now
   pub one_piece : length rest < PIECE
 
 -- what was read from the source, and what the sink took
@@ -86,7 +87,7 @@ Ends Reached Broken old new limit bytes (CutFrame offset) now = EndsInFrame Reac
 Ends Reached Broken old new limit bytes SourceFault now = EndsAtSource Reached old new limit bytes.read bytes.written now
 Ends Reached Broken old new limit bytes SinkFault now = EndsAtSink Reached old new bytes.read bytes.written now
 Ends Reached Broken old new limit bytes InputLimit now = EndsAtLimit Reached limit bytes.read bytes.written now
-Ends Reached Broken old new limit bytes Ended now = EndsWithIt Broken bytes.read bytes.written now
+Ends Reached Broken old new limit bytes Ended now = EndsWithIt Broken old new bytes.read bytes.written now
 
 -- what was read from the source, what the sink took, and how it ended
 pub record Transcript {X : Type 0} (Reached Broken : List Frame → List Reply → X → Type 0) (old new : Streams) (limit : ℕ) (how : Ending) (now : X) : Type 0 where

@@ -3,19 +3,20 @@ use Rattle.std.specs.Prelude.{List, [], ◌∷◌, ◌++◌, Result, Ok, Err}
 use Rattle.feed_frames.specs.Frames.{Frame}
 use Rattle.feed_frames.specs.Replies.{Reply}
 
--- wherever it was, one frame and one reply lead on from there
-pub record GoesOn {Start X : Type 0} (Reached : Start → List Frame → List Reply → X → Type 0) (old : X) (frame : Frame) (reply : Reply) (new : X) : Type 0 where
+-- wherever it was, one frame and one reply lead on from there, to where the next turn may begin
+pub record GoesOn {Start X : Type 0} (Ready : X → Type 0) (Reached : Start → List Frame → List Reply → X → Type 0) (old : X) (frame : Frame) (reply : Reply) (new : X) : Type 0 where
   pub goes_on : (start : Start) (frames : List Frame) (replies : List Reply)
       → Reached start frames replies old → Reached start (frames ++ frame ∷ []) (replies ++ reply ∷ []) new
+  pub ready : Ready new
 
--- wherever it was, one frame leads to the end
-pub record GoesOut {Start X : Type 0} (Reached Broken : Start → List Frame → List Reply → X → Type 0) (old : X) (frame : Frame) (new : X) : Type 0 where
+-- wherever it was, one frame and one reply lead to the end
+pub record GoesOut {Start X : Type 0} (Reached Broken : Start → List Frame → List Reply → X → Type 0) (old : X) (frame : Frame) (reply : Reply) (new : X) : Type 0 where
   pub goes_out : (start : Start) (frames : List Frame) (replies : List Reply)
-      → Reached start frames replies old → Broken start (frames ++ frame ∷ []) replies new
+      → Reached start frames replies old → Broken start (frames ++ frame ∷ []) (replies ++ reply ∷ []) new
 
-abbrev pub Turns : {Start X : Type 0} (Reached Broken : Start → List Frame → List Reply → X → Type 0) (old : X) (frame : Frame) (reply : Reply) → Result X X → Type 0
-Turns Reached Broken old frame reply (Ok new) = GoesOn Reached old frame reply new
-Turns Reached Broken old frame reply (Err new) = GoesOut Reached Broken old frame new
+abbrev pub Turns : {Start X : Type 0} (Ready : X → Type 0) (Reached Broken : Start → List Frame → List Reply → X → Type 0) (old : X) (frame : Frame) (reply : Reply) → Result X X → Type 0
+Turns Ready Reached Broken old frame reply (Ok new) = GoesOn Ready Reached old frame reply new
+Turns Ready Reached Broken old frame reply (Err new) = GoesOut Reached Broken old frame reply new
 
 -- what answers, and the world beside it
 abbrev pub beside : {X W : Type 0} → W → Result X X → Result (X × W) (X × W)

@@ -15,13 +15,16 @@ pub trait Answerer<W> {
     // what a run begins at
     ghost Start: { Type 0 };
 
+    // what each turn requires of it and its world, and what the turn leaves where the run goes on
+    ghost ready: { Self × W → Type 0 };
+
     // from the start these frames and these replies lead here
     ghost reached: { Start → List Framed → List Reply → Self × W → Type 0 };
 
-    // from the start these frames and these replies, of which the last frame has none, led to the end of the run
+    // from the start these frames and these replies led to the end of the run
     ghost broken: { Start → List Framed → List Reply → Self × W → Type 0 };
 
-    /// Answers one frame. At Err the run has ended, and the frame has no reply.
+    /// Answers one frame. At Err the run has ended, and the frame has its reply all the same.
     fn turn<L: Ledger>(
         self,
         alloc: Global,
@@ -30,6 +33,7 @@ pub trait Answerer<W> {
         reply: &mut ReplyBuf,
         steps: &mut Steps<L>,
     ) -> Result<Self, Self>
-        requires { IsFramed (frame_of frame) }
-        ensures { Turns reached broken (self, world.old) (frame_of frame.entry) reply.new (beside world.new result) };
+        requires framed { IsFramed (frame_of frame) }
+        requires ready { ready (self, world.old) }
+        ensures { Turns ready reached broken (self, world.old) (frame_of frame.entry) reply.new (beside world.new result) };
 }

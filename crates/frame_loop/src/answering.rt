@@ -1,7 +1,7 @@
 ghost use Rattle.frame_loop.specs.Answering.{Answers, AnswersAll, desk, next_beside, halted_beside};
 
 use crate::answerer::Answerer;
-use crate::delivery::deliver;
+use crate::delivery::{deliver, deliver_part};
 use crate::reply::ReplyBuf;
 use byte_io::Sink;
 use feed_frames::{BadFrame, Frames};
@@ -17,7 +17,7 @@ pub(crate) enum Halted<T> {
     Bad(T, u64),
     /// The sink didn't take the whole reply.
     Undelivered(T),
-    /// What answers has ended the run.
+    /// What answers has ended the run. The last reply was given to the sink, as much as it took.
     Ended(T),
 }
 
@@ -31,7 +31,8 @@ fn answer_next<W, T: Answerer<W>, K: Sink, L: Ledger>(
     sink: &mut K,
     steps: &mut Steps<L>,
 ) -> Result<T, Halted<T>>
-    ensures { Answers T.reached T.broken (desk (K.seen sink.old) frames.old (answerer, world.old)) (K.seen sink.new) frames.new (next_beside world.new result) }
+    requires { T.ready (answerer, world.old) }
+    ensures { Answers T.ready T.reached T.broken (desk (K.seen sink.old) frames.old (answerer, world.old)) (K.seen sink.new) frames.new (next_beside world.new result) }
 {
     let turned = match frames.next() {
         Ok(Some(frame)) => answerer.turn(alloc, world, frame, reply, steps),
@@ -43,7 +44,10 @@ fn answer_next<W, T: Answerer<W>, K: Sink, L: Ledger>(
             Ok(()) => Ok(next),
             Err(_) => Err(Halted::Undelivered(next)),
         },
-        Err(last) => Err(Halted::Ended(last)),
+        Err(last) => {
+            deliver_part(sink, reply.text());
+            Err(Halted::Ended(last))
+        }
     }
 }
 
@@ -57,7 +61,8 @@ pub(crate) fn answer_all<W, T: Answerer<W>, K: Sink, L: Ledger>(
     sink: &mut K,
     steps: &mut Steps<L>,
 ) -> Halted<T>
-    ensures { AnswersAll T.reached T.broken (desk (K.seen sink.old) frames.old (answerer, world.old)) (K.seen sink.new) frames.new (halted_beside world.new result) }
+    requires { T.ready (answerer, world.old) }
+    ensures { AnswersAll T.ready T.reached T.broken (desk (K.seen sink.old) frames.old (answerer, world.old)) (K.seen sink.new) frames.new (halted_beside world.new result) }
 {
     let mut answerer = answerer;
     loop {

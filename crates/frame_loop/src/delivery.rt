@@ -1,4 +1,4 @@
-ghost use Rattle.frame_loop.specs.Delivery.{Delivers};
+ghost use Rattle.frame_loop.specs.Delivery.{Delivers, TookUpTo};
 
 use byte_io::Sink;
 
@@ -24,4 +24,11 @@ pub(crate) fn deliver<K: Sink>(sink: &mut K, text: &[u8]) -> Result<(), Undelive
         }
     }
     Ok(())
+}
+
+/// Gives the text to the sink, as much as it takes.
+pub(crate) fn deliver_part<K: Sink>(sink: &mut K, text: &[u8])
+    ensures { TookUpTo (K.seen sink.old) (K.seen sink.new) text.now }
+{
+    let _ = deliver(sink, text);
 }

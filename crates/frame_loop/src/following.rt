@@ -23,7 +23,7 @@ pub enum Ending {
     SourceFault,
     /// The last write failed, or took nothing of a piece that isn't empty.
     SinkFault,
-    /// What answers has ended the run.
+    /// What answers has ended the run. Its last reply was given to the sink, as much as it took.
     Ended,
     /// As many bytes as the limit were read.
     InputLimit,
@@ -43,7 +43,8 @@ pub fn follow<W, T: Answerer<W>, S: Source, K: Sink, L: Ledger>(
     limit: u64,
     steps: &mut Steps<L>,
 ) -> (Ending, T)
-    requires { limit < 2 ^ 63 }
+    requires limit { limit < 2 ^ 63 }
+    requires ready { T.ready (answerer, world.old) }
     ensures { Follows T.reached T.broken (streams (S.seen source.old) (K.seen sink.old)) (streams (S.seen source.new) (K.seen sink.new)) limit (answerer, world.old) result.0 (result.1, world.new) }
 {
     let mut answerer = answerer;

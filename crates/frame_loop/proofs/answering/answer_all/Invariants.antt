@@ -3,7 +3,9 @@ use Rattle.frame_loop.specs.Answering.{Continues, desk}
 use Rattle.frame_loop.proofs.answering.answer_all.Given as goal
 
 abbrev pub invariant-loop-next : goal.invariant-loop-next
-invariant-loop-next g l = Continues g.T.Answerer.reached (desk (g.K.Sink.seen l.fn.sink) l.fn.frames (l.fn.answerer, l.fn.world)) (desk (g.K.Sink.seen l.sink) l.frames (l.answerer, l.world))
+invariant-loop-next g l =
+    (g.T.Answerer.ready (l.answerer, l.world))
+    × Continues g.T.Answerer.reached (desk (g.K.Sink.seen l.fn.sink) l.fn.frames (l.fn.answerer, l.fn.world)) (desk (g.K.Sink.seen l.sink) l.frames (l.answerer, l.world))
 
 abbrev pub decreases-loop-next : goal.decreases-loop-next
 decreases-loop-next g l = length l.frames.left

@@ -4,35 +4,35 @@ use Rattle.frame_loop.proofs.StreamLemmas.{begins, moves, reads_on, at_bad_frame
 use Rattle.frame_loop.proofs.following.follow.Goals as goal
 
 pub pieces-init : goal.pieces-init
-pieces-init g c = begins g.T.Answerer.reached (streams (g.S.Source.seen c.args.source.now) (g.K.Sink.seen c.args.sink.now)) c.args.limit (c.args.answerer, c.args.world.now) c.reset.new.self c.reset.ensures
+pieces-init g c = (c.requires.ready, begins g.T.Answerer.reached (streams (g.S.Source.seen c.args.source.now) (g.K.Sink.seen c.args.sink.now)) c.args.limit (c.args.answerer, c.args.world.now) c.reset.new.self c.reset.ensures)
 
 pub returns-in-Bad : goal.returns-in-Bad
-returns-in-Bad g c = at_bad_frame c.pieces.invariant.at c.in-Bad.ensures
+returns-in-Bad g c = at_bad_frame c.pieces.invariant.1.at c.in-Bad.ensures
 
 pub returns-in-Undelivered : goal.returns-in-Undelivered
-returns-in-Undelivered g c = at_sink c.pieces.invariant c.in-Undelivered.ensures
+returns-in-Undelivered g c = at_sink c.pieces.invariant.1 c.in-Undelivered.ensures
 
 pub returns-in-Ended : goal.returns-in-Ended
-returns-in-Ended g c = at_its_end c.pieces.invariant c.in-Ended.ensures
+returns-in-Ended g c = at_its_end c.pieces.invariant.1 c.in-Ended.ensures
 
 pub returns-then-read-limit : goal.returns-then-read-limit
-returns-then-read-limit g c = at_limit c.pieces.invariant.at c.in-Partial.ensures (omega (arith, c.pieces.invariant.counted, c.if-read-limit.true))
+returns-then-read-limit g c = at_limit c.pieces.invariant.1.at c.in-Partial.ensures (omega (arith, c.pieces.invariant.1.counted, c.if-read-limit.true))
 
 pub returns-in-Err : goal.returns-in-Err
 returns-in-Err g c =
-    at_source (moves c.pieces.invariant.at c.in-Partial.ensures.continues) c.in-Partial.ensures.partial (omega (arith, c.pieces.invariant.counted, c.in-Partial.ensures.continues.fed, c.if-read-limit.false)) c.in-Err.ensures
+    at_source (moves c.pieces.invariant.1.at c.in-Partial.ensures.continues) c.in-Partial.ensures.partial (omega (arith, c.pieces.invariant.1.counted, c.in-Partial.ensures.continues.fed, c.if-read-limit.false)) c.in-Err.ensures
 
 pub returns-in-None : goal.returns-in-None
 returns-in-None g c =
-    at_done (reads_nothing (moves c.pieces.invariant.at c.in-Partial.ensures.continues) c.in-Ok.ensures c.if-count-eq0.true (omega (arith, c.min-most.ensures)))
-    (omega (arith, c.pieces.invariant.counted, c.in-Partial.ensures.continues.fed, c.if-read-limit.false)) c.in-Partial.ensures.partial c.in-None.ensures.found
+    at_done (reads_nothing (moves c.pieces.invariant.1.at c.in-Partial.ensures.continues) c.in-Ok.ensures c.if-count-eq0.true (omega (arith, c.min-most.ensures)))
+    (omega (arith, c.pieces.invariant.1.counted, c.in-Partial.ensures.continues.fed, c.if-read-limit.false)) c.in-Partial.ensures.partial c.in-None.ensures.found
 
 pub returns-in-Some : goal.returns-in-Some
 returns-in-Some g c =
     let there = c.in-Some.ensures.some in
-    in_frame (reads_nothing (moves c.pieces.invariant.at c.in-Partial.ensures.continues) c.in-Ok.ensures c.if-count-eq0.true (omega (arith, c.min-most.ensures)))
-    (omega (arith, c.pieces.invariant.counted, c.in-Partial.ensures.continues.fed, c.if-read-limit.false)) there.0 there.1 there.2
+    in_frame (reads_nothing (moves c.pieces.invariant.1.at c.in-Partial.ensures.continues) c.in-Ok.ensures c.if-count-eq0.true (omega (arith, c.min-most.ensures)))
+    (omega (arith, c.pieces.invariant.1.counted, c.in-Partial.ensures.continues.fed, c.if-read-limit.false)) there.0 there.1 there.2
 
 pub pieces-preserved : goal.pieces-preserved
 pieces-preserved g c =
-    reads_on (moves c.pieces.invariant.at c.in-Partial.ensures.continues) c.in-Partial.ensures.partial c.in-Ok.ensures (c.pieces.invariant.counted ∙ sym c.in-Partial.ensures.continues.fed) (omega (arith, c.min-most.ensures)) (omega (arith, c.min-most.ensures))
+    (c.in-Partial.ensures.ready, reads_on (moves c.pieces.invariant.1.at c.in-Partial.ensures.continues) c.in-Partial.ensures.partial c.in-Ok.ensures (c.pieces.invariant.1.counted ∙ sym c.in-Partial.ensures.continues.fed) (omega (arith, c.min-most.ensures)) (omega (arith, c.min-most.ensures)))
