@@ -1,0 +1,15 @@
+pub mod AllowedLemmas
+pub mod HeaderLemmas
+pub mod ReadingLemmas
+pub mod OpenLemmas
+pub mod KeepLemmas
+pub mod StateLemmas
+pub mod StoreLemmas
+pub mod ConnectLemmas
+pub mod DisconnectLemmas
+pub mod StepLemmas
+pub mod MakingLemmas
+pub mod SpellingLemmas
+pub mod RunLemmas
+pub mod DamageLaws
+pub mod FollowLaws

@@ -1,0 +1,27 @@
+use Rattle.std.proofs.Common.{◌-◌}
+use Rattle.machine.specs.RunState.{longest_area}
+use Rattle.std.specs.Prelude.{IsTrue}
+use Rattle.fault_counts.specs.Faults.{NeverFell}
+use Rattle.disk_model.specs.Moments.{EachMoment}
+use Rattle.disk_model.specs.Changes.{Unchanged}
+use Rattle.disk_model.specs.DiskSeen.{file_in, bytes_in}
+use Rattle.gate_journal.specs.Stand.{IsReadable}
+use Rattle.machine.specs.Chain.{Chain}
+use Rattle.name_store.specs.Reading.{HasFollowed, IsInArea}
+use Rattle.name_store.proofs.reading.read_all.Given as goal
+
+abbrev pub invariant-records : goal.invariant-records
+invariant-records g l =
+    let old = g.D.Disk.seen l.fn.disk in
+    let now = g.D.Disk.seen l.disk in
+    record {
+      followed : (first : Chain) → HasFollowed g.D.Disk.tells first (bytes_in old 1) l.fn.reading.chain l.fn.reading.journal.length → HasFollowed g.D.Disk.tells first (bytes_in old 1) l.reading.chain l.reading.journal.length;
+      area : IsInArea l.reading.journal;
+      readable : IsTrue g.D.Disk.tells → IsReadable l.reading.journal (file_in now 1);
+      time : IsTrue g.D.Disk.tells → EachMoment (Unchanged old.moments.now) old.moments now.moments;
+      later : NeverFell old.faults now.faults;
+    }
+
+-- each step moves the journal on
+abbrev pub decreases-records : goal.decreases-records
+decreases-records g l = longest_area - l.reading.journal.length

@@ -1,0 +1,16 @@
+pub mod Host
+pub mod Faults
+pub mod Spelling
+pub mod Header
+pub mod Commands
+pub mod Stands
+pub mod Damage
+pub mod Stored
+pub mod Keeping
+pub mod Opening
+pub mod Reading
+pub mod Making
+pub mod MakingSteps
+pub mod Connecting
+pub mod Disconnecting
+pub mod Silence

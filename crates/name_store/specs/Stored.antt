@@ -1,0 +1,44 @@
+-- What a store keeps, what it stands for, and when it is on a disk.
+use Rattle.std.specs.Prelude.{◌≡◌, ℕ, ◌+◌, List, [], ◌++◌, length}
+use Rattle.disk_model.specs.FileState.{IsSettled}
+use Rattle.disk_model.specs.Moments.{Files}
+use Rattle.gate_journal.specs.Gate.{ClosedAfter}
+use Rattle.gate_journal.specs.Records.{IsArea, records_text, image_front}
+use Rattle.chain_state.specs.Chain.{Indexed}
+use Rattle.chain_steps.specs.Standing as chains
+use Rattle.nmc_base.specs.declared.chain_ends.Tip.{Tip}
+use Rattle.machine.specs.Chain.{Chain, height_of, tip_hash}
+use Rattle.machine.specs.RunState.{RunState, chain_of, area_of}
+use Rattle.name_store.specs.Header.{header_text}
+use Rattle.name_store.specs.Host.{IsHostOf}
+use Rattle.name_store.specs.Stands.{IsRunState}
+
+-- the index, the name of the base's host on the wire, and the length of the area
+pub record Stored : Type 0 where
+  pub index : Indexed
+  pub host : List ℕ
+  pub area : ℕ
+
+-- the index is one of the run state's chain, and the name of the host and the length are its own
+pub record StandsFor (store : Stored) (run : RunState) : Type 0 where
+  pub index : chains.StandsFor store.index (chain_of run)
+  pub host : IsHostOf run.host store.host
+  pub area : store.area ≡ area_of run
+  pub is_state : IsRunState run
+
+-- The store is on the disk: file 0 as read begins with the header of its base and host and a closed gate; file 1 as read is,
+-- up to the length of its area, an empty image, whole records and a closed gate; and both were synced since their last write.
+pub record IsOn (store : Stored) (files : Files) : Type 0 where
+  pub text : List ℕ
+  pub host : IsHostOf text store.host
+  pub header : ClosedAfter (header_text store.index.base text) (files 0).bytes
+  pub records : List (List ℕ)
+  pub area : IsArea [] records (files 1).bytes
+  pub length_is : store.area ≡ length (image_front [] ++ records_text records) + 1
+  pub settled_header : IsSettled (files 0)
+  pub settled_area : IsSettled (files 1)
+
+-- the tip of the chain
+pub record IsTipOf (tip : Tip) (chain : Chain) : Type 0 where
+  pub height : tip.height ≡ height_of chain
+  pub hash : tip.hash.0 ≡ tip_hash chain

@@ -1,0 +1,47 @@
+//! The front of the area, as it is read.
+ghost use Rattle.std.specs.Prelude.{◌≡◌, ◌↔◌, IsTrue, IfOk, IsErrOf};
+ghost use Rattle.fault_counts.specs.Faults.{NeverFell, Rose};
+ghost use Rattle.disk_model.specs.FileState.{IsSettled};
+ghost use Rattle.disk_model.specs.Moments.{EachMoment};
+ghost use Rattle.disk_model.specs.Changes.{Unchanged};
+ghost use Rattle.disk_model.specs.DiskSeen.{file_in, bytes_in};
+ghost use Rattle.gate_journal.specs.Stand.{IsReadable};
+ghost use Rattle.name_store.specs.Damage.{HasNoImage};
+ghost use Rattle.name_store.specs.Reading.{AreaAnswer, first_gate};
+
+use crate::faults::OpenFault;
+use crate::limits::{AREA_FILE, LONGEST_AREA};
+use disk_model::Disk;
+use gate_journal::Journal;
+
+/// The length of an empty image, and the gate behind it.
+const FRONT: usize = 9;
+
+/// Whether an area with these bytes at its front has no image.
+fn has_no_image(front: &[u8]) -> bool
+    ensures { IsTrue result ↔ HasNoImage front.now }
+{
+    front.len() >= FRONT && &front[..8] == [0; 8].as_slice()
+}
+
+/// The journal of the area, at its first gate. An image whose length isn't 0 is damage.
+pub fn open_area<D: Disk>(disk: &mut D) -> Result<Journal, OpenFault>
+    requires settled { IsTrue D.tells → IsSettled (file_in (D.seen disk.old) 1) }
+    ensures answer { IsTrue D.tells → AreaAnswer (bytes_in (D.seen disk.old) 1) result }
+    ensures ok { IfOk result (λ journal. journal ≡ first_gate) }
+    ensures readable { IsTrue D.tells → IfOk result (λ journal. IsReadable journal (file_in (D.seen disk.new) 1)) }
+    ensures memory { IsErrOf result OpenFault.NoMemory → ⊥ }
+    ensures time { IsTrue D.tells → EachMoment (Unchanged (D.seen disk.old).moments.now) (D.seen disk.old).moments (D.seen disk.new).moments }
+    ensures later { NeverFell (D.seen disk.old).faults (D.seen disk.new).faults }
+    ensures fault { IsErrOf result OpenFault.DiskFault → Rose (D.seen disk.old).faults (D.seen disk.new).faults }
+{
+    let mut front = [0; FRONT];
+    let count = disk.read(AREA_FILE, 0, &mut front)?;
+    if !has_no_image(&front[..count]) {
+        return Err(OpenFault::Damaged {
+            file: AREA_FILE,
+            at: 0,
+        });
+    }
+    Ok(Journal::open(disk, AREA_FILE, 8, LONGEST_AREA)?)
+}

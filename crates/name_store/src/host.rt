@@ -1,0 +1,23 @@
+ghost use Rattle.std.specs.Prelude.{MatchOption};
+ghost use Rattle.name_store.specs.Host.{IsHostText, IsHostOf};
+
+use domain_text::{Name, absolute_name};
+
+/// No name of a base's host has more bytes on the wire: with the label `hostmaster` before it, it is a name still.
+pub const LONGEST_HOST_NAME: usize = 244;
+
+/// The name of a base's host, None exactly where the text is none.
+pub fn host_name(text: &[u8]) -> Option<Name>
+    ensures { MatchOption result (¬ (IsHostText text.now)) (λ name. IsHostOf text.now name) }
+{
+    match absolute_name(text) {
+        Some(name) => {
+            if name.wire().len() <= LONGEST_HOST_NAME {
+                Some(name)
+            } else {
+                None
+            }
+        }
+        None => None,
+    }
+}

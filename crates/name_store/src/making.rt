@@ -1,0 +1,58 @@
+ghost use Rattle.std.specs.Prelude.{◌≡◌, ◌≤◌, List, ℕ, length, IsTrue, OnOk, IsErrOf};
+ghost use Rattle.fault_counts.specs.Faults.{NeverFell, Rose};
+ghost use Rattle.disk_model.specs.Moments.{EachMoment};
+ghost use Rattle.disk_model.specs.Changes.{Unchanged};
+ghost use Rattle.disk_model.specs.DiskSeen.{file_in, bytes_in};
+ghost use Rattle.nmc_base.specs.declared.limits.TheConstants.{HIGHEST_HEIGHT};
+ghost use Rattle.nmc_base.specs.declared.chain_ends.Profile.TheVariants.{Regtest};
+ghost use Rattle.name_store.specs.Host.{IsHostOf};
+ghost use Rattle.name_store.specs.Making.{CreateAnswer, IsEmpty, EachIsBegun};
+ghost use Rattle.name_store.specs.Stands.{EachStands, begun_on};
+
+use crate::faults::CreateFault;
+use crate::host_text::HostText;
+use crate::initialised::is_initialised;
+use crate::limits::HEADER_FILE;
+use crate::making_steps::{make_area, make_fields, make_gate};
+use disk_model::Disk;
+use domain_text::Name;
+use gate_journal::open_gate;
+use nmc_base::Base;
+
+/// The base, whose hash has 32 bytes.
+fn whole(base: Base) -> Base
+    ensures value { result ≡ base }
+    ensures hash { length base.hash.0 ≡ 32 }
+{
+    base
+}
+
+/// Makes the files of a base and its host, without a command.
+///
+/// Files that are initialised stay as they are. File 1 is made first; then file 0 with its gate closed, and last this gate
+/// is opened in a write of its own. So from an empty file 0 a crash leaves files that are uninitialised, or those of the
+/// base. The host is the name of an absolute host text, of at most 244 bytes on the wire; the header gets that text.
+pub fn create<D: Disk>(disk: &mut D, base: &Base, host: &Name) -> Result<(), CreateFault>
+    requires low { base.now.height ≤ HIGHEST_HEIGHT }
+    requires host { (text : List ℕ) × IsHostOf text host.now }
+    ensures answer { IsTrue D.tells → CreateAnswer (bytes_in (D.seen disk.old)) result }
+    ensures untouched { IsTrue D.tells → IsErrOf result CreateFault.Initialised
+        → EachMoment (Unchanged (D.seen disk.old).moments.now) (D.seen disk.old).moments (D.seen disk.new).moments }
+    ensures made { IsTrue D.tells → base.now.profile ≡ Regtest → (text : List ℕ) → IsHostOf text host.now
+        → OnOk result (EachStands (D.seen disk.new).moments.now (begun_on base.now text)) }
+    ensures from_empty { IsTrue D.tells → base.now.profile ≡ Regtest → (text : List ℕ) → IsHostOf text host.now → IsEmpty (file_in (D.seen disk.old) 0)
+        → EachMoment (EachIsBegun (begun_on base.now text)) (D.seen disk.old).moments (D.seen disk.new).moments }
+    ensures later { NeverFell (D.seen disk.old).faults (D.seen disk.new).faults }
+    ensures fault { IsErrOf result CreateFault.DiskFault → Rose (D.seen disk.old).faults (D.seen disk.new).faults }
+{
+    if is_initialised(disk)? {
+        return Err(CreateFault::Initialised);
+    }
+    let base = whole(*base);
+    let text = HostText::of(host);
+    make_area(disk)?;
+    make_gate(disk)?;
+    make_fields(disk, &base, text.as_slice())?;
+    open_gate(disk, HEADER_FILE, 0)?;
+    Ok(())
+}

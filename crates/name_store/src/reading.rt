@@ -1,0 +1,109 @@
+//! Reading the commands of the area, one after the other.
+ghost use Rattle.std.specs.Prelude.{◌≡◌, IsTrue, IfOk, IsErrOf};
+ghost use Rattle.fault_counts.specs.Faults.{NeverFell, Rose};
+ghost use Rattle.disk_model.specs.Moments.{EachMoment};
+ghost use Rattle.disk_model.specs.Changes.{Unchanged};
+ghost use Rattle.disk_model.specs.DiskSeen.{file_in, bytes_in};
+ghost use Rattle.gate_journal.specs.Stand.{IsReadable};
+ghost use Rattle.name_store.specs.Reading.{StepsOn, ReadsAll, IsInArea, MovesOn, reading_of};
+
+use crate::faults::OpenFault;
+use crate::following::{Unfollowed, follow};
+use crate::limits::AREA_FILE;
+use chain_state::Chain;
+use disk_model::Disk;
+use gate_journal::Journal;
+use nmc_base::{Bytes, Steps};
+use std::alloc::Global;
+use std::sync::ledger::Ledger;
+
+/// What was read so far: where the journal stands, the chain behind the commands, and room for one record.
+#[derive(Drop)]
+pub struct Reading {
+    pub journal: Journal,
+    pub chain: Chain,
+    pub held: Bytes,
+}
+
+/// What came of reading one record.
+#[derive(Drop)]
+pub enum Stepped {
+    /// A command was followed.
+    More(Reading),
+
+    /// There is none left.
+    All(Reading),
+}
+
+/// Follows the next command of the area.
+fn step<D: Disk, L: Ledger>(
+    reading: Reading,
+    alloc: Global,
+    disk: &mut D,
+    steps: &mut Steps<L>,
+) -> Result<Stepped, OpenFault>
+    requires area { IsInArea reading.journal }
+    requires readable { IsTrue D.tells → IsReadable reading.journal (file_in (D.seen disk.old) 1) }
+    ensures steps_on { StepsOn D.tells reading (bytes_in (D.seen disk.old) 1) result }
+    ensures moves { IfOk result (MovesOn reading.journal) }
+    ensures readable { IsTrue D.tells → IfOk result (λ stepped. IsReadable (reading_of stepped).journal (file_in (D.seen disk.new) 1)) }
+    ensures time { IsTrue D.tells → EachMoment (Unchanged (D.seen disk.old).moments.now) (D.seen disk.old).moments (D.seen disk.new).moments }
+    ensures later { NeverFell (D.seen disk.old).faults (D.seen disk.new).faults }
+    ensures fault { IsErrOf result OpenFault.DiskFault → Rose (D.seen disk.old).faults (D.seen disk.new).faults }
+{
+    let Reading {
+        mut journal,
+        chain,
+        mut held,
+    } = reading;
+    let at = journal.length() - 1;
+    match journal.next_record(disk, &mut held) {
+        Ok(more) => {
+            if !more {
+                return Ok(Stepped::All(Reading {
+                    journal,
+                    chain,
+                    held,
+                }));
+            }
+            match follow(alloc, chain, held.as_slice(), steps) {
+                Ok(chain) => Ok(Stepped::More(Reading {
+                    journal,
+                    chain,
+                    held,
+                })),
+                Err(Unfollowed::Refused) => Err(OpenFault::Damaged {
+                    file: AREA_FILE,
+                    at,
+                }),
+                Err(Unfollowed::NoMemory) => Err(OpenFault::NoMemory),
+            }
+        }
+        Err(fault) => Err(OpenFault::from(fault)),
+    }
+}
+
+/// Follows all commands of the area, up to its closed gate.
+pub fn read_all<D: Disk, L: Ledger>(
+    reading: Reading,
+    alloc: Global,
+    disk: &mut D,
+    steps: &mut Steps<L>,
+) -> Result<Reading, OpenFault>
+    requires area { IsInArea reading.journal }
+    requires readable { IsTrue D.tells → IsReadable reading.journal (file_in (D.seen disk.old) 1) }
+    ensures reads { ReadsAll D.tells reading (bytes_in (D.seen disk.old) 1) result }
+    ensures in_area { IfOk result (λ reading. IsInArea reading.journal) }
+    ensures time { IsTrue D.tells → EachMoment (Unchanged (D.seen disk.old).moments.now) (D.seen disk.old).moments (D.seen disk.new).moments }
+    ensures later { NeverFell (D.seen disk.old).faults (D.seen disk.new).faults }
+    ensures fault { IsErrOf result OpenFault.DiskFault → Rose (D.seen disk.old).faults (D.seen disk.new).faults }
+{
+    let mut reading = reading;
+    'records: loop {
+        match step(reading, alloc, disk, steps) {
+            Ok(Stepped::More(next)) => reading = next,
+            Ok(Stepped::All(all)) => return Ok(all),
+            Err(fault) => return Err(fault),
+        }
+    }
+}

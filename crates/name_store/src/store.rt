@@ -1,0 +1,165 @@
+ghost use Rattle.std.specs.Prelude.{◌≡◌, ◌≤◌, length, IsTrue};
+ghost use Rattle.fault_counts.specs.Faults.{NeverFell, Rose};
+ghost use Rattle.nmc_base.specs.declared.limits.TheConstants.{LONGEST_BLOCK};
+ghost use Rattle.machine.specs.RunState.{RunState, longest_area};
+ghost use Rattle.name_store.specs.Stored.{StandsFor, IsOn};
+ghost use Rattle.name_store.specs.declared.limits.TheConstants.{EMPTY_AREA};
+ghost use Rattle.name_store.specs.Connecting as connecting;
+ghost use Rattle.name_store.specs.Disconnecting as disconnecting;
+
+use crate::keeping::{CONNECT, DISCONNECT, keep};
+use crate::limits::LONGEST_AREA;
+use chain_state::{BackRefusal, Chain, Refusal, StageOutcome};
+use chain_steps::{stage_bytes, stage_hash};
+use disk_model::Disk;
+use domain_text::Name;
+use nmc_base::{Hash32, Steps, Tip};
+use std::alloc::Global;
+use std::marker::Model;
+use std::sync::ledger::Ledger;
+
+/// An index whose commands are kept in the files of a disk. Contracts see the index, the wire form of its base's host
+/// and the length of its area in bytes. It holds no disk.
+#[derive(Drop)]
+pub struct Store {
+    chain: Chain,
+    host: Name,
+    area: u64,
+}
+
+impl Model for Store {
+    ghost use Rattle.std.specs.Prelude.{◌≤◌};
+    ghost use Rattle.machine.specs.RunState.{longest_area};
+    ghost use Rattle.name_store.specs.Stored.{Stored};
+    ghost use Rattle.name_store.specs.declared.limits.TheConstants.{EMPTY_AREA};
+
+    ghost Value = { Stored };
+
+    ghost view = { λ s. record { index = s.chain; host = s.host; area = s.area } };
+
+    ghost invariant = { λ s. (EMPTY_AREA ≤ s.area) × (s.area ≤ longest_area) };
+}
+
+/// What came of a connect. A store that is handed back with a refusal, or for want of memory, stands for what it stood for.
+/// A fault of the disk hands none back: open the files again.
+#[derive(Drop)]
+pub enum Outcome {
+    Done(Store, Tip),
+    Refused(Store, Refusal),
+    NoMemory(Store),
+    Faulted,
+}
+
+/// What came of a disconnect, likewise.
+#[derive(Drop)]
+pub enum BackOutcome {
+    Done(Store, Tip),
+    Refused(Store, BackRefusal),
+    NoMemory(Store),
+    Faulted,
+}
+
+impl Store {
+    /// The store of these parts.
+    pub(crate) fn of(chain: Chain, host: Name, area: u64) -> Store
+        requires some { EMPTY_AREA ≤ area }
+        requires within { area ≤ longest_area }
+        ensures { result ≡ record { index = chain; host = host; area = area } }
+    {
+        Store { chain, host, area }
+    }
+
+    /// The index.
+    pub fn chain(&self) -> &Chain
+        ensures { result.now ≡ self.now.index }
+    {
+        &self.chain
+    }
+
+    /// The name of the base's host.
+    pub fn host(&self) -> &Name
+        ensures { result.now ≡ self.now.host }
+    {
+        &self.host
+    }
+
+    /// Connects a block: stages it, keeps it in the area, and then changes the index.
+    ///
+    /// The refusals are those of the machine, that of a full area last. Where the block is refused, and where memory is
+    /// wanting, the disk isn't asked. A crash at any moment leaves files that stand for the run state before or after.
+    pub fn connect<D: Disk, L: Ledger>(
+        self,
+        alloc: Global,
+        disk: &mut D,
+        bytes: &[u8],
+        steps: &mut Steps<L>,
+    ) -> Outcome
+        requires short { length bytes.now ≤ LONGEST_BLOCK }
+        requires on_disk { IsTrue D.tells → IsOn self (D.seen disk.old).moments.now }
+        ensures connects { connecting.Connects longest_area self bytes.now result }
+        ensures undone { connecting.IfUndone (disk.new ≡ disk.old) result }
+        ensures kept { IsTrue D.tells → (run : RunState) → StandsFor self run
+            → connecting.ConnectsOn run bytes.now (D.seen disk.old) (D.seen disk.new) result }
+        ensures later { NeverFell (D.seen disk.old).faults (D.seen disk.new).faults }
+        ensures fault { connecting.IfFaulted (Rose (D.seen disk.old).faults (D.seen disk.new).faults) result }
+        ensures cost { connecting.IsCheapIfDone bytes.now result steps.old steps.new }
+    {
+        let Store { chain, host, area } = self;
+        let staged = match stage_bytes(alloc, chain, bytes, area, LONGEST_AREA, steps) {
+            StageOutcome::Staged(staged) => staged,
+            StageOutcome::Refused(chain, refusal) => {
+                return Outcome::Refused(Store { chain, host, area }, refusal);
+            }
+            StageOutcome::NoMemory(chain) => return Outcome::NoMemory(Store { chain, host, area }),
+        };
+        match keep(disk, area, CONNECT, bytes) {
+            Ok(area) => {
+                let chain = staged.commit(steps);
+                let tip = chain.tip();
+                Outcome::Done(Store { chain, host, area }, tip)
+            }
+            Err(_) => Outcome::Faulted,
+        }
+    }
+
+    /// Disconnects the newest block, which has this hash: stages that, keeps it in the area, and then changes the index.
+    ///
+    /// The same holds as of a connect.
+    pub fn disconnect<D: Disk, L: Ledger>(
+        self,
+        alloc: Global,
+        disk: &mut D,
+        hash: Hash32,
+        steps: &mut Steps<L>,
+    ) -> BackOutcome
+        requires on_disk { IsTrue D.tells → IsOn self (D.seen disk.old).moments.now }
+        ensures disconnects { disconnecting.Disconnects longest_area self hash.0 result }
+        ensures undone { disconnecting.IfUndone (disk.new ≡ disk.old) result }
+        ensures kept { IsTrue D.tells → (run : RunState) → StandsFor self run
+            → disconnecting.DisconnectsOn run hash.0 (D.seen disk.old) (D.seen disk.new) result }
+        ensures later { NeverFell (D.seen disk.old).faults (D.seen disk.new).faults }
+        ensures fault { disconnecting.IfFaulted (Rose (D.seen disk.old).faults (D.seen disk.new).faults) result }
+        ensures cost { disconnecting.IsCheapIfDone self.index result steps.old steps.new }
+    {
+        let Store { chain, host, area } = self;
+        let staged = match stage_hash(alloc, chain, hash, area, LONGEST_AREA, steps) {
+            chain_state::BackOutcome::StagedBack(staged) => staged,
+            chain_state::BackOutcome::Refused(chain, refusal) => {
+                return BackOutcome::Refused(Store { chain, host, area }, refusal);
+            }
+            chain_state::BackOutcome::NoMemory(chain) => return BackOutcome::NoMemory(Store {
+                chain,
+                host,
+                area,
+            }),
+        };
+        match keep(disk, area, DISCONNECT, &hash.0) {
+            Ok(area) => {
+                let chain = staged.commit(steps);
+                let tip = chain.tip();
+                BackOutcome::Done(Store { chain, host, area }, tip)
+            }
+            Err(_) => BackOutcome::Faulted,
+        }
+    }
+}

@@ -1,0 +1,9 @@
+mod bytes;
+mod failures;
+mod far;
+mod files;
+mod first_block;
+mod life;
+mod making;
+mod memory;
+mod stops;
