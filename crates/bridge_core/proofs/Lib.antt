@@ -1,4 +1,9 @@
-mod OutcomeLemmas
-mod ReachedLemmas
-mod TurnLemmas
-mod CostLemmas
+pub mod CodeLemmas
+pub mod FileLemmas
+pub mod TurnLemmas
+pub mod KeptLemmas
+pub mod ReachedLemmas
+pub mod OutcomeLemmas
+pub mod OpeningLemmas
+pub mod WordLemmas
+pub mod StatusLemmas

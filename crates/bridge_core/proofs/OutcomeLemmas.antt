@@ -1,155 +1,190 @@
--- Where nothing failed, the bytes and the limit decide how a replay ends.
-use Rattle.std.proofs.Common.{◌≡◌, ℕ, ◌-◌, ◌<◌, ◌≤◌, List, [], ◌++◌, length, take, refl, sym, ap, subst, ◌∙◌, length-append, arith}
-use Rattle.std.proofs.lemmas.List.{append-nil, take_all}
-use Rattle.std.specs.Io.KnownBytes.{Consumes}
-use Rattle.feed_frames.specs.Frames.{Frame, frames_text, Splits, bad, partial, IsBadFrame, unknown_kind, wrong_length, IsPartialFrame, nothing}
-use Rattle.feed_frames.proofs.SplittingLemmas.{are_parts, same_splitting, splitting, splits_more, bad_then}
-use Rattle.frame_loop.specs.Causes.{SinkCause, failing, stalling}
-use Rattle.fault_counts.specs.Faults.{NeverFell}
-use Rattle.frame_loop.specs.Transcript.{Streams, passed, Ends, Transcript}
+-- What a replay comes to, by how its loop ended, or why its files weren't opened.
+use Rattle.std.proofs.Common.{◌≡◌, ℕ, Bool, List, [], ◌∷◌, ◌++◌, Err, refl, sym, subst}
+use Rattle.std.specs.Prelude.{IsTrue}
+use Rattle.fault_counts.specs.Faults.{NeverFell, Rose}
+use Rattle.fault_counts.proofs.FaultLemmas.{NeverFell_refl, stayed_then_Rose}
+use Rattle.disk_model.specs.DiskSeen.{DiskSeen, bytes_in}
+use Rattle.feed_frames.specs.Frames.{Frame}
+use Rattle.feed_frames.specs.Replies.{Reply}
+use Rattle.frame_loop.specs.Transcript as loops
+use Rattle.frame_loop.specs.Transcript.{Transcript, passed}
+use Rattle.frame_loop.specs.Outcome as outcomes
 use Rattle.frame_loop.specs.declared.following.Ending.{Ending}
 use Rattle.frame_loop.specs.declared.following.Ending.TheVariants as endings
-use Rattle.frame_loop.proofs.OutcomeLemmas.{read_front, read_all, same_as_read}
-use Rattle.machine.specs.RunState.{first_state}
-use Rattle.bridge_core.specs.Bridge.{Bridged}
-use Rattle.bridge_core.specs.Outcome.{NothingFailed, IsDetermined, IsComplete, Outcome, EndsWell}
+use Rattle.frame_loop.proofs.OutcomeLemmas as loop_outcomes
+use Rattle.machine.specs.RunState.{RunState}
+use Rattle.name_store.specs.declared.faults.OpenFault.{OpenFault}
+use Rattle.name_store.specs.declared.faults.OpenFault.TheVariants as faults
+use Rattle.name_store.specs.Opening.{OpenAnswer, OpensFor}
+use Rattle.name_store.specs.Stands.{Stands}
+use Rattle.bridge_core.specs.Reached.{Beginning, HasReached, Reached, Broken}
+use Rattle.bridge_core.specs.Outcome.{Outside, IsDetermined, IsComplete}
 use Rattle.bridge_core.specs.Replaying as replaying
-use Rattle.bridge_core.specs.Replaying.{BridgeReached, BridgeBroken, Tells, EndsSo, Replays}
+use Rattle.bridge_core.specs.Replaying.{Tells, EndsSo, StaysUnread, EndsAtDisk, in_opening, in_event, Replays, status_of_fault}
+use Rattle.bridge_core.specs.declared.bridge.Turned.{Turned}
+use Rattle.bridge_core.specs.declared.bridge.Turned.TheVariants.{On, Ended}
 use Rattle.bridge_core.specs.declared.status.Status.{Status}
-use Rattle.bridge_core.specs.declared.status.Status.TheVariants.{Done, Words, BadFrame, CutFrame, SourceFault, SinkFault, NoMemory, InputLimit}
+use Rattle.bridge_core.specs.declared.status.Status.TheVariants.{Done, Words, Uninitialised, Initialised, Damaged, BadFrame, CutFrame, DiskFault, SourceFault, SinkFault, NoMemory, InputLimit}
 
-no_cause : {old new : Streams} → SinkCause old.sink new.sink → NothingFailed old new → ⊥
-no_cause (failing f rose) well = well.sink rose
-no_cause (stalling s) well = let e = sym s ∙ well.moving in cc
+reached_later : (tells : Bool) (begun : Beginning) (frames : List Frame) (replies : List Reply) (last : Turned) (disk : DiskSeen) → HasReached tells begun frames replies last disk
+    → NeverFell begun.disk.faults disk.faults
+reached_later tells begun frames replies (On bridge) disk r = r.later
+reached_later tells begun frames replies Ended disk r = absurd r
 
-module _ (old new : Streams) (limit : ℕ) where
-  -- what was read and written, and how it ended
-  record Followed (how : Ending) : Type 0 where
-    read : List ℕ
-    written : List ℕ
-    last : Bridged × Unit {0}
-    given : Consumes old.source.left new.source.left read
-    within : length read ≤ limit
-    ending : Ends (BridgeReached first_state) (BridgeBroken first_state) old new limit (passed read written) how last
+-- a replay, as contracts see it
+pub record Scene (D : Type 0) : Type 0 where
+  pub tells : Bool
+  pub seen : D → DiskSeen
+  pub disk : D
+  pub old : Outside
+  pub new : Outside
+  pub limit : ℕ
 
-  -- what a transcript says by its ending
-  abbrev Shown : Status → Ending → Type 0
-  Shown status how = Followed how → IsDetermined old new limit status
+-- the loop over the stream of a bridge whose files were opened
+pub record Loop {D : Type 0} (s : Scene D) : Type 0 where
+  pub begun : Beginning
+  pub begun_is : begun.disk ≡ s.old.disk
+  pub begins : IsTrue s.tells → Stands (bytes_in s.old.disk) begun.run
+  pub how : Ending
+  pub last : Turned
+  pub transcript : Transcript (Reached s.tells s.seen begun) (Broken s.tells s.seen begun) s.old.streams s.new.streams s.limit how (last, s.disk)
+  pub source_later : NeverFell s.old.streams.source.faults s.new.streams.source.faults
+  pub sink_later : NeverFell s.old.streams.sink.faults s.new.streams.sink.faults
+  pub now : s.seen s.disk ≡ s.new.disk
 
-  done_shown : Shown Done endings.Done
-  done_shown f = λ bytes frames rest told split is_rest well.
-      let e = f.ending in
-      let all = read_all old.source.left new.source.left bytes f.read told f.given e.at_end in
-      let front = take_all limit bytes (omega (arith, ap length all, e.below_limit)) ∙ all in
-      let same = same_as_read (take limit bytes) f.read [] (splitting frames rest split is_rest) e.answered front (partial (nothing refl)) in
-      record { no_rest = same.rest; below_limit = omega (arith, ap length all, e.below_limit) }
+module _ {D : Type 0} (s : Scene D) (l : Loop s) where
+  abbrev Reaches : List Frame → List Reply → Turned × D → Type 0
+  Reaches = Reached s.tells s.seen l.begun
 
-  bad_shown : (offset : ℕ) → Shown (BadFrame offset) (endings.BadFrame offset)
-  bad_shown offset f = λ bytes frames rest told split is_rest well.
-      let e = f.ending in
-      let front = read_front limit old.source.left new.source.left bytes f.read told f.given f.within in
-      let more = take (limit - length f.read) front.left in
-      let longer = splits_more f.read e.answered.frames e.rest more e.answered.split in
-      let same = same_splitting frames rest e.answered.frames (e.rest ++ more) (are_parts frames rest split.framed is_rest) (are_parts e.answered.frames (e.rest ++ more) longer.framed (bad (bad_then e.rest more e.bad))) (sym split.whole ∙ front.front_is ∙ longer.whole) in
-      record {
-        bad = subst (λ (q : List ℕ). IsBadFrame q) (sym same.rest) (bad_then e.rest more e.bad);
-        offset_is = omega (arith, e.offset_is, ap length e.answered.split.whole, length-append (frames_text e.answered.frames) e.rest, ap (λ (x : List Frame). length (frames_text x)) same.frames);
-      }
+  abbrev Breaks : List Frame → List Reply → Turned × D → Type 0
+  Breaks = Broken s.tells s.seen l.begun
 
-  cut_shown : (offset : ℕ) → Shown (CutFrame offset) (endings.CutFrame offset)
-  cut_shown offset f = λ bytes frames rest told split is_rest well.
-      let e = f.ending in
-      let all = read_all old.source.left new.source.left bytes f.read told f.given e.at_end in
-      let front = take_all limit bytes (omega (arith, ap length all, e.below_limit)) ∙ all in
-      let same = same_as_read (take limit bytes) f.read e.rest (splitting frames rest split is_rest) e.answered front (partial e.partial) in
-      record {
-        partial = subst (λ (q : List ℕ). IsPartialFrame q) (sym same.rest) e.partial;
-        some_left = omega (arith, e.some_left, ap length same.rest);
-        below_limit = omega (arith, ap length all, e.below_limit);
-        offset_is = omega (arith, e.offset_is, ap length e.answered.split.whole, length-append (frames_text e.answered.frames) e.rest, ap (λ (x : List Frame). length (frames_text x)) same.frames);
-      }
+  abbrev EndedBy : Ending → Type 0
+  EndedBy how = loops.Ends Reaches Breaks s.old.streams s.new.streams s.limit (passed l.transcript.read l.transcript.written) how (l.last, s.disk)
 
-  limit_shown : Shown InputLimit endings.InputLimit
-  limit_shown f = λ bytes frames rest told split is_rest well.
-      let e = f.ending in
-      let first = read_front limit old.source.left new.source.left bytes f.read told f.given f.within in
-      let none : limit - length f.read ≡ 0 = omega (arith, e.at_limit) in
-      let front : take limit bytes ≡ f.read = first.front_is ∙ ap (λ (n : ℕ). f.read ++ take n first.left) none ∙ append-nil f.read in
-      let same = same_as_read (take limit bytes) f.read e.rest (splitting frames rest split is_rest) e.answered front (partial e.partial) in
-      record {
-        partial = subst (λ (q : List ℕ). IsPartialFrame q) (sym same.rest) e.partial;
-        reached = omega (arith, e.at_limit, ap length first.bytes_are, length-append f.read first.left);
-      }
+  reached_before : (frames : List Frame) (replies : List Reply) → Reaches frames replies (l.last, s.disk) → NeverFell l.begun.disk.faults (s.seen s.disk).faults
+  reached_before frames replies r = reached_later s.tells l.begun frames replies l.last (s.seen s.disk) r
 
-  source_shown : Shown SourceFault endings.SourceFault
-  source_shown f = λ bytes frames rest told split is_rest well. well.source f.ending.cause.rose
+  ended_later : (how : Ending) → EndedBy how → NeverFell l.begun.disk.faults (s.seen s.disk).faults
+  ended_later endings.Done e = reached_before e.answered.frames e.answered.replies e.answered.reached
+  ended_later (endings.BadFrame offset) e = reached_before e.answered.frames e.answered.replies e.answered.reached
+  ended_later (endings.CutFrame offset) e = reached_before e.answered.frames e.answered.replies e.answered.reached
+  ended_later endings.SourceFault e = reached_before e.answered.frames e.answered.replies e.answered.reached
+  ended_later endings.InputLimit e = reached_before e.answered.frames e.answered.replies e.answered.reached
+  ended_later endings.SinkFault e = reached_before e.interrupted.frames (e.interrupted.replies ++ e.interrupted.last ∷ []) e.interrupted.reached
+  ended_later endings.Ended e = e.broken_off.broken.later
 
-  sink_shown : Shown SinkFault endings.SinkFault
-  sink_shown f = λ bytes frames rest told split is_rest well. no_cause f.ending.cause well
+  disk_later : NeverFell s.old.disk.faults s.new.disk.faults
+  disk_later = subst (λ (d : DiskSeen). NeverFell d.faults s.new.disk.faults) l.begun_is (subst (λ (d : DiskSeen). NeverFell l.begun.disk.faults d.faults) l.now (ended_later l.how l.transcript.ending))
 
-  ending_shown : {status : Status} {how : Ending} → Shown status how → (e : EndsSo old new limit status) → e.how ≡ how → IsDetermined old new limit status
-  ending_shown shown e same =
-      let t = e.transcript in
-      shown (subst (λ (h : Ending). Followed h) same (record { read = t.read; written = t.written; last = e.last; given = t.given; within = t.within; ending = t.ending }))
+  fault_rose : l.how ≡ endings.Ended → Rose s.old.disk.faults s.new.disk.faults
+  fault_rose is =
+      let b = (subst (λ (how : Ending). EndedBy how) is l.transcript.ending).broken_off.broken in
+      subst (λ (d : DiskSeen). Rose d.faults s.new.disk.faults) l.begun_is
+      (subst (λ (d : DiskSeen). Rose l.begun.disk.faults d.faults) l.now (stayed_then_Rose l.begun.disk.faults b.at_last (s.seen s.disk).faults b.before_last b.failed))
 
-  determined : (status : Status) → replaying.Ends old new limit status → IsDetermined old new limit status
-  determined Done e = ending_shown done_shown e e.tells
-  determined (BadFrame offset) e = ending_shown (bad_shown offset) e e.tells
-  determined (CutFrame offset) e = ending_shown (cut_shown offset) e e.tells
-  determined SourceFault e = ending_shown source_shown e e.tells
-  determined SinkFault e = ending_shown sink_shown e e.tells
-  determined InputLimit e = ending_shown limit_shown e e.tells
-  determined NoMemory e = λ bytes frames rest told split is_rest well. tt
-  determined Words e = absurd e
+  loop_determined : outcomes.IsDetermined s.old.streams s.new.streams s.limit l.how
+  loop_determined = loop_outcomes.determined Reaches Breaks s.old.streams s.new.streams s.limit l.how (l.last, s.disk) l.transcript
 
-  -- an outcome of whole frames below the limit
-  ends_well : (bytes : List ℕ) (frames : List Frame) (status : Status) → length bytes < limit → Outcome limit bytes frames [] status → EndsWell status
-  ends_well bytes frames Done below o = tt
-  ends_well bytes frames Words below o = o
-  ends_well bytes frames (BadFrame offset) below o = empty_is_not_bad o.bad where
-    empty_is_not_bad : IsBadFrame [] → ⊥
-    empty_is_not_bad (unknown_kind kind rest e odd) = cc
-    empty_is_not_bad (wrong_length kind n rest e fits known odd) = cc
-  ends_well bytes frames (CutFrame offset) below o = omega (arith, o.some_left)
-  ends_well bytes frames SourceFault below o = o
-  ends_well bytes frames SinkFault below o = o
-  ends_well bytes frames NoMemory below o = tt
-  ends_well bytes frames InputLimit below o = omega (arith, o.reached)
+  loop_complete : outcomes.IsComplete s.old.streams s.new.streams s.limit l.how
+  loop_complete = loop_outcomes.complete s.old.streams s.new.streams s.limit l.how loop_determined
 
-  complete : (status : Status) → IsDetermined old new limit status → IsComplete old new limit status
-  complete status d = λ bytes frames told split below well.
-      let front : take limit bytes ≡ bytes = take_all limit bytes (omega arith) in
-      ends_well bytes frames status below (d bytes frames [] told (subst (λ (q : List ℕ). Splits q frames []) (sym front) split) (partial (nothing refl)) well)
+  -- the outcome of the loop by its ending
+  outcome_by : (how : Ending) → l.how ≡ how → outcomes.IsDetermined s.old.streams s.new.streams s.limit how
+  outcome_by how told = subst (λ (h : Ending). outcomes.IsDetermined s.old.streams s.new.streams s.limit h) told loop_determined
 
-  -- ---- a loop that ended
+  complete_by : (how : Ending) → l.how ≡ how → outcomes.IsComplete s.old.streams s.new.streams s.limit how
+  complete_by how told = subst (λ (h : Ending). outcomes.IsComplete s.old.streams s.new.streams s.limit h) told loop_complete
 
-  pub record Loop : Type 0 where
-    pub how : Ending
-    pub last : Bridged × Unit {0}
-    pub transcript : Transcript (BridgeReached first_state) (BridgeBroken first_state) old new limit how last
+  determined : (status : Status) → Tells status l.how → IsDetermined s.old s.new s.limit status
+  determined Done told = λ bytes frames rest left split is_rest well. outcome_by endings.Done told bytes frames rest left split is_rest well.streams
+  determined (BadFrame offset) told = λ bytes frames rest left split is_rest well. outcome_by (endings.BadFrame offset) told bytes frames rest left split is_rest well.streams
+  determined (CutFrame offset) told = λ bytes frames rest left split is_rest well. outcome_by (endings.CutFrame offset) told bytes frames rest left split is_rest well.streams
+  determined InputLimit told = λ bytes frames rest left split is_rest well. outcome_by endings.InputLimit told bytes frames rest left split is_rest well.streams
+  determined SourceFault told = λ bytes frames rest left split is_rest well. outcome_by endings.SourceFault told bytes frames rest left split is_rest well.streams
+  determined SinkFault told = λ bytes frames rest left split is_rest well. outcome_by endings.SinkFault told bytes frames rest left split is_rest well.streams
+  determined DiskFault told = λ bytes frames rest left split is_rest well. well.disk (fault_rose told)
+  determined NoMemory told = absurd told
+  determined Words told = absurd told
+  determined Uninitialised told = absurd told
+  determined Initialised told = absurd told
+  determined (Damaged file at) told = absurd told
 
-  module _ (l : Loop) where
-    -- a bridge doesn't end it
-    pub never_ended : l.how ≡ endings.Ended → ⊥
-    never_ended e =
-        let t = l.transcript in
-        let end = subst (λ (h : Ending). Ends (BridgeReached first_state) (BridgeBroken first_state) old new limit (passed t.read t.written) h l.last) e t.ending in
-        end.broken_off.broken
+  complete : (status : Status) → Tells status l.how → IsComplete s.tells s.old s.new s.limit status
+  complete Done told = λ tells run stands bytes frames left split below well. tt
+  complete (BadFrame offset) told = λ tells run stands bytes frames left split below well. complete_by (endings.BadFrame offset) told bytes frames left split below well.streams
+  complete (CutFrame offset) told = λ tells run stands bytes frames left split below well. complete_by (endings.CutFrame offset) told bytes frames left split below well.streams
+  complete InputLimit told = λ tells run stands bytes frames left split below well. complete_by endings.InputLimit told bytes frames left split below well.streams
+  complete SourceFault told = λ tells run stands bytes frames left split below well. complete_by endings.SourceFault told bytes frames left split below well.streams
+  complete SinkFault told = λ tells run stands bytes frames left split below well. complete_by endings.SinkFault told bytes frames left split below well.streams
+  complete DiskFault told = λ tells run stands bytes frames left split below well. well.disk (fault_rose told)
+  complete NoMemory told = absurd told
+  complete Words told = absurd told
+  complete Uninitialised told = absurd told
+  complete Initialised told = absurd told
+  complete (Damaged file at) told = absurd told
 
-    ended_so : (status : Status) → Tells status l.how → EndsSo old new limit status
-    ended_so status tells = record { how = l.how; last = l.last; tells = tells; transcript = l.transcript }
+  ended_so : (status : Status) → Tells status l.how → EndsSo s.tells s.seen s.disk s.old s.new s.limit status
+  ended_so status told = record { start = l.begun; start_is = l.begun_is; begins = l.begins; how = l.how; last = l.last; told = told; transcript = l.transcript }
 
-    ended : (status : Status) → Tells status l.how → replaying.Ends old new limit status
-    ended Done tells = ended_so Done tells
-    ended (BadFrame offset) tells = ended_so (BadFrame offset) tells
-    ended (CutFrame offset) tells = ended_so (CutFrame offset) tells
-    ended SourceFault tells = ended_so SourceFault tells
-    ended SinkFault tells = ended_so SinkFault tells
-    ended InputLimit tells = ended_so InputLimit tells
-    ended NoMemory tells = absurd tells
-    ended Words tells = absurd tells
+  ended : (status : Status) → Tells status l.how → replaying.Ends s.tells s.seen s.disk s.old s.new s.limit status
+  ended Done told = ended_so Done told
+  ended (BadFrame offset) told = ended_so (BadFrame offset) told
+  ended (CutFrame offset) told = ended_so (CutFrame offset) told
+  ended SourceFault told = ended_so SourceFault told
+  ended SinkFault told = ended_so SinkFault told
+  ended InputLimit told = ended_so InputLimit told
+  ended DiskFault told = in_event (ended_so DiskFault told)
+  ended NoMemory told = absurd told
+  ended Words told = absurd told
+  ended Uninitialised told = absurd told
+  ended Initialised told = absurd told
+  ended (Damaged file at) told = absurd told
 
-    pub replays : (status : Status) → Tells status l.how → NeverFell old.source.faults new.source.faults → NeverFell old.sink.faults new.sink.faults → Replays old new limit status
-    replays status tells source sink =
-        let d = determined status (ended status tells) in
-        record { source_later = source; sink_later = sink; ending = ended status tells; determined = d; complete = complete status d }
+  pub replays_loop : (status : Status) → Tells status l.how → Replays s.tells s.seen s.disk s.old s.new s.limit status
+  replays_loop status told = record {
+    source_later = l.source_later;
+    sink_later = l.sink_later;
+    disk_later = disk_later;
+    ending = ended status told;
+    determined = determined status told;
+    complete = complete status told;
+  }
+
+-- ---- files that weren't opened
+
+pub record Unopened {D : Type 0} (s : Scene D) (fault : OpenFault) : Type 0 where
+  pub unread : StaysUnread s.tells s.old s.new
+  pub answer : IsTrue s.tells → OpenAnswer (bytes_in s.old.disk) s.new.disk.moments.now (Err fault)
+  pub follows : IsTrue s.tells → (run : RunState) → Stands (bytes_in s.old.disk) run → OpensFor run (Err fault)
+  pub never_fell : NeverFell s.old.disk.faults s.new.disk.faults
+  pub cause : fault ≡ faults.DiskFault → Rose s.old.disk.faults s.new.disk.faults
+
+module _ {D : Type 0} (s : Scene D) where
+  ended_unopened : (fault : OpenFault) → Unopened s fault → replaying.Ends s.tells s.seen s.disk s.old s.new s.limit (status_of_fault fault)
+  ended_unopened faults.Uninitialised u = (u.unread, u.answer)
+  ended_unopened (faults.Damaged file at) u = (u.unread, u.answer)
+  ended_unopened faults.DiskFault u = in_opening u.unread (u.cause refl)
+  ended_unopened faults.NoMemory u = u.unread
+
+  determined_unopened : (fault : OpenFault) → Unopened s fault → IsDetermined s.old s.new s.limit (status_of_fault fault)
+  determined_unopened faults.Uninitialised u = λ bytes frames rest left split is_rest well. tt
+  determined_unopened (faults.Damaged file at) u = λ bytes frames rest left split is_rest well. tt
+  determined_unopened faults.DiskFault u = λ bytes frames rest left split is_rest well. well.disk (u.cause refl)
+  determined_unopened faults.NoMemory u = λ bytes frames rest left split is_rest well. tt
+
+  complete_unopened : (fault : OpenFault) → Unopened s fault → IsComplete s.tells s.old s.new s.limit (status_of_fault fault)
+  complete_unopened faults.Uninitialised u = λ tells run stands bytes frames left split below well. u.follows tells run stands
+  complete_unopened (faults.Damaged file at) u = λ tells run stands bytes frames left split below well. u.follows tells run stands
+  complete_unopened faults.DiskFault u = λ tells run stands bytes frames left split below well. well.disk (u.cause refl)
+  complete_unopened faults.NoMemory u = λ tells run stands bytes frames left split below well. tt
+
+  pub replays_unopened : (fault : OpenFault) → Unopened s fault → Replays s.tells s.seen s.disk s.old s.new s.limit (status_of_fault fault)
+  replays_unopened fault u = record {
+    source_later = subst (λ (t : loops.Streams). NeverFell s.old.streams.source.faults t.source.faults) (sym u.unread.streams) (NeverFell_refl s.old.streams.source.faults);
+    sink_later = subst (λ (t : loops.Streams). NeverFell s.old.streams.sink.faults t.sink.faults) (sym u.unread.streams) (NeverFell_refl s.old.streams.sink.faults);
+    disk_later = u.never_fell;
+    ending = ended_unopened fault u;
+    determined = determined_unopened fault u;
+    complete = complete_unopened fault u;
+  }

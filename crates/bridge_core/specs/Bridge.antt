@@ -1,32 +1,95 @@
--- What a bridge stands for, and what its turn does.
-use Rattle.std.specs.Prelude.{◌≡◌, ℕ}
+-- What the turn of a bridge does, of every run state that the bridge stands for.
+use Rattle.std.specs.Prelude.{◌≡◌, ◌≢◌, ℕ, []}
 use Rattle.feed_frames.specs.Replies.{Reply}
-use Rattle.chain_state.specs.Chain.{Indexed}
-use Rattle.chain_steps.specs.Standing as chains
+use Rattle.disk_model.specs.Moments.{Files, EachMoment}
+use Rattle.disk_model.specs.DiskSeen.{DiskSeen, bytes_in}
 use Rattle.chain_steps.specs.Costs.{IsCheap}
-use Rattle.machine.specs.Event.{Event, Do}
-use Rattle.machine.specs.RunState.{RunState, chain_of, area_of}
+use Rattle.machine.specs.Event.{Event, Connect, Disconnect, Do, Ask}
+use Rattle.machine.specs.RunState.{RunState, chain_of, IsFull, accepted}
+use Rattle.machine.specs.Connecting.{IsValid}
+use Rattle.machine.specs.Disconnecting.{IsValidBack}
 use Rattle.machine.specs.Step.{Step}
+use Rattle.name_store.specs.Stands.{Stands, EachStands, EachStandsForEither}
+use Rattle.name_store.specs.Stored.{Stored, StandsFor, IsOn}
+use Rattle.bridge_core.specs.declared.bridge.Turned.{Turned}
+use Rattle.bridge_core.specs.declared.bridge.Turned.TheVariants.{On, Ended}
 
--- the index, and the length of the area that keeps the commands
-pub record Bridged : Type 0 where
-  pub index : Indexed
-  pub area : ℕ
+-- ---- what the turn answers
 
--- the index is one of the run state's chain, and the area has its length
-pub record StandsFor (bridge : Bridged) (run : RunState) : Type 0 where
-  pub index : chains.StandsFor bridge.index (chain_of run)
-  pub area : bridge.area ≡ area_of run
+-- the disk failed while the command was kept
+abbrev pub fault_code : ℕ
+fault_code = 0xFD
 
-pub record Moves (old : RunState) (event : Event) (reply : Reply) (bridge : Bridged) : Type 0 where
+abbrev pub fault_reply : Reply
+fault_reply = record { code = fault_code; payload = [] }
+
+-- the command of the event has no refusal
+abbrev pub IsValidEvent : RunState → Event → Type 0
+IsValidEvent run (Do (Connect block)) = IsValid (IsFull run (Connect block)) (chain_of run) block
+IsValidEvent run (Do (Disconnect hash)) = IsValidBack (IsFull run (Disconnect hash)) (chain_of run) hash
+IsValidEvent run (Ask message) = ⊥
+
+-- what the event leaves where it is accepted
+abbrev pub accepted_by : RunState → Event → RunState
+accepted_by run (Do command) = accepted run command
+accepted_by run (Ask message) = run
+
+-- one step of the machine gives the reply, and the bridge stands for the run state behind it
+pub record Moves (old : RunState) (event : Event) (reply : Reply) (bridge : Stored) : Type 0 where
   pub new : RunState
   pub step : Step old event reply new
   pub stands : StandsFor bridge new
 
--- whatever run state the bridge stood for, it gave the reply by one step of the machine and stands for the new state
-abbrev pub Turns : Bridged → Event → Reply → Bridged → Type 0
-Turns old event reply new = (run : RunState) → StandsFor old run → Moves run event reply new
+-- A bridge that goes on made one step of the machine. It ends only behind all refusals.
+abbrev pub TurnsFor : RunState → Event → Reply → Turned → Type 0
+TurnsFor run event reply (On bridge) = Moves run event reply bridge
+TurnsFor run event reply Ended = IsValidEvent run event
+
+abbrev pub Turns : Stored → Event → Reply → Turned → Type 0
+Turns old event reply turned = (run : RunState) → StandsFor old run → TurnsFor run event reply turned
+
+-- code FD is the reply exactly where the bridge has ended, and it has no payload
+abbrev pub TellsFault : Reply → Turned → Type 0
+TellsFault reply (On bridge) = reply.code ≢ fault_code
+TellsFault reply Ended = reply ≡ fault_reply
+
+-- ---- what it leaves on a disk that tells its files
+
+-- the bridge is on the disk, where it goes on
+abbrev pub IsStillOn : Turned → Files → Type 0
+IsStillOn (On bridge) files = IsOn bridge files
+IsStillOn Ended files = Unit {0}
+
+-- as read, and whatever a crash leaves, the files stand for the run state
+pub record AreFilesOf (run : RunState) (files : Files) : Type 0 where
+  pub read : Stands (λ file. (files file).bytes) run
+  pub each : EachStands files run
+
+-- Whatever a crash leaves at any moment stands for the run state before the event, or for that with it. At the end it stands
+-- for the one with it where the reply has code 0, and for the one before where it has another code but FD.
+pub record OutlivesCrashes (run : RunState) (event : Event) (before after : DiskSeen) (reply : Reply) : Type 0 where
+  pub any_moment : EachMoment (EachStandsForEither run (accepted_by run event)) before.moments after.moments
+  pub done : reply.code ≡ 0 → AreFilesOf (accepted_by run event) after.moments.now
+  pub undone : reply.code ≢ 0 → reply.code ≢ fault_code → AreFilesOf run after.moments.now
+
+-- of a run state that the bridge stood for, where the files stood for it too
+pub record KeepsOn (run : RunState) (event : Event) (before after : DiskSeen) (reply : Reply) (turned : Turned) : Type 0 where
+  pub still_on : IsStillOn turned after.moments.now
+  pub crashes : Stands (bytes_in before) run → OutlivesCrashes run event before after reply
+
+-- ---- causes and costs
+
+-- P holds where the bridge has ended
+abbrev pub IfEnded : Type 0 → Turned → Type 0
+IfEnded P (On bridge) = Unit {0}
+IfEnded P Ended = P
+
+-- of a bridge that goes on
+abbrev pub IsCheapOn : Stored → Event → Turned → ℕ → ℕ → Type 0
+IsCheapOn old (Do command) (On bridge) before after = IsCheap old.index command bridge.index before after
+IsCheapOn old (Ask message) (On bridge) before after = Unit {0}
+IsCheapOn old event Ended before after = Unit {0}
 
 -- where the command is accepted
-abbrev pub IsCheapTurn : Bridged → Event → Reply → Bridged → ℕ → ℕ → Type 0
-IsCheapTurn old (Do command) reply new before after = reply.code ≡ 0 → IsCheap old.index command new.index before after
+abbrev pub IsCheapTurn : Stored → Event → Reply → Turned → ℕ → ℕ → Type 0
+IsCheapTurn old event reply turned before after = reply.code ≡ 0 → IsCheapOn old event turned before after

@@ -1,68 +1,85 @@
--- What a replay read and wrote, and where its frames and replies led.
-use Rattle.std.specs.Prelude.{◌≡◌, ℕ, List, map}
-use Rattle.fault_counts.specs.Faults.{NeverFell}
-use Rattle.feed_frames.specs.Frames.{Frame}
-use Rattle.feed_frames.specs.Replies.{Reply}
-use Rattle.frame_loop.specs.Transcript.{Streams, Transcript}
+-- What a replay read and wrote, where its frames and replies led, and what its files stand for.
+use Rattle.std.specs.Prelude.{◌≡◌, ℕ, Bool, IsTrue}
+use Rattle.fault_counts.specs.Faults.{NeverFell, Rose}
+use Rattle.disk_model.specs.Moments.{EachMoment}
+use Rattle.disk_model.specs.DiskSeen.{DiskSeen, bytes_in}
+use Rattle.frame_loop.specs.Transcript.{Transcript}
 use Rattle.frame_loop.specs.declared.following.Ending.{Ending}
 use Rattle.frame_loop.specs.declared.following.Ending.TheVariants as endings
-use Rattle.machine.specs.Event.{Event, frame_of}
-use Rattle.machine.specs.RunState.{RunState, first_state}
-use Rattle.machine.specs.Step.{Run}
-use Rattle.bridge_core.specs.Bridge.{Bridged, StandsFor}
-use Rattle.bridge_core.specs.Outcome.{IsDetermined, IsComplete}
+use Rattle.name_store.specs.Header.{IsUninitialised}
+use Rattle.name_store.specs.Damage.{IsDamaged}
+use Rattle.name_store.specs.Opening.{AddsNoImage}
+use Rattle.name_store.specs.declared.faults.OpenFault.{OpenFault}
+use Rattle.name_store.specs.declared.faults.OpenFault.TheVariants as faults
+use Rattle.name_store.specs.Stands.{Stands}
+use Rattle.bridge_core.specs.Reached.{Beginning, Reached, Broken}
+use Rattle.bridge_core.specs.Outcome.{Outside, IsDetermined, IsComplete}
+use Rattle.bridge_core.specs.declared.bridge.Turned.{Turned}
 use Rattle.bridge_core.specs.declared.status.Status.{Status}
-use Rattle.bridge_core.specs.declared.status.Status.TheVariants.{Done, Words, BadFrame, CutFrame, SourceFault, SinkFault, NoMemory, InputLimit}
+use Rattle.bridge_core.specs.declared.status.Status.TheVariants.{Done, Words, Uninitialised, Initialised, Damaged, BadFrame, CutFrame, DiskFault, SourceFault, SinkFault, NoMemory, InputLimit}
 
--- the frames are events, a run from the start gives them the replies, and the bridge stands for the state that it left
-pub record IsReached (start : RunState) (frames : List Frame) (replies : List Reply) (bridge : Bridged) : Type 0 where
-  pub events : List Event
-  pub run : RunState
-  pub frames_are : frames ≡ map frame_of events
-  pub runs : Run start events replies run
-  pub stands : StandsFor bridge run
-
--- there is no disk beside the bridge
-abbrev pub BridgeReached : RunState → List Frame → List Reply → Bridged × Unit {0} → Type 0
-BridgeReached start frames replies now = IsReached start frames replies now.0
-
--- a bridge never ends by itself
-abbrev pub BridgeBroken : RunState → List Frame → List Reply → Bridged × Unit {0} → Type 0
-BridgeBroken start frames replies now = ⊥
-
--- the ending that the status tells
+-- the ending of the loop that the status tells: a bridge that has ended is a fault of the disk
 abbrev pub Tells : Status → Ending → Type 0
 Tells Done how = how ≡ endings.Done
 Tells (BadFrame offset) how = how ≡ endings.BadFrame offset
 Tells (CutFrame offset) how = how ≡ endings.CutFrame offset
+Tells DiskFault how = how ≡ endings.Ended
 Tells SourceFault how = how ≡ endings.SourceFault
 Tells SinkFault how = how ≡ endings.SinkFault
 Tells InputLimit how = how ≡ endings.InputLimit
 Tells NoMemory how = ⊥
 Tells Words how = ⊥
+Tells Uninitialised how = ⊥
+Tells Initialised how = ⊥
+Tells (Damaged file at) how = ⊥
 
--- the loop over the stream ended so, from the first state
-pub record EndsSo (old new : Streams) (limit : ℕ) (status : Status) : Type 0 where
+-- the status of files that couldn't be opened
+abbrev pub status_of_fault : OpenFault → Status
+status_of_fault faults.Uninitialised = Uninitialised
+status_of_fault (faults.Damaged file at) = Damaged file at
+status_of_fault faults.DiskFault = DiskFault
+status_of_fault faults.NoMemory = NoMemory
+
+-- The files were opened, and the loop over the stream ended so, from the run state that they stood for as they were read.
+pub record EndsSo {D : Type 0} (tells : Bool) (seen : D → DiskSeen) (disk : D) (old new : Outside) (limit : ℕ) (status : Status) : Type 0 where
+  pub start : Beginning
+  pub start_is : start.disk ≡ old.disk
+  pub begins : IsTrue tells → Stands (bytes_in old.disk) start.run
   pub how : Ending
-  pub last : Bridged × Unit {0}
-  pub tells : Tells status how
-  pub transcript : Transcript (BridgeReached first_state) (BridgeBroken first_state) old new limit how last
+  pub last : Turned
+  pub told : Tells status how
+  pub transcript : Transcript (Reached tells seen start) (Broken tells seen start) old.streams new.streams limit how (last, disk)
 
--- memory ran out before anything was read, or the loop ended
-abbrev pub Ends : (old new : Streams) (limit : ℕ) → Status → Type 0
-Ends old new limit NoMemory = new ≡ old
-Ends old new limit Words = ⊥
-Ends old new limit Done = EndsSo old new limit Done
-Ends old new limit (BadFrame offset) = EndsSo old new limit (BadFrame offset)
-Ends old new limit (CutFrame offset) = EndsSo old new limit (CutFrame offset)
-Ends old new limit SourceFault = EndsSo old new limit SourceFault
-Ends old new limit SinkFault = EndsSo old new limit SinkFault
-Ends old new limit InputLimit = EndsSo old new limit InputLimit
+-- Nothing was read and nothing written, and whatever a crash left was there at the start.
+pub record StaysUnread (tells : Bool) (old new : Outside) : Type 0 where
+  pub streams : new.streams ≡ old.streams
+  pub any_moment : IsTrue tells → EachMoment (AddsNoImage old.disk.moments.now) old.disk.moments new.disk.moments
+
+-- the files couldn't be opened for a fault of the disk, or one came in the event answered last
+pub data EndsAtDisk {D : Type 0} (tells : Bool) (seen : D → DiskSeen) (disk : D) (old new : Outside) (limit : ℕ) : Type 0 where
+  in_opening : StaysUnread tells old new → Rose old.disk.faults new.disk.faults → EndsAtDisk tells seen disk old new limit
+  in_event : EndsSo tells seen disk old new limit DiskFault → EndsAtDisk tells seen disk old new limit
+
+-- The files couldn't be opened, memory ran out, or the loop ended.
+abbrev pub Ends : {D : Type 0} (tells : Bool) (seen : D → DiskSeen) (disk : D) (old new : Outside) (limit : ℕ) → Status → Type 0
+Ends tells seen disk old new limit Uninitialised = StaysUnread tells old new × (IsTrue tells → IsUninitialised (bytes_in old.disk 0))
+Ends tells seen disk old new limit (Damaged file at) = StaysUnread tells old new × (IsTrue tells → IsDamaged (bytes_in old.disk) file at)
+Ends tells seen disk old new limit NoMemory = StaysUnread tells old new
+Ends tells seen disk old new limit DiskFault = EndsAtDisk tells seen disk old new limit
+Ends tells seen disk old new limit Words = ⊥
+Ends tells seen disk old new limit Initialised = ⊥
+Ends tells seen disk old new limit Done = EndsSo tells seen disk old new limit Done
+Ends tells seen disk old new limit (BadFrame offset) = EndsSo tells seen disk old new limit (BadFrame offset)
+Ends tells seen disk old new limit (CutFrame offset) = EndsSo tells seen disk old new limit (CutFrame offset)
+Ends tells seen disk old new limit SourceFault = EndsSo tells seen disk old new limit SourceFault
+Ends tells seen disk old new limit SinkFault = EndsSo tells seen disk old new limit SinkFault
+Ends tells seen disk old new limit InputLimit = EndsSo tells seen disk old new limit InputLimit
 
 -- what a replay did: no count of faults fell, its transcript, and what that comes to where nothing failed
-pub record Replays (old new : Streams) (limit : ℕ) (status : Status) : Type 0 where
-  pub source_later : NeverFell old.source.faults new.source.faults
-  pub sink_later : NeverFell old.sink.faults new.sink.faults
-  pub ending : Ends old new limit status
+pub record Replays {D : Type 0} (tells : Bool) (seen : D → DiskSeen) (disk : D) (old new : Outside) (limit : ℕ) (status : Status) : Type 0 where
+  pub source_later : NeverFell old.streams.source.faults new.streams.source.faults
+  pub sink_later : NeverFell old.streams.sink.faults new.streams.sink.faults
+  pub disk_later : NeverFell old.disk.faults new.disk.faults
+  pub ending : Ends tells seen disk old new limit status
   pub determined : IsDetermined old new limit status
-  pub complete : IsComplete old new limit status
+  pub complete : IsComplete tells old new limit status

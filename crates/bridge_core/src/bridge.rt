@@ -1,146 +1,162 @@
-ghost use Rattle.std.specs.Prelude.{◌≡◌, ◌+◌, ◌≤◌, ◌++◌, length, IfOk};
-ghost use Rattle.std.specs.Int.{w32, to_le_bytes};
+ghost use Rattle.std.specs.Prelude.{◌≡◌, ◌≢◌, ◌≤◌, length, IsTrue, IfOk, IsErrOf};
+ghost use Rattle.fault_counts.specs.Faults.{NeverFell, Rose};
 ghost use Rattle.nmc_base.specs.declared.limits.TheConstants.{LONGEST_BLOCK};
-ghost use Rattle.chain_state.specs.Chain.{IsConnected};
-ghost use Rattle.chain_state.specs.Stage.{commit_steps};
-ghost use Rattle.chain_state.specs.StageBack.{IsDisconnected, back_commit_steps};
-ghost use Rattle.machine.specs.Event.{Connect, Disconnect, Do};
-ghost use Rattle.machine.specs.RunState.{first_state};
-ghost use Rattle.bridge_core.specs.Bridge.{StandsFor, Turns, IsCheapTurn};
+ghost use Rattle.disk_model.specs.Moments.{EachMoment};
+ghost use Rattle.disk_model.specs.DiskSeen.{bytes_in};
+ghost use Rattle.machine.specs.Event.{Ask, Connect, Disconnect, Do};
+ghost use Rattle.machine.specs.RunState.{RunState};
+ghost use Rattle.name_store.specs.Opening.{OpenAnswer, OpensFor, AddsNoImage, ReadsAlike};
+ghost use Rattle.name_store.specs.Stands.{Stands};
+ghost use Rattle.name_store.specs.Stored.{StandsFor, IsOn};
+ghost use Rattle.bridge_core.specs.Bridge.{
+  Turns,
+  TellsFault,
+  KeepsOn,
+  IfEnded,
+  IsCheapTurn,
+  fault_code,
+};
 ghost use Rattle.bridge_core.specs.Views.{event_of, IsWithinLimits};
 
 use crate::event::Event;
-use crate::replies::{accept, lack_memory, refuse, refuse_back};
-use chain_state::{BackOutcome, Chain, StageOutcome, StagedBack, StagedChain};
-use chain_steps::{CONNECT_RECORD, DISCONNECT_RECORD, stage_bytes, stage_hash};
+use crate::querying::answer_query;
+use crate::replies::{accept, lack_memory, refuse, refuse_back, tell_fault};
+use disk_model::Disk;
 use frame_loop::ReplyBuf;
-use nmc_base::{Base, Hash32, NoMemory, Profile, Steps};
+use name_store::{BackOutcome, OpenFault, Outcome, Store};
+use nmc_base::{Hash32, Steps};
 use std::alloc::Global;
 use std::marker::Model;
 use std::sync::ledger::Ledger;
 
-/// No area is longer: 2^42 bytes.
-const LONGEST_AREA: u64 = 1 << 42;
-
-/// The length of an area without a command: the length of the saved text in 8 bytes, and a closed gate.
-const EMPTY_AREA: u64 = 9;
-
-/// The bridge over a chain of blocks: the index of its names, and how long the area is that keeps its commands. Contracts
-/// see both.
+/// The bridge over a chain of blocks, whose commands are kept in the files of a disk. Contracts see its store. It holds no
+/// disk.
 #[derive(Drop)]
 pub struct Bridge {
-    chain: Chain,
-    area: u64,
+    store: Store,
 }
 
 impl Model for Bridge {
-    ghost use Rattle.std.specs.Prelude.{◌≤◌, ◌^◌};
-    ghost use Rattle.bridge_core.specs.Bridge.{Bridged};
+    ghost use Rattle.name_store.specs.Stored.{Stored};
 
-    ghost Value = { Bridged };
+    ghost Value = { Stored };
 
-    ghost view = { λ b. record { index = b.chain; area = b.area } };
-
-    ghost invariant = { λ b. b.area ≤ 2 ^ 42 };
+    ghost view = { λ b. b.store };
 }
 
-/// Commits a staged block, and tells the new tip.
-fn join<L: Ledger>(staged: StagedChain, reply: &mut ReplyBuf, steps: &mut Steps<L>) -> Chain
-    ensures connected { IsConnected staged result }
-    ensures cost { steps.new ≤ steps.old + commit_steps staged }
-    ensures told { reply.new ≡ record { code = 0; payload = to_le_bytes w32 result.tip.height ++ result.tip.hash.0 } }
-{
-    let chain = staged.commit(steps);
-    accept(reply, &chain.tip());
-    chain
-}
-
-/// Commits a staged disconnect, and tells the new tip.
-fn part<L: Ledger>(staged: StagedBack, reply: &mut ReplyBuf, steps: &mut Steps<L>) -> Chain
-    ensures disconnected { IsDisconnected staged result }
-    ensures cost { steps.new ≤ steps.old + back_commit_steps staged.undos }
-    ensures told { reply.new ≡ record { code = 0; payload = to_le_bytes w32 result.tip.height ++ result.tip.hash.0 } }
-{
-    let below = staged.commit(steps);
-    accept(reply, &below.tip());
-    below
+/// What came of a turn: the bridge goes on, or a fault of the disk has ended it. Then open the files again.
+#[derive(Drop)]
+pub enum Turned {
+    On(Bridge),
+    Ended,
 }
 
 impl Bridge {
-    /// The bridge over a regtest chain from its beginning: height 0, and a hash of 32 zero bytes.
-    pub fn at_base(alloc: Global) -> Result<Bridge, NoMemory>
-        ensures { IfOk result (λ bridge. StandsFor bridge first_state) }
+    /// Opens the files: the bridge stands for the run state that they stand for. It writes nothing and cuts nothing.
+    pub fn open<D: Disk>(alloc: Global, disk: &mut D) -> Result<Bridge, OpenFault>
+        ensures found { IfOk result (λ bridge. (run : RunState) × StandsFor bridge run) }
+        ensures answer { IsTrue D.tells → OpenAnswer (bytes_in (D.seen disk.old)) (D.seen disk.new).moments.now result }
+        ensures follows { IsTrue D.tells → (run : RunState) → Stands (bytes_in (D.seen disk.old)) run → OpensFor run result }
+        ensures same { IsTrue D.tells → IfOk result (λ bridge. ReadsAlike (D.seen disk.old) (D.seen disk.new)) }
+        ensures untouched { IsTrue D.tells
+            → EachMoment (AddsNoImage (D.seen disk.old).moments.now) (D.seen disk.old).moments (D.seen disk.new).moments }
+        ensures later { NeverFell (D.seen disk.old).faults (D.seen disk.new).faults }
+        ensures fault { IsErrOf result OpenFault.DiskFault → Rose (D.seen disk.old).faults (D.seen disk.new).faults }
     {
-        let base = Base {
-            profile: Profile::Regtest,
-            height: 0,
-            hash: Hash32([0; 32]),
-        };
-        let chain = Chain::at_base(alloc, base)?;
-        Ok(Bridge {
-            chain,
-            area: EMPTY_AREA,
-        })
+        match Store::open(alloc, disk) {
+            Ok(store) => Ok(Bridge { store }),
+            Err(fault) => Err(fault),
+        }
     }
 
     /// Connects a block: it joins the chain where it is valid and memory is there for what it does to names.
-    fn connect<L: Ledger>(
+    fn connect<D: Disk, L: Ledger>(
         self,
         alloc: Global,
+        disk: &mut D,
         bytes: &[u8],
         reply: &mut ReplyBuf,
         steps: &mut Steps<L>,
-    ) -> Bridge
-        requires { length bytes.now ≤ LONGEST_BLOCK }
+    ) -> Turned
+        requires short { length bytes.now ≤ LONGEST_BLOCK }
+        requires on_disk { IsTrue D.tells → IsOn self (D.seen disk.old).moments.now }
         ensures turns { Turns self (Do (Connect bytes.now)) reply.new result }
+        ensures told { TellsFault reply.new result }
+        ensures untouched { reply.new.code ≢ 0 → reply.new.code ≢ fault_code → disk.new ≡ disk.old }
+        ensures kept { IsTrue D.tells → (run : RunState) → StandsFor self run
+            → KeepsOn run (Do (Connect bytes.now)) (D.seen disk.old) (D.seen disk.new) reply.new result }
+        ensures later { NeverFell (D.seen disk.old).faults (D.seen disk.new).faults }
+        ensures fault { IfEnded (Rose (D.seen disk.old).faults (D.seen disk.new).faults) result }
         ensures cost { IsCheapTurn self (Do (Connect bytes.now)) reply.new result steps.old steps.new }
     {
-        let Bridge { chain, area } = self;
-        match stage_bytes(alloc, chain, bytes, area, LONGEST_AREA, steps) {
-            StageOutcome::Staged(staged) => {
-                let chain = join(staged, reply, steps);
-                let area = area + CONNECT_RECORD + bytes.len() as u64;
-                Bridge { chain, area }
+        match self.store.connect(alloc, disk, bytes, steps) {
+            Outcome::Done(store, tip) => {
+                accept(reply, &tip);
+                Turned::On(Bridge { store })
             }
-            StageOutcome::Refused(chain, refusal) => {
+            Outcome::Refused(store, refusal) => {
                 refuse(reply, &refusal);
-                Bridge { chain, area }
+                Turned::On(Bridge { store })
             }
-            StageOutcome::NoMemory(chain) => {
+            Outcome::NoMemory(store) => {
                 lack_memory(reply);
-                Bridge { chain, area }
+                Turned::On(Bridge { store })
+            }
+            Outcome::Faulted => {
+                tell_fault(reply);
+                Turned::Ended
             }
         }
     }
 
     /// Disconnects the newest block: it leaves the chain where the hash is its own and memory is there for the places of
     /// what it took from names.
-    fn disconnect<L: Ledger>(
+    fn disconnect<D: Disk, L: Ledger>(
         self,
         alloc: Global,
+        disk: &mut D,
         hash: Hash32,
         reply: &mut ReplyBuf,
         steps: &mut Steps<L>,
-    ) -> Bridge
+    ) -> Turned
+        requires on_disk { IsTrue D.tells → IsOn self (D.seen disk.old).moments.now }
         ensures turns { Turns self (Do (Disconnect hash.0)) reply.new result }
+        ensures told { TellsFault reply.new result }
+        ensures untouched { reply.new.code ≢ 0 → reply.new.code ≢ fault_code → disk.new ≡ disk.old }
+        ensures kept { IsTrue D.tells → (run : RunState) → StandsFor self run
+            → KeepsOn run (Do (Disconnect hash.0)) (D.seen disk.old) (D.seen disk.new) reply.new result }
+        ensures later { NeverFell (D.seen disk.old).faults (D.seen disk.new).faults }
+        ensures fault { IfEnded (Rose (D.seen disk.old).faults (D.seen disk.new).faults) result }
         ensures cost { IsCheapTurn self (Do (Disconnect hash.0)) reply.new result steps.old steps.new }
     {
-        let Bridge { chain, area } = self;
-        match stage_hash(alloc, chain, hash, area, LONGEST_AREA, steps) {
-            BackOutcome::StagedBack(staged) => {
-                let chain = part(staged, reply, steps);
-                let area = area + DISCONNECT_RECORD;
-                Bridge { chain, area }
+        match self.store.disconnect(alloc, disk, hash, steps) {
+            BackOutcome::Done(store, tip) => {
+                accept(reply, &tip);
+                Turned::On(Bridge { store })
             }
-            BackOutcome::Refused(chain, refusal) => {
+            BackOutcome::Refused(store, refusal) => {
                 refuse_back(reply, &refusal);
-                Bridge { chain, area }
+                Turned::On(Bridge { store })
             }
-            BackOutcome::NoMemory(chain) => {
+            BackOutcome::NoMemory(store) => {
                 lack_memory(reply);
-                Bridge { chain, area }
+                Turned::On(Bridge { store })
+            }
+            BackOutcome::Faulted => {
+                tell_fault(reply);
+                Turned::Ended
             }
         }
+    }
+
+    /// Answers a message of DNS from the names that the chain serves. It asks nothing of the disk.
+    fn query(self, alloc: Global, message: &[u8], reply: &mut ReplyBuf) -> Bridge
+        ensures same { result ≡ self }
+        ensures turns { Turns self (Ask message.now) reply.new (Turned.On self) }
+        ensures no_fault { reply.new.code ≢ fault_code }
+    {
+        answer_query(alloc, &self.store, message, reply);
+        self
     }
 
     /// Deals with one event and writes its one reply.
@@ -150,22 +166,37 @@ impl Bridge {
     /// rule on names, and code 5 one for whose record the area has no room, in this order. Of a disconnect, code 7 answers
     /// where no block stands on the base, then code 6 a hash that isn't the newest block's, and then code 5.
     ///
-    /// Code FE, want of memory, may stand in the place of codes 0 and 5, and of a connect's codes 3 and 10 to 28. Then
-    /// nothing has changed.
-    pub fn turn<L: Ledger>(
+    /// Of a message of DNS, code 8 answers one that gets no reply, and code 0 all others: the reply is the payload, SERVFAIL
+    /// for want of memory.
+    ///
+    /// Code FE, want of memory, may stand in the place of a command's codes 0 and 5, and of a connect's codes 3 and 10 to 28. Then
+    /// nothing has changed, and the disk wasn't asked, as with each refusal.
+    ///
+    /// Code FD, a fault of the disk, ends the bridge. A crash at any moment, and such a fault, leave files that stand for
+    /// what was there before the event, or for that with it; behind code 0 they stand for that with it.
+    pub fn turn<D: Disk, L: Ledger>(
         self,
         alloc: Global,
+        disk: &mut D,
         event: Event<'_>,
         reply: &mut ReplyBuf,
         steps: &mut Steps<L>,
-    ) -> Bridge
-        requires { IsWithinLimits event }
+    ) -> Turned
+        requires within { IsWithinLimits event }
+        requires on_disk { IsTrue D.tells → IsOn self (D.seen disk.old).moments.now }
         ensures turns { Turns self (event_of event.entry) reply.new result }
+        ensures told { TellsFault reply.new result }
+        ensures untouched { reply.new.code ≢ 0 → reply.new.code ≢ fault_code → disk.new ≡ disk.old }
+        ensures kept { IsTrue D.tells → (run : RunState) → StandsFor self run
+            → KeepsOn run (event_of event.entry) (D.seen disk.old) (D.seen disk.new) reply.new result }
+        ensures later { NeverFell (D.seen disk.old).faults (D.seen disk.new).faults }
+        ensures fault { IfEnded (Rose (D.seen disk.old).faults (D.seen disk.new).faults) result }
         ensures cost { IsCheapTurn self (event_of event.entry) reply.new result steps.old steps.new }
     {
         match event {
-            Event::Connect(bytes) => self.connect(alloc, bytes, reply, steps),
-            Event::Disconnect(hash) => self.disconnect(alloc, hash, reply, steps),
+            Event::Connect(bytes) => self.connect(alloc, disk, bytes, reply, steps),
+            Event::Disconnect(hash) => self.disconnect(alloc, disk, hash, reply, steps),
+            Event::Query(message) => Turned::On(self.query(alloc, message, reply)),
         }
     }
 }

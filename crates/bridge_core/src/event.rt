@@ -14,10 +14,15 @@ pub enum Event<'a> {
     Connect(&'a [u8]),
     /// The hash of the newest block, which is to leave the chain.
     Disconnect(Hash32),
+    /// A message of DNS that is to be answered, of at most 65,535 bytes.
+    Query(&'a [u8]),
 }
 
 /// The kind of a connect's frame.
 const CONNECT: u8 = 1;
+
+/// The kind of a query's frame.
+const QUERY: u8 = 3;
 
 /// The event of a whole frame.
 pub(crate) fn read_event(frame: Frame<'_>) -> Event<'_>
@@ -26,6 +31,9 @@ pub(crate) fn read_event(frame: Frame<'_>) -> Event<'_>
 {
     if frame.kind == CONNECT {
         return Event::Connect(frame.payload);
+    }
+    if frame.kind == QUERY {
+        return Event::Query(frame.payload);
     }
     match frame.payload.as_array() {
         Some(hash) => Event::Disconnect(Hash32(*hash)),

@@ -1,18 +1,22 @@
-//! The bridge: it deals with events one by one, and with whole streams of frames.
+//! The bridge: it deals with events one by one, and with whole streams of frames, and keeps its commands in files.
 #![tactic(auto)]
 
+mod answering;
 mod bridge;
 mod command;
 mod event;
+mod making;
+mod querying;
 mod replaying;
 mod replies;
 mod status;
 mod words;
 
-pub use bridge::Bridge;
+pub use bridge::{Bridge, Turned};
 pub use command::run;
 pub use event::Event;
 pub use frame_loop::ReplyBuf;
+pub use name_store::OpenFault;
 pub use replaying::replay;
 pub use status::Status;
 pub use words::Command;

@@ -1,63 +1,21 @@
-ghost use Rattle.std.specs.Prelude.{◌≡◌, ◌≢◌, ◌<◌, ◌≤◌, ◌^◌, IfOk};
+ghost use Rattle.std.specs.Prelude.{◌≡◌, ◌<◌, ◌≤◌, ◌^◌};
 ghost use Rattle.frame_loop.specs.Transcript.{streams};
-ghost use Rattle.frame_loop.specs.declared.following.Ending.TheVariants as endings;
-ghost use Rattle.machine.specs.RunState.{first_state};
-ghost use Rattle.bridge_core.specs.Bridge.{StandsFor};
-ghost use Rattle.bridge_core.specs.Replaying.{Tells, Replays};
+ghost use Rattle.bridge_core.specs.Outcome.{outside};
+ghost use Rattle.bridge_core.specs.Replaying.{Tells, Replays, status_of_fault};
 
-use crate::bridge::Bridge;
-use crate::event::read_event;
+use crate::bridge::{Bridge, Turned};
 use crate::status::Status;
 use byte_io::{Sink, Source};
-use feed_frames::Frame;
-use frame_loop::{Answerer, Buffers, Ending, ReplyBuf, follow};
+use disk_model::Disk;
+use frame_loop::{Buffers, Ending, follow};
+use name_store::OpenFault;
 use nmc_base::{NoMemory, Steps};
 use std::alloc::Global;
 use std::marker::Brand;
 use std::sync::ledger::{Blank, Ledger};
 
-impl Answerer<()> for Bridge {
-    ghost use Rattle.machine.specs.RunState.{RunState};
-    ghost use Rattle.bridge_core.specs.Replaying.{BridgeReached, BridgeBroken};
-
-    ghost Start = { RunState };
-
-    ghost reached = { BridgeReached };
-
-    ghost broken = { BridgeBroken };
-
-    fn turn<L: Ledger>(
-        self,
-        alloc: Global,
-        _world: &mut (),
-        frame: Frame<'_>,
-        reply: &mut ReplyBuf,
-        steps: &mut Steps<L>,
-    ) -> Result<Bridge, Bridge> {
-        let event = read_event(frame);
-        Ok(Bridge::turn(self, alloc, event, reply, steps))
-    }
-}
-
-/// All that a replay keeps: its memory is taken at once, but for what the index holds.
-#[derive(Drop)]
-struct Beginning {
-    bridge: Bridge,
-    buffers: Buffers,
-}
-
-fn begin(alloc: Global) -> Result<Beginning, NoMemory>
-    ensures { IfOk result (λ b. StandsFor b.bridge first_state) }
-{
-    Ok(Beginning {
-        bridge: Bridge::at_base(alloc)?,
-        buffers: Buffers::new(alloc)?,
-    })
-}
-
-/// The status of a run that ended so. A bridge doesn't end it.
+/// The status of a run that ended so.
 fn status_of(ending: Ending) -> Status
-    requires { ending ≢ endings.Ended }
     ensures { Tells result ending }
 {
     match ending {
@@ -67,18 +25,56 @@ fn status_of(ending: Ending) -> Status
         Ending::SourceFault => Status::SourceFault,
         Ending::SinkFault => Status::SinkFault,
         Ending::InputLimit => Status::InputLimit,
-        Ending::Ended => unreachable!(),
+        Ending::Ended => Status::DiskFault,
     }
 }
 
-/// One place lets go of all that a replay keeps: each such place is dear to prove.
-fn let_go(_bridge: Bridge, _buffers: Buffers) {}
+/// The status of files that couldn't be opened.
+fn unopened(fault: OpenFault) -> Status
+    ensures { result ≡ status_of_fault fault }
+{
+    match fault {
+        OpenFault::Uninitialised => Status::Uninitialised,
+        OpenFault::Damaged { file, at } => Status::Damaged { file, at },
+        OpenFault::DiskFault => Status::DiskFault,
+        OpenFault::NoMemory => Status::NoMemory,
+    }
+}
+
+/// One place lets go of the bridge: each such place is dear to prove.
+fn let_go(_last: Turned) {}
+
+/// Opens the files, and then reads and answers frames by means of these buffers.
+fn replay_by<S: Source, K: Sink, D: Disk, L: Ledger>(
+    alloc: Global,
+    buffers: &mut Buffers,
+    source: &mut S,
+    sink: &mut K,
+    disk: &mut D,
+    limit: u64,
+    steps: &mut Steps<L>,
+) -> Status
+    requires { limit ≤ 2 ^ 40 }
+    ensures { Replays D.tells D.seen disk.new (outside (streams (S.seen source.old) (K.seen sink.old)) (D.seen disk.old))
+        (outside (streams (S.seen source.new) (K.seen sink.new)) (D.seen disk.new)) limit result }
+{
+    match Bridge::open(alloc, disk) {
+        Ok(bridge) => {
+            let first = Turned::On(bridge);
+            let (ending, last) = follow(alloc, first, disk, buffers, source, sink, limit, steps);
+            let_go(last);
+            status_of(ending)
+        }
+        Err(fault) => unopened(fault),
+    }
+}
 
 /// A replay whose steps are counted in the ledger of the blank.
-fn replay_counted<S: Source, K: Sink, L: Ledger>(
+fn replay_counted<S: Source, K: Sink, D: Disk, L: Ledger>(
     alloc: Global,
     source: &mut S,
     sink: &mut K,
+    disk: &mut D,
     limit: u64,
     blank: Blank,
 ) -> Status
@@ -86,40 +82,33 @@ fn replay_counted<S: Source, K: Sink, L: Ledger>(
     requires name { blank.name ≡ L.name }
     requires parts { blank.parts ≡ L.parts }
     requires some { 0 < blank.parts }
-    ensures { Replays (streams (S.seen source.old) (K.seen sink.old)) (streams (S.seen source.new) (K.seen sink.new)) limit result }
+    ensures { Replays D.tells D.seen disk.new (outside (streams (S.seen source.old) (K.seen sink.old)) (D.seen disk.old))
+        (outside (streams (S.seen source.new) (K.seen sink.new)) (D.seen disk.new)) limit result }
 {
     let mut steps = Steps::<L>::new(blank);
-    match begin(alloc) {
-        Ok(
-            Beginning {
-                bridge,
-                mut buffers,
-            },
-        ) => {
-            let (ending, bridge) = follow(
-                alloc,
-                bridge,
-                &mut (),
-                &mut buffers,
-                source,
-                sink,
-                limit,
-                &mut steps,
-            );
-            let_go(bridge, buffers);
-            status_of(ending)
-        }
-        Err(NoMemory) => Status::NoMemory,
-    }
+    let mut buffers = match Buffers::new(alloc) {
+        Ok(buffers) => buffers,
+        Err(NoMemory) => return Status::NoMemory,
+    };
+    replay_by(alloc, &mut buffers, source, sink, disk, limit, &mut steps)
 }
 
-/// Reads frames from the source, at most `limit` bytes, and answers each on the sink.
+/// Opens the files of the disk, and then reads frames from the source, at most `limit` bytes, and answers each on the sink.
 ///
 /// The source is read in pieces of at most 65,536 bytes, each only where every whole frame before it was answered. Want
-/// of memory ends it before anything is read; in a command it is the reply's code FE.
-pub fn replay<S: Source, K: Sink>(alloc: Global, source: &mut S, sink: &mut K, limit: u64) -> Status
+/// of memory ends it before anything is read; in a command it is the reply's code FE. A fault of the disk in a command is
+/// its reply's code FD, and ends the replay. A crash at any moment leaves files that stand for the commands accepted so far,
+/// or for these and the one that was being kept.
+pub fn replay<S: Source, K: Sink, D: Disk>(
+    alloc: Global,
+    source: &mut S,
+    sink: &mut K,
+    disk: &mut D,
+    limit: u64,
+) -> Status
     requires { limit ≤ 2 ^ 40 }
-    ensures { Replays (streams (S.seen source.old) (K.seen sink.old)) (streams (S.seen source.new) (K.seen sink.new)) limit result }
+    ensures { Replays D.tells D.seen disk.new (outside (streams (S.seen source.old) (K.seen sink.old)) (D.seen disk.old))
+        (outside (streams (S.seen source.new) (K.seen sink.new)) (D.seen disk.new)) limit result }
 {
-    replay_counted::<S, K, Brand>(alloc, source, sink, limit, Blank::new(1))
+    replay_counted::<S, K, D, Brand>(alloc, source, sink, disk, limit, Blank::new(1))
 }

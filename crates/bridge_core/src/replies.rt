@@ -6,6 +6,7 @@ ghost use Rattle.machine.specs.Reply.{no_memory_reply};
 ghost use Rattle.machine.specs.Connecting.{refusal_reply};
 ghost use Rattle.machine.specs.Disconnecting.{back_reply};
 ghost use Rattle.chain_steps.specs.Views.{refusal_of, back_refusal_of};
+ghost use Rattle.bridge_core.specs.Bridge.{fault_reply};
 
 use chain_state::{BackRefusal, Refusal};
 use frame_loop::ReplyBuf;
@@ -48,4 +49,11 @@ pub(crate) fn lack_memory(reply: &mut ReplyBuf)
     ensures { reply.new ≡ no_memory_reply }
 {
     reply.set(0xFE, &[], &[]);
+}
+
+/// Code FD, a fault of the disk.
+pub(crate) fn tell_fault(reply: &mut ReplyBuf)
+    ensures { reply.new ≡ fault_reply }
+{
+    reply.set(0xFD, &[], &[]);
 }

@@ -6,14 +6,22 @@ use std::fmt;
 /// How a command ended. It is displayed as its line on standard error; that of `Done` is empty.
 #[derive(Clone, Copy, PartialEq, Eq, Debug)]
 pub enum Status {
-    /// The source was read to its end, and every byte belongs to a whole frame.
+    /// The work was done: the files were made, or the source was read to its end and every byte belongs to a whole frame.
     Done,
     /// The words are none of the forms.
     Words,
+    /// File 0 has fewer than 50 bytes, or its first byte isn't 1: the files were not made, or not to their end.
+    Uninitialised,
+    /// File 0 has 50 bytes or more, and its first byte is 1: the files were made before, and are as they were.
+    Initialised,
+    /// The first damage of the files: the number of the file, and the place in it.
+    Damaged { file: u8, at: u64 },
     /// What begins no frame starts at this byte of the source.
     BadFrame { offset: u64 },
     /// The source ended inside the frame that starts at this byte.
     CutFrame { offset: u64 },
+    /// A call of the disk failed. The files are to be opened again.
+    DiskFault,
     /// The last read failed.
     SourceFault,
     /// The last write failed, or took nothing of a piece that isn't empty.
@@ -32,7 +40,9 @@ impl Status {
         match self {
             Status::Done => 0,
             Status::Words => 2,
+            Status::Uninitialised | Status::Initialised | Status::Damaged { .. } => 3,
             Status::BadFrame { .. } | Status::CutFrame { .. } => 4,
+            Status::DiskFault => 5,
             Status::SourceFault => 6,
             Status::SinkFault => 7,
             Status::NoMemory => 8,
@@ -48,8 +58,12 @@ impl fmt::Display for Status {
         match self {
             Status::Done => Ok(()),
             Status::Words => write!(f, "bad words"),
+            Status::Uninitialised => write!(f, "not initialised"),
+            Status::Initialised => write!(f, "already initialised"),
+            Status::Damaged { file, at } => write!(f, "damaged file {file} at {at}"),
             Status::BadFrame { offset } => write!(f, "bad frame at {offset}"),
             Status::CutFrame { offset } => write!(f, "cut frame at {offset}"),
+            Status::DiskFault => write!(f, "disk fault"),
             Status::SourceFault => write!(f, "read fault"),
             Status::SinkFault => write!(f, "write fault"),
             Status::NoMemory => write!(f, "out of memory"),

@@ -1,23 +1,25 @@
 ghost use Rattle.std.specs.Prelude.{◌≡◌, ◌<◌, ◌≤◌, ◌^◌};
 
 mod calls;
-mod disconnects;
 mod faults;
 mod first_block;
 mod made_blocks;
 mod one_byte;
 mod rows;
+mod sessions;
+mod stops;
 
-use crate::{Bridge, Event, ReplyBuf, Status, replay};
+use crate::making::init;
+use crate::words::read_fields;
+use crate::{Command, Status, replay};
 use block_reader::{merkle_root, read_block};
 use byte_io::{MemorySink, SteadySource};
+use disk_model::{Disk, MemoryDisk};
 use first_block::{FIRST_BLOCK, FIRST_HASH};
 use made_blocks::{MERGED, NAME_THEN_OTHER_ROOT, NONE_THEN_BAD_TRANSACTION, RULES_THEN_TWO};
-use nmc_base::{Hash32, Steps};
+use nmc_base::Hash32;
 use std::alloc::{AllocError, Global};
-use std::marker::Brand;
 use std::process::Abort;
-use std::sync::ledger::{Blank, Ledger};
 use std::test::Fail;
 
 /// The most bytes that a replay may read.
@@ -63,6 +65,8 @@ fn pieces(word: &str) -> Option<(&'static [u8], &'static [u8])> {
         b"back-base" => Some((&[2, 32, 0, 0, 0], &[0; 32])),
         b"base" => Some((&[0, 36, 0, 0, 0, 0, 0, 0, 0], &[0; 32])),
         b"not-tip" => Some((&[6, 32, 0, 0, 0], &FIRST_HASH)),
+        // the reply that tells a fault of the disk
+        b"fault" => Some((&[0xfd, 0, 0, 0, 0], &[])),
         _ => None,
     }
 }
@@ -116,7 +120,22 @@ fn tells<R: Abort>(rt: &R, alloc: Global, status: Status, line: &str) -> Result<
     Ok(())
 }
 
-/// Replays the input, at most so many bytes, and compares what it comes to: the output, and the line.
+/// Makes the files of the base at height 0 on 32 zero bytes, whose host is `ns.example.`.
+fn make<D: Disk>(disk: &mut D) -> Status {
+    match read_fields(b"0", &[b'0'; 64], b"ns.example.") {
+        Some(Command::Init(base, host)) => init(disk, &base, &host),
+        _ => Status::Words,
+    }
+}
+
+/// A disk with these files, of which the calls of these numbers fail, counted from 1 with those that make the files.
+fn made(rt: &impl Abort, alloc: Global, fail: &[u64]) -> Result<MemoryDisk, Fail> {
+    let mut disk = MemoryDisk::new(alloc, fail)?;
+    ended(rt, make(&mut disk), Status::Done, 0);
+    Ok(disk)
+}
+
+/// Replays the input over new files, at most so many bytes, and compares what it comes to: the output, and the line.
 fn compare_up_to<R: Abort>(
     rt: &R,
     alloc: Global,
@@ -129,7 +148,8 @@ fn compare_up_to<R: Abort>(
 {
     let mut source = SteadySource::new(input);
     let mut sink = MemorySink::new(alloc, &[])?;
-    let status = replay(alloc, &mut source, &mut sink, limit);
+    let mut disk = made(rt, alloc, &[])?;
+    let status = replay(alloc, &mut source, &mut sink, &mut disk, limit);
     took(rt, sink.taken(), output, output.len(), limit);
     Ok(tells(rt, alloc, status, line)?)
 }
@@ -228,30 +248,24 @@ fn with_second(rt: &impl Abort, alloc: Global, version: &[u8; 4]) -> Result<Vec<
     Ok(whole)
 }
 
-/// One place drops the bridges of the tests: each such place is dear to prove.
-fn let_go(_bridge: Bridge) {}
-
 /// The code that answers a block on the beginning of the chain.
-fn code_of<L: Ledger>(
-    rt: &impl Abort,
-    alloc: Global,
-    block: &[u8],
-    steps: &mut Steps<L>,
-) -> Result<u8, Fail> {
+fn has_code(rt: &impl Abort, alloc: Global, block: &[u8], wanted: u8) -> Result<(), Fail> {
     assert!(rt; block.len() <= 1000);
-    let mut reply = ReplyBuf::new(alloc)?;
-    let bridge = Bridge::at_base(alloc)?;
-    let_go(bridge.turn(alloc, Event::Connect(block), &mut reply, steps));
-    Ok(reply.code())
+    let length = (block.len() as u32).to_le_bytes();
+    let input = joined(alloc, &[&[1], &length, block])?;
+    let mut source = SteadySource::new(&input);
+    let mut sink = MemorySink::new(alloc, &[])?;
+    let mut disk = made(rt, alloc, &[])?;
+    let status = replay(alloc, &mut source, &mut sink, &mut disk, MOST);
+    ended(rt, status, Status::Done, 0);
+    let is_so = sink.taken().first() == Some(&wanted);
+    assert!(rt; is_so);
+    Ok(())
 }
 
 /// A second transaction without a name output is refused where its version is 0x7100, and at no other version.
-fn codes_by_version<L: Ledger>(rt: &impl Abort, alloc: Global, blank: Blank) -> Result<(), Fail>
-    requires name { blank.name ≡ L.name }
-    requires parts { blank.parts ≡ L.parts }
-    requires some { 0 < blank.parts }
-{
-    let mut steps = Steps::<L>::new(blank);
+#[test]
+fn tells_a_name_by_its_version_alone(rt: HostRuntime) -> Result<(), Fail> {
     let rows: [([u8; 4], u8); 4] = [
         ([0, 0x71, 0, 0], 14),
         ([0, 0x71, 1, 0], 0),
@@ -259,16 +273,10 @@ fn codes_by_version<L: Ledger>(rt: &impl Abort, alloc: Global, blank: Blank) -> 
         ([0, 0, 0x71, 0], 0),
     ];
     for (version, wanted) in rows {
-        let block = with_second(rt, alloc, &version)?;
-        let code = code_of(rt, alloc, &block, &mut steps)?;
-        assert!(rt; code == wanted, "version {version:?}");
+        let block = with_second(&rt, rt.alloc(), &version)?;
+        has_code(&rt, rt.alloc(), &block, wanted)?;
     }
     Ok(())
-}
-
-#[test]
-fn tells_a_name_by_its_version_alone(rt: HostRuntime) -> Result<(), Fail> {
-    codes_by_version::<Brand>(&rt, rt.alloc(), Blank::new(1))
 }
 
 /// The first block, two frames of 8,388,608 zeros, and the first block again.

@@ -1,10 +1,14 @@
-//! The program: it follows the frames on standard input, and answers them on standard output.
+//! The program: it follows the frames on standard input, answers them on standard output, and keeps them in the files of the
+//! folder that it runs in.
 #![tactic(auto)]
 
+mod file_disk;
+mod folder;
 mod reader_source;
 mod writer_sink;
 
 use bridge_core::{Status, run};
+use file_disk::FileDisk;
 use nmc_base::{Bytes, NoMemory, Words};
 use reader_source::ReaderSource;
 use std::process::ExitCode;
@@ -32,7 +36,8 @@ fn status_of(rt: &HostRuntime) -> Status {
         Ok(words) => {
             let mut source = ReaderSource::new(rt.reader());
             let mut sink = WriterSink::new(io::writer(rt));
-            run(rt.alloc(), &words, &mut source, &mut sink)
+            let mut disk = FileDisk::new(rt);
+            run(rt.alloc(), &words, &mut source, &mut sink, &mut disk)
         }
         Err(NoMemory) => Status::NoMemory,
     }

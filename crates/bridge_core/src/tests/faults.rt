@@ -1,7 +1,7 @@
 //! Sources and sinks that fail, stand still, or deal with one byte at a time.
 
 use super::one_byte::{OneByteSink, OneByteSource};
-use super::{MOST, bytes_of, ended, took};
+use super::{MOST, bytes_of, ended, made, took};
 use crate::{Status, replay};
 use byte_io::{MemorySink, MemorySource, RoomSink, SteadySource};
 use std::alloc::{AllocError, Global};
@@ -37,7 +37,8 @@ fn reads_bytes<R: Abort>(
     let mut sink = OneByteSink {
         whole: MemorySink::new(alloc, &[])?,
     };
-    let end = replay(alloc, &mut source, &mut sink, MOST);
+    let mut disk = made(rt, alloc, &[])?;
+    let end = replay(alloc, &mut source, &mut sink, &mut disk, MOST);
     ended(rt, end, status, number);
     took(rt, sink.whole.taken(), &frames.output, written, number);
     Ok(())
@@ -60,7 +61,8 @@ fn reads_up_to<R: Abort>(
 ) -> Result<(), Fail> {
     let mut source = MemorySource::new(alloc, &frames.input, &[number])?;
     let mut sink = MemorySink::new(alloc, &[])?;
-    let end = replay(alloc, &mut source, &mut sink, MOST);
+    let mut disk = made(rt, alloc, &[])?;
+    let end = replay(alloc, &mut source, &mut sink, &mut disk, MOST);
     ended(rt, end, status, number);
     took(rt, sink.taken(), &frames.output, written, number);
     Ok(())
@@ -103,7 +105,8 @@ fn writes_up_to<R: Abort>(
 ) -> Result<(), Fail> {
     let mut source = SteadySource::new(&frames.input);
     let mut sink = MemorySink::new(alloc, &[number])?;
-    let end = replay(alloc, &mut source, &mut sink, MOST);
+    let mut disk = made(rt, alloc, &[])?;
+    let end = replay(alloc, &mut source, &mut sink, &mut disk, MOST);
     ended(rt, end, status, number);
     took(rt, sink.taken(), &frames.output, written, number);
     Ok(())
@@ -127,7 +130,8 @@ fn replays_into<R: Abort>(
 ) -> Result<(), Fail> {
     let mut source = SteadySource::new(&frames.input);
     let mut sink = RoomSink::new(alloc, room)?;
-    let end = replay(alloc, &mut source, &mut sink, MOST);
+    let mut disk = made(rt, alloc, &[])?;
+    let end = replay(alloc, &mut source, &mut sink, &mut disk, MOST);
     ended(rt, end, status, room as u64);
     took(rt, sink.taken(), &frames.output, room, room as u64);
     Ok(())
@@ -146,7 +150,8 @@ fn replays_bytes<R: Abort>(
     let mut sink = OneByteSink {
         whole: MemorySink::new(alloc, &[number])?,
     };
-    let end = replay(alloc, &mut source, &mut sink, MOST);
+    let mut disk = made(rt, alloc, &[])?;
+    let end = replay(alloc, &mut source, &mut sink, &mut disk, MOST);
     ended(rt, end, status, number);
     took(rt, sink.whole.taken(), &frames.output, room, number);
     Ok(())

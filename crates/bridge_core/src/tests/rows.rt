@@ -10,12 +10,14 @@ first first > accepted not-on-tip >
 011c010000 block:0-284 > 01040000001c010000 > 
 011e010000 block 00 > 01040000001d010000 > 
 0100000000 > 010400000000000000 > 
+first 0300000000 0303000000 010203 > accepted 0800000000 0800000000 > 
 ";
 
 /// Where frames end.
 pub(super) const ENDS: &str = "\
 07 >  > bad frame at 0
-0320000000 >  > bad frame at 0
+0300000100 >  > bad frame at 0
+0320000000 >  > cut frame at 0
 0101008000 >  > bad frame at 0
 01ffffff >  > cut frame at 0
 011d >  > cut frame at 0
@@ -48,5 +50,5 @@ first back-base back > accepted not-tip base >
 021f000000 hash >  > bad frame at 0
 0221000000 hash 00 >  > bad frame at 0
 0200000000 >  > bad frame at 0
-03 >  > bad frame at 0
+04 >  > bad frame at 0
 ";

@@ -1,16 +1,22 @@
+use Rattle.std.proofs.Common.{refl}
+use Rattle.fault_counts.proofs.FaultLemmas.{NeverFell_refl}
+use Rattle.disk_model.specs.Moments.{start}
 use Rattle.frame_loop.specs.Transcript.{streams}
-use Rattle.machine.specs.RunState.{first_state}
-use Rattle.bridge_core.proofs.OutcomeLemmas.{never_ended, replays}
-use Rattle.bridge_core.proofs.ReachedLemmas.{reached_first}
+use Rattle.name_store.specs.declared.faults.OpenFault.TheVariants.{NoMemory}
+use Rattle.bridge_core.specs.Outcome.{outside}
+use Rattle.bridge_core.proofs.OutcomeLemmas.{replays_unopened}
+use Rattle.bridge_core.proofs.StatusLemmas.{memory_not_fault}
 use Rattle.bridge_core.proofs.replaying.replay_counted.Goals as goal
 
-pub status_of-requires : goal.status_of-requires
-status_of-requires g c =
-    never_ended (streams (g.S.Source.seen c.args.source.now) (g.K.Sink.seen c.args.sink.now)) (streams (g.S.Source.seen c.follow-ending.new.source) (g.K.Sink.seen c.follow-ending.new.sink)) c.args.limit
-    (record { how = c.follow-ending.result.0; last = (c.follow-ending.result.1, tt); transcript = c.follow-ending.ensures.transcript first_state (reached_first c.in-Ok.field-0.bridge c.in-Ok.ensures) })
-
-pub returns-in-Ok : goal.returns-in-Ok
-returns-in-Ok g c =
-    replays (streams (g.S.Source.seen c.args.source.now) (g.K.Sink.seen c.args.sink.now)) (streams (g.S.Source.seen c.follow-ending.new.source) (g.K.Sink.seen c.follow-ending.new.sink)) c.args.limit
-    (record { how = c.follow-ending.result.0; last = (c.follow-ending.result.1, tt); transcript = c.follow-ending.ensures.transcript first_state (reached_first c.in-Ok.field-0.bridge c.in-Ok.ensures) })
-    c.status_of.result c.status_of.ensures c.follow-ending.ensures.source_later c.follow-ending.ensures.sink_later
+pub returns-in-Err : goal.returns-in-Err
+returns-in-Err g c =
+    let seen = g.D.Disk.seen in
+    let same = outside (streams (g.S.Source.seen c.args.source.now) (g.K.Sink.seen c.args.sink.now)) (seen c.args.disk.now) in
+    replays_unopened (record { tells = g.D.Disk.tells; seen = seen; disk = c.args.disk.now; old = same; new = same; limit = c.args.limit }) NoMemory
+    (record {
+      unread = record { streams = refl; any_moment = λ told. start (λ image_is is. is) };
+      answer = λ told. tt;
+      follows = λ told run stands. tt;
+      never_fell = NeverFell_refl (seen c.args.disk.now).faults;
+      cause = λ e. memory_not_fault e;
+    })

@@ -1,19 +1,38 @@
-use Rattle.std.proofs.Common.{◌+◌, length, refl, subst, arith}
+use Rattle.std.proofs.Common.{sym, ap, subst}
+use Rattle.feed_frames.specs.Replies.{Reply}
 use Rattle.machine.specs.Event.{Connect, Do}
-use Rattle.bridge_core.specs.Bridge.{Bridged, Turns}
-use Rattle.bridge_core.proofs.TurnLemmas.{connect_accepted, connect_declined}
+use Rattle.chain_steps.specs.Views.{refusal_of}
+use Rattle.name_store.specs.Stored.{Stored, StandsFor}
+use Rattle.bridge_core.specs.Bridge.{Turns}
+use Rattle.bridge_core.specs.declared.bridge.Turned.TheVariants.{On}
+use Rattle.bridge_core.proofs.CodeLemmas.{refused_not_done, refused_no_fault, lacking_not_done}
+use Rattle.bridge_core.proofs.KeptLemmas.{connect_kept, connect_not_kept, connect_no_memory}
+use Rattle.bridge_core.proofs.TurnLemmas.{connect_done, connect_refused}
 use Rattle.bridge_core.proofs.bridge.Bridge.connect.Goals as goal
 
-pub returns-in-Staged-clause-turns : goal.returns-in-Staged-clause-turns
-returns-in-Staged-clause-turns g c =
-    let old : Bridged = record { index = c.self.inside.chain; area = c.self.inside.area } in
-    let new : Bridged = record { index = c.join-chain.result; area = c.self.inside.area + 6 + length c.args.bytes.now } in
-    subst (λ (x : Bridged). Turns x (Do (Connect c.args.bytes.now)) c.join-chain.new.reply new) c.self.view_is
-    (connect_accepted old new c.args.bytes.now c.join-chain.new.reply c.in-Staged.staged c.in-Staged.ensures.stages c.join-chain.ensures.connected (record { area = omega arith; reply_is = c.join-chain.ensures.told }))
+pub returns-in-Done-clause-turns : goal.returns-in-Done-clause-turns
+returns-in-Done-clause-turns g c =
+    subst (λ (old : Stored). Turns old (Do (Connect c.args.bytes.now)) c.accept.new.reply (On c.in-Done.store)) c.self.view_is
+    (connect_done c.self.inside.store c.in-Done.store c.args.bytes.now c.accept.new.reply c.in-Done.tip c.in-Done.ensures.connects c.accept.ensures)
 
 pub returns-in-Refused-clause-turns : goal.returns-in-Refused-clause-turns
 returns-in-Refused-clause-turns g c =
-    let old : Bridged = record { index = c.self.inside.chain; area = c.self.inside.area } in
-    let new : Bridged = record { index = c.in-Refused.chain; area = c.self.inside.area } in
-    subst (λ (x : Bridged). Turns x (Do (Connect c.args.bytes.now)) c.refuse.new.reply new) c.self.view_is
-    (connect_declined old new c.args.bytes.now c.refuse.new.reply c.in-Refused.refusal c.in-Refused.ensures.stages refl c.refuse.ensures)
+    subst (λ (old : Stored). Turns old (Do (Connect c.args.bytes.now)) c.refuse.new.reply (On c.in-Refused.store)) c.self.view_is
+    (connect_refused c.self.inside.store c.in-Refused.store c.args.bytes.now c.refuse.new.reply c.in-Refused.refusal c.in-Refused.ensures.connects c.refuse.ensures)
+
+pub returns-in-Refused-clause-told : goal.returns-in-Refused-clause-told
+returns-in-Refused-clause-told g c = refused_no_fault c.refuse.new.reply (refusal_of c.in-Refused.refusal) c.refuse.ensures
+
+pub returns-in-Done-clause-kept : goal.returns-in-Done-clause-kept
+returns-in-Done-clause-kept g c = λ told run s.
+    connect_kept told run c.args.bytes.now (c.in-Done.ensures.kept told run (subst (λ (x : Stored). StandsFor x run) (sym c.self.view_is) s)) (ap (λ (r : Reply). r.code) c.accept.ensures)
+
+pub returns-in-Refused-clause-kept : goal.returns-in-Refused-clause-kept
+returns-in-Refused-clause-kept g c = λ told run s.
+    connect_not_kept told run c.args.bytes.now (c.in-Refused.ensures.kept told run (subst (λ (x : Stored). StandsFor x run) (sym c.self.view_is) s)) (ap g.D.Disk.seen c.in-Refused.ensures.undone)
+    (refused_not_done c.refuse.new.reply (refusal_of c.in-Refused.refusal) c.refuse.ensures)
+
+pub returns-in-NoMemory-clause-kept : goal.returns-in-NoMemory-clause-kept
+returns-in-NoMemory-clause-kept g c = λ told run s.
+    connect_no_memory told run c.args.bytes.now (c.in-NoMemory.ensures.kept told run (subst (λ (x : Stored). StandsFor x run) (sym c.self.view_is) s)) (ap g.D.Disk.seen c.in-NoMemory.ensures.undone)
+    (lacking_not_done c.lack_memory.new.reply c.lack_memory.ensures)

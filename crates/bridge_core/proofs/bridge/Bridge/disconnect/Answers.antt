@@ -1,19 +1,38 @@
-use Rattle.std.proofs.Common.{◌+◌, refl, subst}
+use Rattle.std.proofs.Common.{sym, ap, subst}
+use Rattle.feed_frames.specs.Replies.{Reply}
 use Rattle.machine.specs.Event.{Disconnect, Do}
-use Rattle.bridge_core.specs.Bridge.{Bridged, Turns}
-use Rattle.bridge_core.proofs.TurnLemmas.{disconnect_accepted, disconnect_declined}
+use Rattle.chain_steps.specs.Views.{back_refusal_of}
+use Rattle.name_store.specs.Stored.{Stored, StandsFor}
+use Rattle.bridge_core.specs.Bridge.{Turns}
+use Rattle.bridge_core.specs.declared.bridge.Turned.TheVariants.{On}
+use Rattle.bridge_core.proofs.CodeLemmas.{back_not_done, back_no_fault, lacking_not_done}
+use Rattle.bridge_core.proofs.KeptLemmas.{disconnect_kept, disconnect_not_kept, disconnect_no_memory}
+use Rattle.bridge_core.proofs.TurnLemmas.{disconnect_done, disconnect_refused}
 use Rattle.bridge_core.proofs.bridge.Bridge.disconnect.Goals as goal
 
-pub returns-in-StagedBack-clause-turns : goal.returns-in-StagedBack-clause-turns
-returns-in-StagedBack-clause-turns g c =
-    let old : Bridged = record { index = c.self.inside.chain; area = c.self.inside.area } in
-    let new : Bridged = record { index = c.part-chain.result; area = c.self.inside.area + 38 } in
-    subst (λ (x : Bridged). Turns x (Do (Disconnect c.args.hash.0)) c.part-chain.new.reply new) c.self.view_is
-    (disconnect_accepted old new c.args.hash.0 c.part-chain.new.reply c.in-StagedBack.staged c.in-StagedBack.ensures.stages c.part-chain.ensures.disconnected (record { area = refl; reply_is = c.part-chain.ensures.told }))
+pub returns-in-Done-clause-turns : goal.returns-in-Done-clause-turns
+returns-in-Done-clause-turns g c =
+    subst (λ (old : Stored). Turns old (Do (Disconnect c.args.hash.0)) c.accept.new.reply (On c.in-Done.store)) c.self.view_is
+    (disconnect_done c.self.inside.store c.in-Done.store c.args.hash.0 c.accept.new.reply c.in-Done.tip c.in-Done.ensures.disconnects c.accept.ensures)
 
 pub returns-in-Refused-clause-turns : goal.returns-in-Refused-clause-turns
 returns-in-Refused-clause-turns g c =
-    let old : Bridged = record { index = c.self.inside.chain; area = c.self.inside.area } in
-    let new : Bridged = record { index = c.in-Refused.chain; area = c.self.inside.area } in
-    subst (λ (x : Bridged). Turns x (Do (Disconnect c.args.hash.0)) c.refuse_back.new.reply new) c.self.view_is
-    (disconnect_declined old new c.args.hash.0 c.refuse_back.new.reply c.in-Refused.refusal c.in-Refused.ensures.stages refl c.refuse_back.ensures)
+    subst (λ (old : Stored). Turns old (Do (Disconnect c.args.hash.0)) c.refuse_back.new.reply (On c.in-Refused.store)) c.self.view_is
+    (disconnect_refused c.self.inside.store c.in-Refused.store c.args.hash.0 c.refuse_back.new.reply c.in-Refused.refusal c.in-Refused.ensures.disconnects c.refuse_back.ensures)
+
+pub returns-in-Refused-clause-told : goal.returns-in-Refused-clause-told
+returns-in-Refused-clause-told g c = back_no_fault c.refuse_back.new.reply (back_refusal_of c.in-Refused.refusal) c.refuse_back.ensures
+
+pub returns-in-Done-clause-kept : goal.returns-in-Done-clause-kept
+returns-in-Done-clause-kept g c = λ told run s.
+    disconnect_kept told run c.args.hash.0 (c.in-Done.ensures.kept told run (subst (λ (x : Stored). StandsFor x run) (sym c.self.view_is) s)) (ap (λ (r : Reply). r.code) c.accept.ensures)
+
+pub returns-in-Refused-clause-kept : goal.returns-in-Refused-clause-kept
+returns-in-Refused-clause-kept g c = λ told run s.
+    disconnect_not_kept told run c.args.hash.0 (c.in-Refused.ensures.kept told run (subst (λ (x : Stored). StandsFor x run) (sym c.self.view_is) s)) (ap g.D.Disk.seen c.in-Refused.ensures.undone)
+    (back_not_done c.refuse_back.new.reply (back_refusal_of c.in-Refused.refusal) c.refuse_back.ensures)
+
+pub returns-in-NoMemory-clause-kept : goal.returns-in-NoMemory-clause-kept
+returns-in-NoMemory-clause-kept g c = λ told run s.
+    disconnect_no_memory told run c.args.hash.0 (c.in-NoMemory.ensures.kept told run (subst (λ (x : Stored). StandsFor x run) (sym c.self.view_is) s)) (ap g.D.Disk.seen c.in-NoMemory.ensures.undone)
+    (lacking_not_done c.lack_memory.new.reply c.lack_memory.ensures)

@@ -1,0 +1,80 @@
+-- The codes of replies: code 0 is that of an acceptance alone, and code FD that of a fault alone.
+use Rattle.std.proofs.Common.{◌≡◌, ◌≤◌, sym, ◌∙◌, arith}
+use Rattle.feed_frames.specs.Replies.{Reply}
+use Rattle.chain_names.specs.declared.refusal.RuleRefusal.{RuleRefusal}
+use Rattle.chain_names.specs.declared.refusal.RuleRefusal.TheVariants.{MultipleNameInputs, MultipleNameOutputs, PlainWithNameInput, PlainWithNameOutput, NameWithoutOutput, Greedy, NewWithNameInput, NewWrongSize, UpdateWithoutInput, NameTooLong, ValueTooLong, UpdateOfNew, NameMismatch, FirstNotFromNew, Immature, RandTooLong, CommitMismatch, NameTaken, DuplicateOutpoint}
+use Rattle.chain_names.specs.Refusals.{number_of}
+use Rattle.machine.specs.Chain.{Chain}
+use Rattle.machine.specs.Connecting.{Refusal, BadBlock, NotOnTip, HeightLimit, MerkleMismatch, Rule, JournalFull, refusal_reply}
+use Rattle.machine.specs.Disconnecting as back
+use Rattle.machine.specs.Disconnecting.{BackRefusal, AtBase, NotTip, back_reply}
+use Rattle.machine.specs.Reply.{accepted_reply, no_memory_reply}
+use Rattle.machine.proofs.CommandLemmas.{coded, coded_back}
+use Rattle.machine.proofs.RefusalLemmas.{code_of}
+use Rattle.bridge_core.specs.Bridge.{fault_code, fault_reply}
+
+-- a rule's number
+numbered : (r : RuleRefusal) → number_of r ≤ 28
+numbered MultipleNameInputs = omega arith
+numbered MultipleNameOutputs = omega arith
+numbered PlainWithNameInput = omega arith
+numbered PlainWithNameOutput = omega arith
+numbered NameWithoutOutput = omega arith
+numbered Greedy = omega arith
+numbered NewWithNameInput = omega arith
+numbered NewWrongSize = omega arith
+numbered UpdateWithoutInput = omega arith
+numbered NameTooLong = omega arith
+numbered ValueTooLong = omega arith
+numbered UpdateOfNew = omega arith
+numbered NameMismatch = omega arith
+numbered FirstNotFromNew = omega arith
+numbered Immature = omega arith
+numbered RandTooLong = omega arith
+numbered CommitMismatch = omega arith
+numbered NameTaken = omega arith
+numbered DuplicateOutpoint = omega arith
+
+pub refusal_small : (r : Refusal) → (refusal_reply r).code ≤ 28
+refusal_small (BadBlock place) = omega arith
+refusal_small (NotOnTip tip) = omega arith
+refusal_small HeightLimit = omega arith
+refusal_small (MerkleMismatch computed) = omega arith
+refusal_small (Rule index refusal) = numbered refusal
+refusal_small JournalFull = omega arith
+
+pub back_small : (r : BackRefusal) → (back_reply r).code ≤ 28
+back_small AtBase = omega arith
+back_small (NotTip tip) = omega arith
+back_small back.JournalFull = omega arith
+
+no_fault : (a b : Reply) → a ≡ b → b.code ≤ 28 → a.code ≡ fault_code → ⊥
+no_fault a b e small is = let same = code_of a b e in omega arith
+
+module _ (reply : Reply) where
+  pub refused_not_done : (r : Refusal) → reply ≡ refusal_reply r → reply.code ≡ 0 → ⊥
+  refused_not_done r e done = coded r (sym (code_of reply (refusal_reply r) e) ∙ done)
+
+  pub refused_no_fault : (r : Refusal) → reply ≡ refusal_reply r → reply.code ≡ fault_code → ⊥
+  refused_no_fault r e is = no_fault reply (refusal_reply r) e (refusal_small r) is
+
+  pub back_not_done : (r : BackRefusal) → reply ≡ back_reply r → reply.code ≡ 0 → ⊥
+  back_not_done r e done = coded_back r (sym (code_of reply (back_reply r) e) ∙ done)
+
+  pub back_no_fault : (r : BackRefusal) → reply ≡ back_reply r → reply.code ≡ fault_code → ⊥
+  back_no_fault r e is = no_fault reply (back_reply r) e (back_small r) is
+
+  pub lacking_not_done : reply ≡ no_memory_reply → reply.code ≡ 0 → ⊥
+  lacking_not_done e done = let same = code_of reply no_memory_reply e in omega arith
+
+  pub lacking_no_fault : reply ≡ no_memory_reply → reply.code ≡ fault_code → ⊥
+  lacking_no_fault e is = let same = code_of reply no_memory_reply e in omega arith
+
+  pub accepted_code : (chain : Chain) → reply ≡ accepted_reply chain → reply.code ≡ 0
+  accepted_code chain e = code_of reply (accepted_reply chain) e
+
+  pub fault_not_done : reply ≡ fault_reply → reply.code ≡ 0 → ⊥
+  fault_not_done e done = let same = code_of reply fault_reply e in omega arith
+
+  pub fault_is : reply ≡ fault_reply → reply.code ≡ fault_code
+  fault_is e = code_of reply fault_reply e

@@ -1,0 +1,37 @@
+use Rattle.std.proofs.Common.{List, ℕ, Some, sym, ap, subst, ◌∙◌}
+use Rattle.std.proofs.lemmas.Option.{none-some}
+use Rattle.nmc_base.specs.declared.chain_ends.Base.{Base}
+use Rattle.disk_model.specs.DiskSeen.{bytes_in}
+use Rattle.name_store.specs.Host.{IsHostOf}
+use Rattle.bridge_core.specs.Making.{Inits}
+use Rattle.bridge_core.specs.Words.{Asks}
+use Rattle.bridge_core.specs.declared.words.Command.{Command}
+use Rattle.bridge_core.specs.declared.words.Command.TheVariants.{Replay, Init}
+use Rattle.bridge_core.proofs.StatusLemmas.{init_not_words, same_base, same_host}
+use Rattle.bridge_core.proofs.command.run.Goals as goal
+
+pub returns-in-None-clause-replay : goal.returns-in-None-clause-replay
+returns-in-None-clause-replay g c = λ asked. absurd (none-some _ (c.in-None.ensures.one Replay asked))
+
+pub returns-in-None-clause-init : goal.returns-in-None-clause-init
+returns-in-None-clause-init g c = λ base name asked. absurd (none-some _ (c.in-None.ensures.one (Init base name) asked))
+
+pub returns-in-Some-Init-clause-words : goal.returns-in-Some-Init-clause-words
+returns-in-Some-Init-clause-words g c =
+    let asked = subst (λ (x : Command). Asks c.args.words.now.items x) c.in-Some-Init.field-0-is c.in-Some-Init.ensures.found in (
+      λ is. absurd (init_not_words g.D.Disk.tells (bytes_in (g.D.Disk.seen c.args.disk.now)) c.init.result (c.init.ensures asked.host asked.fields.host_is).answer is),
+      λ none. absurd (none (Init c.in-Some-Init.base c.in-Some-Init.host) asked),
+    )
+
+pub returns-in-Some-Init-clause-untouched : goal.returns-in-Some-Init-clause-untouched
+returns-in-Some-Init-clause-untouched g c = λ is.
+    let asked = subst (λ (x : Command). Asks c.args.words.now.items x) c.in-Some-Init.field-0-is c.in-Some-Init.ensures.found in
+    absurd (init_not_words g.D.Disk.tells (bytes_in (g.D.Disk.seen c.args.disk.now)) c.init.result (c.init.ensures asked.host asked.fields.host_is).answer is)
+
+pub returns-in-Some-Init-clause-init : goal.returns-in-Some-Init-clause-init
+returns-in-Some-Init-clause-init g c = λ base name asked.
+    let found = c.in-Some-Init.base in
+    let host = c.in-Some-Init.host in
+    let one = sym (ap Some c.in-Some-Init.field-0-is) ∙ c.in-Some-Init.ensures.one (Init base name) asked in
+    subst (λ (b : Base). Inits g.D.Disk.tells b asked.host (g.D.Disk.seen c.args.disk.now) (g.D.Disk.seen c.init.new.disk) c.init.result) (same_base found base host name one)
+    (c.init.ensures asked.host (subst (λ (n : List ℕ). IsHostOf asked.host n) (sym (same_host found base host name one)) asked.fields.host_is))

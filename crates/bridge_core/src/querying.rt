@@ -1,0 +1,26 @@
+ghost use Rattle.std.specs.Prelude.{◌≢◌};
+ghost use Rattle.machine.specs.RunState.{RunState};
+ghost use Rattle.machine.specs.Querying.{Queries};
+ghost use Rattle.name_store.specs.Stored.{StandsFor};
+ghost use Rattle.bridge_core.specs.Bridge.{fault_code};
+
+use bit_answers::{Answered, answer};
+use dns_message::LEAST_LIMIT;
+use frame_loop::ReplyBuf;
+use name_store::Store;
+use std::alloc::Global;
+
+/// The code of a message that gets no reply.
+const DROPPED: u8 = 8;
+
+/// Answers a message of DNS from the names that the store's chain serves: code 0 and the reply, or code 8 where it gets none.
+pub(crate) fn answer_query(alloc: Global, store: &Store, message: &[u8], reply: &mut ReplyBuf)
+    ensures answers { (run : RunState) → StandsFor store.now run → Queries run message.now reply.new run }
+    ensures no_fault { reply.new.code ≢ fault_code }
+{
+    let mut text = [0; LEAST_LIMIT];
+    match answer(alloc, store.chain(), store.host(), message, &mut text) {
+        Answered::Dropped => reply.set(DROPPED, &[], &[]),
+        Answered::Text(size) => reply.set(0, &[], &text[..size]),
+    }
+}
