@@ -8,9 +8,8 @@ import tempfile
 import typing
 
 from blocks import Chain, transaction
+from stores import PROGRAM, made_folder
 
-TOP = pathlib.Path(__file__).resolve().parent.parent
-PROGRAM = TOP / "crates" / "bridge_server" / "out" / "bridge_server"
 COMPRESSION = "sha2::block256::compress"
 
 
@@ -36,7 +35,7 @@ class Work(typing.NamedTuple):
 
 
 class Counted(typing.NamedTuple):
-    """The instructions of a run: all, those of the compression, and how often it was called."""
+    """The instructions of a run: all, those of the functions looked for with all that they call, and the number of their calls."""
 
     total: int
     inner: int
@@ -74,23 +73,24 @@ def has_counter():
     return shutil.which("valgrind") is not None
 
 
-def counted(path):
-    """The instructions of a replay of the file."""
-    with tempfile.NamedTemporaryFile("r") as trace, open(path, "rb") as stream:
+def counted(path, function=re.escape(COMPRESSION)):
+    """The instructions of a replay of the file, into the files of a new store. The function is looked for by a pattern."""
+    with tempfile.NamedTemporaryFile("r") as trace, open(path, "rb") as stream, made_folder() as folder:
         command = ["valgrind", "--tool=callgrind", f"--callgrind-out-file={trace.name}", PROGRAM, "replay"]
-        run = subprocess.run(command, stdin=stream, stdout=subprocess.DEVNULL, stderr=subprocess.PIPE, text=True)
+        run = subprocess.run(command, cwd=folder, stdin=stream, stdout=subprocess.DEVNULL, stderr=subprocess.PIPE, text=True)
         total = re.search(r"Collected : (\d+)", run.stderr)
         if run.returncode or not total:
             raise SystemExit(f"callgrind ended with {run.returncode}:\n{run.stderr}")
-        return Counted(int(total.group(1)), *called(trace.read()))
+        return Counted(int(total.group(1)), *called(trace.read(), function))
 
 
-def called(trace):
-    """The instructions of the compression, and its calls."""
-    number = re.search(r"^c?fn=(\(\d+\)) " + re.escape(COMPRESSION) + "$", trace, re.MULTILINE)
-    if not number:
+def called(trace, function):
+    """The instructions of the functions whose names the pattern matches, and their calls."""
+    numbers = re.findall(r"^c?fn=(\(\d+\)) (?:" + function + ")$", trace, re.MULTILINE)
+    if not numbers:
         return 0, 0
-    calls = re.findall(r"^cfn=" + re.escape(number.group(1)) + r"(?: .*)?\ncalls=(\d+) .*\n\S+ (\d+)$", trace, re.MULTILINE)
+    either = "|".join(map(re.escape, numbers))
+    calls = re.findall(r"^cfn=(?:" + either + r")(?: .*)?\ncalls=(\d+) .*\n\S+ (\d+)$", trace, re.MULTILINE)
     return sum(int(inside) for _, inside in calls), sum(int(times) for times, _ in calls)
 
 

@@ -6,13 +6,14 @@ import sys
 import typing
 
 TOP = pathlib.Path(__file__).resolve().parent.parent
-PROGRAM = TOP / "crates" / "bridge_server" / "out" / "bridge_server"
 DATA = TOP / "checks" / "data"
 BASE_HASH = bytes(32)
 SECONDS = 60
 
-# The makers of blocks stand with the benchmarks.
+# The makers of blocks and of folders stand with the benchmarks.
 sys.path.insert(0, str(TOP / "bench"))
+
+from stores import PROGRAM, empty_folder, made_folder
 
 
 class Run(typing.NamedTuple):
@@ -30,15 +31,18 @@ def program():
     return PROGRAM
 
 
-def run_of(words, given, output=subprocess.PIPE):
-    """Runs the program with these words, and bytes or a file as its standard input."""
+def run_in(folder, words, given, output=subprocess.PIPE, **how):
+    """Runs the program in a folder, with these words, and bytes or a file as its standard input."""
     source = {"input": given} if isinstance(given, bytes) else {"stdin": given}
-    run = subprocess.run([program(), *words], stdout=output, stderr=subprocess.PIPE, timeout=SECONDS, **source)
+    run = subprocess.run([program(), *words], cwd=folder, stdout=output, stderr=subprocess.PIPE, timeout=SECONDS, **source, **how)
     return Run(run.stdout or b"", run.returncode, run.stderr.decode().strip())
 
 
-def replay(given):
-    return run_of(["replay"], given)
+def replay(given, output=subprocess.PIPE):
+    """Runs a replay in a folder of its own, with the files of a new store."""
+    program()
+    with made_folder() as folder:
+        return run_in(folder, ["replay"], given, output)
 
 
 def reply(code, payload=b""):

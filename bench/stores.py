@@ -1,0 +1,57 @@
+"""Folders that the program runs in, with the files of a store, and what these keep."""
+import contextlib
+import os
+import pathlib
+import subprocess
+import tempfile
+
+TOP = pathlib.Path(__file__).resolve().parent.parent
+PROGRAM = TOP / "crates" / "bridge_server" / "out" / "bridge_server"
+FILES = ("nmc.0", "nmc.1", "nmc.2")
+# The height 0, a hash of 32 zero bytes, and a name server.
+INIT = ("init", "regtest", "0", "0" * 64, "ns.example.")
+# A folder in memory, where there is one: a sync takes no time there.
+MEMORY = "/dev/shm"
+OPEN = 1
+
+
+@contextlib.contextmanager
+def empty_folder(where=None):
+    """A new folder; in memory where no other place is given."""
+    room = where or (MEMORY if os.access(MEMORY, os.W_OK) else None)
+    with tempfile.TemporaryDirectory(prefix="jaqhumpi-", dir=room) as name:
+        yield pathlib.Path(name)
+
+
+@contextlib.contextmanager
+def made_folder(where=None):
+    """A new folder with the files of a new store."""
+    with empty_folder(where) as folder:
+        how = {"stdin": subprocess.DEVNULL, "stdout": subprocess.PIPE, "stderr": subprocess.PIPE}
+        run = subprocess.run([PROGRAM, *INIT], cwd=folder, timeout=60, **how)
+        if run.returncode or run.stdout or run.stderr:
+            raise SystemExit(f"init ended with {run.returncode}: {run.stdout} {run.stderr}")
+        yield folder
+
+
+def files_of(folder):
+    """The bytes of the three files; None where there is no such file."""
+    paths = [folder / name for name in FILES]
+    return [path.read_bytes() if path.is_file() else None for path in paths]
+
+
+def records_of(text, start=8):
+    """The records from a gate on up to the first closed one, and the length of all this; None where there is no closed gate."""
+    records, at = [], start
+    while at < len(text) and text[at] == OPEN:
+        end = at + 5 + int.from_bytes(text[at + 1 : at + 5], "little")
+        records.append(text[at + 5 : end])
+        at = end
+    return (records, at + 1) if at < len(text) else None
+
+
+def commands_of(folder):
+    """The commands that the files keep, as frames; none where the files are damaged."""
+    records, _ = records_of((folder / FILES[1]).read_bytes()) or ([], 0)
+    # The head of a record is the kind of a frame.
+    return [item[:1] + (len(item) - 1).to_bytes(4, "little") + item[1:] for item in records]
