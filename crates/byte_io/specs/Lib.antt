@@ -5,3 +5,6 @@ pub mod Sink
 pub mod MemorySource
 pub mod MemorySink
 pub mod RoomSink
+pub mod Port
+pub mod Kept
+pub mod MemoryPort

@@ -1,3 +1,8 @@
+ghost use Rattle.std.specs.Prelude.{◌≡◌, length, IfOk};
+ghost use Rattle.byte_io.specs.declared.port.TheConstants.{POLL_ROOM};
+ghost use Rattle.byte_io.specs.Port.{IsBound};
+ghost use Rattle.byte_io.specs.MemoryPort.{memory_seen};
+
 use super::*;
 use std::alloc::Global;
 use std::process::Abort;
@@ -119,4 +124,88 @@ fn takes_nothing_exactly_where_the_room_is_full(rt: HostRuntime) -> Result<(), F
     takes_within(&rt, alloc, 1, &[1, 0, 0, 0], &BYTES[..1])?;
     takes_within(&rt, alloc, 4, &[2, 0, 2, 0], &BYTES[..4])?;
     takes_within(&rt, alloc, 9, &[2, 0, 2, 1], BYTES)
+}
+
+/// A buffer that a poll may be lent.
+fn poll_buffer(alloc: Global) -> Result<Vec<u8>, Fail>
+    ensures { IfOk result (λ buffer. length buffer.items ≡ POLL_ROOM) }
+{
+    Ok(vec![in alloc; 0u8; POLL_ROOM]?)
+}
+
+/// A port with a query of client 7, nothing, a piece of the feed and the feed's end to come.
+fn port_with_polls(alloc: Global, fail: &[u64]) -> Result<MemoryPort, Fail> {
+    let mut port = MemoryPort::new(alloc, fail)?;
+    port.add(Polled::Query { client: 7, len: 2 }, &[10, 20])?;
+    port.add(Polled::Nothing, &[])?;
+    port.add(Polled::Feed { len: 3 }, &[30, 40, 50])?;
+    port.add(Polled::FeedEnd, &[])?;
+    Ok(port)
+}
+
+/// The next poll answers this, with these bytes at the front of the buffer.
+fn polls(rt: &impl Abort, port: &mut MemoryPort, buffer: &mut [u8], want: Polled, bytes: &[u8])
+    requires bound { IsBound (memory_seen port.old) }
+    requires room { length buffer.old ≡ POLL_ROOM }
+    ensures bound { IsBound (memory_seen port.new) }
+    ensures room { length buffer.new ≡ POLL_ROOM }
+{
+    let got = port.poll(buffer);
+    assert_eq!(rt; got, want);
+    assert!(rt; buffer.starts_with(bytes));
+}
+
+/// The send or closing of this number.
+fn sent(rt: &impl Abort, port: &MemoryPort, number: usize, want: Option<Sent<'_>>) {
+    assert_eq!(rt; port.sent(number), want);
+}
+
+#[test]
+fn polls_come_in_order_and_sends_are_kept(rt: HostRuntime) -> Result<(), Fail> {
+    let mut buffer = poll_buffer(rt.alloc())?;
+    let mut port = port_with_polls(rt.alloc(), &[])?;
+    port.bind(53, 54)?;
+    let query = Polled::Query { client: 7, len: 2 };
+    polls(&rt, &mut port, &mut buffer, query, &[10, 20]);
+    polls(&rt, &mut port, &mut buffer, Polled::Nothing, &[]);
+    port.reply(7, &[1, 2])?;
+    let piece = Polled::Feed { len: 3 };
+    polls(&rt, &mut port, &mut buffer, piece, &[30, 40, 50]);
+    port.feed_reply(&[3])?;
+    port.close_feed();
+    polls(&rt, &mut port, &mut buffer, Polled::FeedEnd, &[]);
+    polls(&rt, &mut port, &mut buffer, Polled::Nothing, &[]);
+    let reply = Sent::Reply {
+        client: 7,
+        bytes: &[1, 2],
+    };
+    sent(&rt, &port, 0, Some(reply));
+    sent(&rt, &port, 1, Some(Sent::Feed { bytes: &[3] }));
+    sent(&rt, &port, 2, Some(Sent::Closed));
+    sent(&rt, &port, 3, None);
+    Ok(())
+}
+
+#[test]
+fn each_listed_call_of_a_port_fails_and_takes_no_poll(rt: HostRuntime) -> Result<(), Fail> {
+    let mut buffer = poll_buffer(rt.alloc())?;
+    let mut port = port_with_polls(rt.alloc(), &[1, 3, 5])?;
+    assert!(&rt; port.bind(53, 54).is_err());
+    port.bind(53, 54)?;
+    polls(&rt, &mut port, &mut buffer, Polled::Failed, &[]);
+    let query = Polled::Query { client: 7, len: 2 };
+    polls(&rt, &mut port, &mut buffer, query, &[10, 20]);
+    assert!(&rt; port.reply(7, &[1]).is_err());
+    port.reply(8, &[2])?;
+    sent(
+        &rt,
+        &port,
+        0,
+        Some(Sent::Reply {
+            client: 8,
+            bytes: &[2],
+        }),
+    );
+    sent(&rt, &port, 1, None);
+    Ok(())
 }

@@ -1,0 +1,70 @@
+ghost use Rattle.std.specs.Prelude.{◌≡◌, [], ◌∷◌, length};
+ghost use Rattle.byte_io.specs.declared.port.TheConstants.{POLL_ROOM};
+ghost use Rattle.byte_io.specs.Port.{
+  PortSeen,
+  IsBound,
+  Binds,
+  Polls,
+  Sends,
+  Notes,
+  replied,
+  fed_back,
+  closed,
+};
+
+use crate::errors::Failed;
+
+/// The length of the buffer that a poll is lent.
+pub const POLL_ROOM: usize = 65_536;
+
+/// What a poll brought. Its bytes stand at the front of the buffer.
+#[derive(Clone, Copy, PartialEq, Eq, Debug)]
+pub enum Polled {
+    /// A datagram of `len` bytes. A reply to it goes to this client.
+    Query { client: u64, len: usize },
+    /// A piece of the feed, of `len` bytes.
+    Feed { len: usize },
+    /// The feed's connection has ended.
+    FeedEnd,
+    /// Nothing came.
+    Nothing,
+    /// The count of faults rose in this call.
+    Failed,
+}
+
+/// Where datagrams and the feed come from, and where their replies go: one UDP port, and one connection of a feed at a time.
+pub trait Port {
+    ghost seen: { Self → PortSeen };
+
+    /// Binds the port to the number of its UDP port and to that of its feed.
+    ///
+    /// `Failed` comes only where the count of faults rose in this call.
+    fn bind(&mut self, udp: u16, feed: u16) -> Result<(), Failed>
+        ensures { Binds (seen self.old) (seen self.new) udp feed result };
+
+    /// Waits a short while, and brings one datagram, one piece of the feed, its end, or nothing.
+    fn poll(&mut self, buf: &mut [u8]) -> Polled
+        requires bound { IsBound (seen self.old) }
+        requires room { length buf.old ≡ POLL_ROOM }
+        ensures polls { Polls (seen self.old) (seen self.new) buf.new result }
+        ensures room { length buf.new ≡ POLL_ROOM };
+
+    /// Sends a datagram to a client.
+    ///
+    /// `Failed` comes only where the count of faults rose in this call.
+    fn reply(&mut self, client: u64, bytes: &[u8]) -> Result<(), Failed>
+        requires { IsBound (seen self.old) }
+        ensures { Sends (seen self.old) (seen self.new) (replied client bytes.now) result };
+
+    /// Sends bytes to the feed, whole.
+    ///
+    /// `Failed` comes only where the count of faults rose in this call.
+    fn feed_reply(&mut self, bytes: &[u8]) -> Result<(), Failed>
+        requires { IsBound (seen self.old) }
+        ensures { Sends (seen self.old) (seen self.new) (fed_back bytes.now) result };
+
+    /// Drops the feed's connection, if there is one.
+    fn close_feed(&mut self)
+        requires { IsBound (seen self.old) }
+        ensures { Notes (seen self.old) (seen self.new) (closed ∷ []) };
+}

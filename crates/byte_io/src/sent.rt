@@ -1,0 +1,10 @@
+/// What a port in memory sent, or that it dropped the feed's connection.
+#[derive(Clone, Copy, PartialEq, Eq, Debug)]
+pub enum Sent<'a> {
+    /// A datagram to this client.
+    Reply { client: u64, bytes: &'a [u8] },
+    /// Bytes to the feed.
+    Feed { bytes: &'a [u8] },
+    /// The feed's connection was dropped.
+    Closed,
+}
