@@ -1,14 +1,17 @@
 ghost use Rattle.std.specs.Prelude.{List};
-ghost use Rattle.feed_frames.specs.Frames.{Frame as Framed, IsFramed};
+ghost use Rattle.feed_frames.specs.Frames.{Frame as Framed};
 ghost use Rattle.feed_frames.specs.Replies.{Reply};
 ghost use Rattle.feed_frames.specs.Front.{frame_of};
-ghost use Rattle.frame_loop.specs.Turns.{Turns, beside};
+ghost use Rattle.frame_loop.specs.Turns.{IsAskable, Turns, beside};
 
 use crate::reply::ReplyBuf;
 use feed_frames::Frame;
 use nmc_base::Steps;
 use std::alloc::Global;
 use std::sync::ledger::Ledger;
+
+/// The kind of a query's frame.
+pub const QUERY: u8 = 3;
 
 /// What answers frames, one by one, by means of a world that it is lent: the disk with its files, or nothing.
 pub trait Answerer<W> {
@@ -24,7 +27,8 @@ pub trait Answerer<W> {
     // from the start these frames and these replies led to the end of the run
     ghost broken: { Start → List Framed → List Reply → Self × W → Type 0 };
 
-    /// Answers one frame. At Err the run has ended, and the frame has its reply all the same.
+    /// Answers one frame: one that a stream may hold, or a message of any length. At Err the run has ended, and the
+    /// frame has its reply all the same.
     fn turn<L: Ledger>(
         self,
         alloc: Global,
@@ -33,7 +37,7 @@ pub trait Answerer<W> {
         reply: &mut ReplyBuf,
         steps: &mut Steps<L>,
     ) -> Result<Self, Self>
-        requires framed { IsFramed (frame_of frame) }
+        requires askable { IsAskable (frame_of frame) }
         requires ready { ready (self, world.old) }
         ensures { Turns ready reached broken (self, world.old) (frame_of frame.entry) reply.new (beside world.new result) };
 }

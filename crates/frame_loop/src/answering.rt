@@ -22,6 +22,9 @@ pub(crate) enum Halted<T> {
 }
 
 /// Answers the next frame, or says why it doesn't.
+//
+// What answers is moved in and out, and may be large: inlined into a loop, it costs LLVM minutes.
+#[inline(never)]
 fn answer_next<W, T: Answerer<W>, K: Sink, L: Ledger>(
     alloc: Global,
     answerer: T,
@@ -52,6 +55,7 @@ fn answer_next<W, T: Answerer<W>, K: Sink, L: Ledger>(
 }
 
 /// Answers all whole frames that were read, each before the next.
+#[inline(never)]
 pub(crate) fn answer_all<W, T: Answerer<W>, K: Sink, L: Ledger>(
     alloc: Global,
     answerer: T,

@@ -4,10 +4,10 @@ use byte_io::Sink;
 
 /// The sink failed, or took nothing of a piece that isn't empty.
 #[derive(Clone, Copy, PartialEq, Eq, Debug)]
-pub(crate) struct Undelivered;
+pub struct Undelivered;
 
 /// Gives the whole text to the sink, in as many writes as it takes.
-pub(crate) fn deliver<K: Sink>(sink: &mut K, text: &[u8]) -> Result<(), Undelivered>
+pub fn deliver<K: Sink>(sink: &mut K, text: &[u8]) -> Result<(), Undelivered>
     ensures { Delivers (K.seen sink.old) (K.seen sink.new) text.now result }
 {
     let mut rest = text;

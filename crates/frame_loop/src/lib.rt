@@ -9,7 +9,8 @@ mod following;
 mod law;
 mod reply;
 
-pub use answerer::Answerer;
+pub use answerer::{Answerer, QUERY};
+pub use delivery::{Undelivered, deliver};
 pub use filling::Buffers;
 pub use following::{Ending, follow};
 pub use law::one_ending;

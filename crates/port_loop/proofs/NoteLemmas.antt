@@ -1,0 +1,59 @@
+-- What a port noted, call by call.
+use Rattle.std.specs.Prelude.{Result, Ok, Err}
+use Rattle.std.proofs.Common.{◌≡◌, ◌⊎◌, inl, inr, ℕ, ◌==◌, Bool, true, false, List, [], ◌∷◌, ◌++◌, refl, sym, ap, subst, ◌∙◌, append_assoc}
+use Rattle.std.proofs.lemmas.List.{append-nil}
+use Rattle.std.proofs.lemmas.Bool.{eqb-true, eq-eqb, cases_Bool}
+use Rattle.fault_counts.proofs.FaultLemmas.{NeverFell_refl, NeverFell_trans}
+use Rattle.byte_io.specs.Port.{Note, replied, PortSeen, IsBound, Notes, Sends}
+use Rattle.byte_io.specs.declared.errors.Failed.{Failed}
+use Rattle.feed_frames.specs.Frames.{Frame}
+use Rattle.feed_frames.specs.Replies.{Reply}
+use Rattle.port_loop.specs.Sends.{to_client, Replied, none, one, SendsOne}
+use Rattle.port_loop.specs.declared.sending.TheConstants.{DROPPED}
+
+pub Notes_nothing : (port : PortSeen) → Notes port port []
+Notes_nothing port = record {
+  bound = refl;
+  added = λ after told. record { before = after; told = told; after_is = sym (append-nil after) };
+  later = NeverFell_refl port.faults;
+}
+
+pub Notes_append : (a b c : PortSeen) (xs ys : List Note) → Notes a b xs → Notes b c ys → Notes a c (xs ++ ys)
+Notes_append a b c xs ys first second = record {
+  bound = second.bound ∙ first.bound;
+  added = λ after told.
+      let s = second.added after told in
+      let f = first.added s.before s.told in
+      record { before = f.before; told = f.told; after_is = s.after_is ∙ ap (λ (q : List Note). q ++ ys) f.after_is ∙ append_assoc f.before xs ys };
+  later = NeverFell_trans a.faults b.faults c.faults first.later second.later;
+}
+
+pub still_bound : (a b : PortSeen) (xs : List Note) → Notes a b xs → IsBound a → IsBound b
+still_bound a b xs n bound = record { numbers = bound.numbers; are = n.bound ∙ bound.are }
+
+-- replies to frames, and those to the frames behind them
+pub replied_then : {to : Reply → Bool → List Note} {fs gs : List Frame} {rs qs : List Reply} {xs ys : List Note}
+    → Replied to fs rs xs → Replied to gs qs ys → Replied to (fs ++ gs) (rs ++ qs) (xs ++ ys)
+replied_then none second = second
+replied_then {to = to} {gs = gs} {qs = qs} {ys = ys} (one frame reply is_sent frames replies notes rest) second =
+    subst (λ (q : List Note). Replied to (frame ∷ (frames ++ gs)) (reply ∷ (replies ++ qs)) q) (sym (append_assoc (to reply is_sent) notes ys))
+    (one frame reply is_sent (frames ++ gs) (replies ++ qs) (notes ++ ys) (replied_then rest second))
+
+-- a reply to one frame
+pub replied_one : (to : Reply → Bool → List Note) (frame : Frame) (reply : Reply) (is_sent : Bool) → Replied to (frame ∷ []) (reply ∷ []) (to reply is_sent)
+replied_one to frame reply is_sent = subst (λ (q : List Note). Replied to (frame ∷ []) (reply ∷ []) q) (append-nil (to reply is_sent)) (one frame reply is_sent [] [] [] none)
+
+-- the reply to a dropped query isn't sent
+pub dropped : (port : PortSeen) (client : ℕ) (reply : Reply) → reply.code ≡ DROPPED → SendsOne port port (to_client client reply)
+dropped port client reply same =
+    let test : (reply.code == DROPPED) ≡ true = eq-eqb reply.code DROPPED same in
+    record { is_sent = true; noted = rw test (Notes_nothing port) }
+
+-- a reply to a client was sent, or the send failed
+pub sent_to_client : (old new : PortSeen) (client : ℕ) (reply : Reply) (result : Result (Unit {0}) Failed) → (reply.code ≡ DROPPED → ⊥) → Sends old new (replied client reply.payload) result
+    → SendsOne old new (to_client client reply)
+sent_to_client old new client reply result other sends = after (cases_Bool (reply.code == DROPPED)) result sends where
+  after : ((reply.code == DROPPED) ≡ true) ⊎ ((reply.code == DROPPED) ≡ false) → (r : Result (Unit {0}) Failed) → Sends old new (replied client reply.payload) r → SendsOne old new (to_client client reply)
+  after (inl same) r s = absurd (other (eqb-true reply.code DROPPED same))
+  after (inr differs) (Ok done) s = record { is_sent = true; noted = rw differs s }
+  after (inr differs) (Err e) s = record { is_sent = false; noted = rw differs s.noted }

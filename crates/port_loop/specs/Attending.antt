@@ -1,0 +1,43 @@
+-- What came of one poll.
+use Rattle.std.specs.Prelude.{◌≡◌, ◌+◌, ◌≤◌, List, [], ◌∷◌, Result, Ok, Err}
+use Rattle.byte_io.specs.Port.{Note, closed, PortSeen, Notes}
+use Rattle.byte_io.specs.declared.port.TheConstants.{POLL_ROOM}
+use Rattle.feed_frames.specs.Frames.{Frame, IsPartialFrame}
+use Rattle.feed_frames.specs.Feed.{Feed, fresh_feed}
+use Rattle.feed_frames.specs.Replies.{Reply}
+use Rattle.port_loop.specs.Transcript.{DealsWith, BreaksOff, LeadsTo}
+use Rattle.port_loop.specs.Answering.{Desk, desk, fed_to, HaltsAtPart, HaltsAtBad, EndsThere}
+
+-- all whole frames of the feed were answered; and where a bad frame follows, the feed was closed and what it brought forgotten
+pub data GoesThrough {Start X : Type 0} (Ready : X → Type 0) (Reached : Start → List Frame → List Reply → X → Type 0) (old new : Desk X) : Type 0 where
+  waits : HaltsAtPart Ready Reached old new → GoesThrough Ready Reached old new
+  closes : (port : PortSeen) (feed : Feed) → HaltsAtBad Ready Reached old (desk port feed new.now) → Notes port new.port (closed ∷ []) → new.feed ≡ fresh_feed → GoesThrough Ready Reached old new
+
+abbrev pub AnswersPiece : {Start X : Type 0} (Ready : X → Type 0) (Reached Broken : Start → List Frame → List Reply → X → Type 0) (old : Desk X) (port : PortSeen) (feed : Feed) → Result X X → Type 0
+AnswersPiece Ready Reached Broken old port feed (Ok now) = GoesThrough Ready Reached old (desk port feed now)
+AnswersPiece Ready Reached Broken old port feed (Err now) = EndsThere Reached Broken old (desk port feed now)
+
+-- one poll was made and dealt with, and the next may be made
+pub record Deals {Start X : Type 0} (Ready : X → Type 0) (Reached : Start → List Frame → List Reply → X → Type 0) (old new : Desk X) : Type 0 where
+  pub frames : List Frame
+  pub replies : List Reply
+  pub notes : List Note
+  pub deals : DealsWith old.feed.left new.feed.left frames replies notes
+  pub noted : Notes old.port new.port notes
+  pub leads : LeadsTo Reached Reached old.now frames replies new.now
+  pub ready : Ready new.now
+  pub partial : IsPartialFrame new.feed.left
+  pub fed : fed_to new.feed ≤ fed_to old.feed + POLL_ROOM
+
+-- one poll was made, and one of its replies ended the run
+pub record Breaks {Start X : Type 0} (Reached Broken : Start → List Frame → List Reply → X → Type 0) (old new : Desk X) : Type 0 where
+  pub frames : List Frame
+  pub replies : List Reply
+  pub notes : List Note
+  pub breaks : BreaksOff old.feed.left frames replies notes
+  pub noted : Notes old.port new.port notes
+  pub leads : LeadsTo Reached Broken old.now frames replies new.now
+
+abbrev pub AnswersPoll : {Start X : Type 0} (Ready : X → Type 0) (Reached Broken : Start → List Frame → List Reply → X → Type 0) (old : Desk X) (port : PortSeen) (feed : Feed) → Result X X → Type 0
+AnswersPoll Ready Reached Broken old port feed (Ok now) = Deals Ready Reached old (desk port feed now)
+AnswersPoll Ready Reached Broken old port feed (Err now) = Breaks Reached Broken old (desk port feed now)

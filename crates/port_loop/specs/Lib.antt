@@ -1,0 +1,9 @@
+pub use Rattle.byte_io.specs.Port
+pub use Rattle.feed_frames.specs.Frames
+pub use Rattle.feed_frames.specs.Replies
+pub mod Polls
+pub mod Sends
+pub mod Transcript
+pub mod Laws
+pub mod Answering
+pub mod Attending

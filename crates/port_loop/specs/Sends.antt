@@ -1,0 +1,47 @@
+-- Where replies go.
+use Rattle.std.specs.Prelude.{ℕ, Bool, true, false, ◌==◌, if◌then◌else◌, List, [], ◌∷◌, ◌++◌}
+use Rattle.byte_io.specs.Port.{Note, replied, fed_back, closed, Got, datagram, piece, feed_end, nothing, fault, PortSeen, Notes}
+use Rattle.feed_frames.specs.Frames.{Frame}
+use Rattle.feed_frames.specs.Replies.{Reply, reply_text}
+use Rattle.port_loop.specs.declared.sending.TheConstants.{DROPPED}
+use Rattle.port_loop.specs.declared.sending.Destination.{Destination}
+use Rattle.port_loop.specs.declared.sending.Destination.TheVariants.{Client, Feed}
+
+-- the payload alone, to the client. The code of a dropped query sends nothing
+abbrev pub to_client : ℕ → Reply → Bool → List Note
+to_client client reply is_sent = if reply.code == DROPPED then [] else (replied client reply.payload is_sent ∷ [])
+
+-- the whole reply, to the feed
+abbrev pub to_feed : Reply → Bool → List Note
+to_feed reply is_sent = fed_back (reply_text reply) is_sent ∷ []
+
+abbrev pub sends_to : Destination → Reply → Bool → List Note
+sends_to (Client client) = to_client client
+sends_to Feed = to_feed
+
+abbrev pub to_nobody : Reply → Bool → List Note
+to_nobody reply is_sent = []
+
+-- what is sent for a reply to a poll's frame, and whether it was sent or failed
+abbrev pub sends_of : Got → Reply → Bool → List Note
+sends_of (datagram client message) = to_client client
+sends_of (piece bytes) = to_feed
+sends_of feed_end = to_nobody
+sends_of nothing = to_nobody
+sends_of fault = to_nobody
+
+-- frames, one reply to each, and the sends for these replies, in one order
+pub data Replied (sends : Reply → Bool → List Note) : List Frame → List Reply → List Note → Type 0 where
+  none : Replied sends [] [] []
+  one : (frame : Frame) (reply : Reply) (is_sent : Bool) (frames : List Frame) (replies : List Reply) (notes : List Note)
+      → Replied sends frames replies notes → Replied sends (frame ∷ frames) (reply ∷ replies) (sends reply is_sent ++ notes)
+
+-- the feed is closed, or it isn't
+abbrev pub closing : Bool → List Note
+closing true = closed ∷ []
+closing false = []
+
+-- a reply was sent, or the send failed
+pub record SendsOne (old new : PortSeen) (sends : Bool → List Note) : Type 0 where
+  pub is_sent : Bool
+  pub noted : Notes old new (sends is_sent)

@@ -1,0 +1,113 @@
+ghost use Rattle.std.specs.Prelude.{◌<◌, ◌+◌, ◌^◌};
+ghost use Rattle.byte_io.specs.Port.{IsBound};
+ghost use Rattle.byte_io.specs.declared.port.TheConstants.{POLL_ROOM};
+ghost use Rattle.feed_frames.specs.Frames.{IsPartialFrame};
+ghost use Rattle.frame_loop.specs.Turns.{beside};
+ghost use Rattle.port_loop.specs.Answering.{desk, fed_to};
+ghost use Rattle.port_loop.specs.Attending.{AnswersPiece, AnswersPoll};
+
+use crate::answering::{Halted, answer, answer_all};
+use crate::polling::{PollRoom, feed_front};
+use crate::sending::{Destination, drop_feed};
+use byte_io::{Polled, Port};
+use feed_frames::{Frame, Frames};
+use frame_loop::{Answerer, QUERY, ReplyBuf};
+use nmc_base::{NoMemory, Steps};
+use std::alloc::Global;
+use std::sync::ledger::Ledger;
+
+/// All the memory of the loop but for what the answers need: it is taken before the first poll.
+#[derive(Drop)]
+pub struct PollBuffers {
+    pub(crate) frames: Frames,
+    pub(crate) room: PollRoom,
+    pub(crate) reply: ReplyBuf,
+}
+
+impl PollBuffers {
+    /// Room for the longest frame and a piece behind it, for what a poll brings, and for a reply.
+    pub fn new(alloc: Global) -> Result<PollBuffers, NoMemory> {
+        Ok(PollBuffers {
+            frames: Frames::new(alloc)?,
+            room: PollRoom::new(alloc)?,
+            reply: ReplyBuf::new(alloc)?,
+        })
+    }
+}
+
+/// Answers all whole frames of the feed, and closes it where a bad one follows. At Err the last reply has ended the run.
+#[inline(never)]
+fn answer_piece<W, T: Answerer<W>, P: Port, L: Ledger>(
+    alloc: Global,
+    answerer: T,
+    world: &mut W,
+    frames: &mut Frames,
+    reply: &mut ReplyBuf,
+    port: &mut P,
+    steps: &mut Steps<L>,
+) -> Result<T, T>
+    requires bound { IsBound (P.seen port.old) }
+    requires ready { T.ready (answerer, world.old) }
+    ensures { AnswersPiece T.ready T.reached T.broken (desk (P.seen port.old) frames.old (answerer, world.old)) (P.seen port.new) frames.new (beside world.new result) }
+{
+    match answer_all(alloc, answerer, world, frames, reply, port, steps) {
+        Halted::Partial(next) => Ok(next),
+        Halted::Bad(next) => {
+            drop_feed(frames, port);
+            Ok(next)
+        }
+        Halted::Ended(last) => Err(last),
+    }
+}
+
+/// Makes one poll, and deals with it. At Err the last reply has ended the run.
+#[inline(never)]
+pub(crate) fn answer_poll<W, T: Answerer<W>, P: Port, L: Ledger>(
+    alloc: Global,
+    answerer: T,
+    world: &mut W,
+    buffers: &mut PollBuffers,
+    port: &mut P,
+    steps: &mut Steps<L>,
+) -> Result<T, T>
+    requires bound { IsBound (P.seen port.old) }
+    requires ready { T.ready (answerer, world.old) }
+    requires answered { IsPartialFrame buffers.old.frames.left }
+    requires short { fed_to buffers.old.frames + POLL_ROOM < 2 ^ 63 }
+    ensures { AnswersPoll T.ready T.reached T.broken (desk (P.seen port.old) buffers.old.frames (answerer, world.old)) (P.seen port.new) buffers.new.frames (beside world.new result) }
+{
+    let PollBuffers {
+        frames,
+        room,
+        reply,
+    } = buffers;
+    match room.poll(port) {
+        Polled::Query { client, len } => {
+            let frame = Frame {
+                kind: QUERY,
+                payload: room.front(len),
+            };
+            let destination = Destination::Client(client);
+            answer(
+                alloc,
+                answerer,
+                world,
+                frame,
+                destination,
+                reply,
+                port,
+                steps,
+            )
+        }
+        Polled::Feed { len } => {
+            feed_front(frames, room, len);
+            answer_piece(alloc, answerer, world, frames, reply, port, steps)
+        }
+        Polled::FeedEnd => {
+            frames.reset();
+            Ok(answerer)
+        }
+        Polled::Nothing => Ok(answerer),
+        Polled::Failed => Ok(answerer),
+    }
+}

@@ -1,0 +1,54 @@
+ghost use Rattle.std.specs.Prelude.{◌≡◌, ◌∷◌, []};
+ghost use Rattle.byte_io.specs.Port.{IsBound, Notes, closed};
+ghost use Rattle.feed_frames.specs.Feed.{fresh_feed};
+ghost use Rattle.port_loop.specs.Sends.{to_client, sends_to, SendsOne};
+
+use byte_io::Port;
+use feed_frames::Frames;
+use frame_loop::ReplyBuf;
+
+/// The code of a query that gets no reply.
+pub const DROPPED: u8 = 8;
+
+/// Where the reply to a frame goes.
+#[derive(Clone, Copy)]
+pub(crate) enum Destination {
+    /// To the client that sent the datagram.
+    Client(u64),
+    /// To the feed.
+    Feed,
+}
+
+/// Sends the payload of a reply to a client, unless it is the reply to a query that gets none.
+fn send_to_client<P: Port>(port: &mut P, client: u64, reply: &ReplyBuf)
+    requires { IsBound (P.seen port.old) }
+    ensures { SendsOne (P.seen port.old) (P.seen port.new) (to_client client reply.now) }
+{
+    if reply.code() == DROPPED {
+        return;
+    }
+    let _ = port.reply(client, reply.payload());
+}
+
+/// Sends a reply. A send that fails is dealt with.
+pub(crate) fn send<P: Port>(port: &mut P, destination: Destination, reply: &ReplyBuf)
+    requires { IsBound (P.seen port.old) }
+    ensures { SendsOne (P.seen port.old) (P.seen port.new) (sends_to destination reply.now) }
+{
+    match destination {
+        Destination::Client(client) => send_to_client(port, client, reply),
+        Destination::Feed => {
+            let _ = port.feed_reply(reply.text());
+        }
+    }
+}
+
+/// Closes the feed, and forgets what it has brought.
+pub(crate) fn drop_feed<P: Port>(frames: &mut Frames, port: &mut P)
+    requires { IsBound (P.seen port.old) }
+    ensures closed { Notes (P.seen port.old) (P.seen port.new) (closed ∷ []) }
+    ensures forgotten { frames.new ≡ fresh_feed }
+{
+    port.close_feed();
+    frames.reset();
+}
