@@ -1,0 +1,4 @@
+pub mod PageLemmas
+pub mod OrderLemmas
+pub mod TextLemmas
+pub mod ReportLemmas

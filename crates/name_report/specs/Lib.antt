@@ -1,0 +1,4 @@
+pub mod Text
+pub mod Order
+pub mod Report
+pub mod Page

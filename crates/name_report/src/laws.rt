@@ -1,0 +1,10 @@
+ghost use Rattle.std.specs.Prelude.{◌≡◌, List, ℕ};
+ghost use Rattle.name_report.specs.Report.{AreNamesOf, IsReport};
+ghost use Rattle.name_report.specs.Text.{Reported};
+ghost use Rattle.chain_names.specs.declared.coin.Item.{Item};
+
+/// There is one list at most of the names that have an entry, in order, and so one report.
+pub fn one_report()
+    ensures names { (histories : List ℕ → List Item) (a b : List (List ℕ)) → AreNamesOf histories a → AreNamesOf histories b → a ≡ b }
+    ensures text { (what : Reported) (a b : List ℕ) → IsReport what a → IsReport what b → a ≡ b }
+{}
