@@ -6,6 +6,3 @@ mod header;
 mod merge_part;
 
 pub use header::{Header, read_header};
-
-#[cfg(test)]
-mod tests;

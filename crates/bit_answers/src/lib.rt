@@ -7,6 +7,3 @@ mod served;
 pub use answering::answer;
 pub use bit_replies::Answered;
 pub use served::Served;
-
-#[cfg(test)]
-mod tests;

@@ -7,8 +7,3 @@ mod writing;
 
 pub use answering::{Answered, answer};
 pub use laws::{replies_are_lawful, truncated_replies_are_headed};
-
-#[cfg(test)]
-mod rows;
-#[cfg(test)]
-mod tests;

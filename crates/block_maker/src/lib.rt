@@ -12,6 +12,3 @@ mod transaction;
 pub use law::{root_law, script_law};
 pub use maker::Maker;
 pub use operation::{LONGEST_PART, MakeOp};
-
-#[cfg(test)]
-mod tests;

@@ -10,6 +10,3 @@ pub use block::{Block, BlockFault, read_block};
 pub use block_grammar::BlockKind;
 pub use root::{merkle_root, root_of, txids};
 pub use txs::Txs;
-
-#[cfg(test)]
-mod tests;

@@ -17,6 +17,3 @@ pub use law::{replies_end, same_front};
 pub use numbers::{GREATEST_LIMIT, HEADER_SIZE, LEAST_LIMIT, TIME_TO_LIVE};
 pub use query::{Asked, Question, read_query};
 pub use reply::{Reply, bare};
-
-#[cfg(test)]
-mod tests;

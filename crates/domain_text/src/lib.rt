@@ -25,8 +25,3 @@ pub fn sizes_of_names()
     ensures label { longest_label ≡ 63 }
     ensures name { longest_wire ≡ 255 }
 {}
-
-#[cfg(test)]
-mod rows;
-#[cfg(test)]
-mod tests;

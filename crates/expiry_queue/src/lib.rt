@@ -5,6 +5,3 @@ mod queue;
 mod row;
 
 pub use queue::Queue;
-
-#[cfg(test)]
-mod tests;

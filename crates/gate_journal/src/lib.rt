@@ -14,6 +14,3 @@ pub use journal::Journal;
 pub use law::{
     gate_behind_records, image_and_records_of_an_area, records_of_a_journal, records_up_to_a_gate,
 };
-
-#[cfg(test)]
-mod tests;

@@ -10,8 +10,6 @@ ghost use Rattle.hash160.specs.Ripemd160.{IsDigest, ripemd160};
 
 mod compress;
 mod pieces;
-#[cfg(test)]
-mod tests;
 
 use nmc_base::Hash20;
 pub use pieces::Ripemd;

@@ -10,8 +10,3 @@ mod text;
 
 pub use item::{Element, Elements, Key};
 pub use object::{IfaObject, read_value};
-
-#[cfg(test)]
-mod rows;
-#[cfg(test)]
-mod tests;

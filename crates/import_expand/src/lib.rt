@@ -10,6 +10,3 @@ mod source_list;
 pub use expansion::{child, sources};
 pub use names::Names;
 pub use source_list::Sources;
-
-#[cfg(test)]
-mod tests;

@@ -5,6 +5,3 @@ mod coins;
 
 pub use chain_names::Coin;
 pub use coins::Coins;
-
-#[cfg(test)]
-mod tests;

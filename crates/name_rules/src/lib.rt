@@ -14,6 +14,3 @@ pub use chain_names::RuleRefusal;
 pub use transaction::check;
 pub use verdict::Verdict;
 pub use view::{CoinRef, NameView};
-
-#[cfg(test)]
-mod tests;

@@ -14,6 +14,3 @@ pub fn one_operation()
     ensures { (script : List ℕ) (a b : NameOperation)
         → IsNameScript script a → IsNameScript script b → a ≡ b }
 {}
-
-#[cfg(test)]
-mod tests;

@@ -5,6 +5,3 @@ mod table;
 
 pub use chain_names::Item;
 pub use table::Table;
-
-#[cfg(test)]
-mod tests;

@@ -19,6 +19,3 @@ pub use limits::{
 pub use no_memory::NoMemory;
 pub use roomy_list::{RoomyList, Words};
 pub use steps::Steps;
-
-#[cfg(test)]
-mod tests;

@@ -11,6 +11,3 @@ pub use inputs::{Inputs, TxIn};
 pub use outputs::{Outputs, TxOut};
 pub use transaction::{Tx, read_tx, txid};
 pub use wire_read::TxFault;
-
-#[cfg(test)]
-mod tests;

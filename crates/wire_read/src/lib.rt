@@ -9,6 +9,3 @@ mod size;
 pub use cursor::{Cursor, WireFault};
 pub use fault::{Fault, TxFault, cut};
 pub use fields::{before, counted_at, hash_at, size_at, some_size_at, u32_at, u64_at};
-
-#[cfg(test)]
-mod tests;

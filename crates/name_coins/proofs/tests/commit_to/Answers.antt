@@ -1,5 +1,0 @@
-use Rattle.chain_names.proofs.Changed.{same_point-at_changed}
-use Rattle.name_coins.proofs.tests.commit_to.Goals as goal
-
-pub put-requires : goal.put-requires
-put-requires g c = record { placed = same_point-at_changed _ _ _ _ c.in_ok-place.ensures.ok }

@@ -1,4 +1,0 @@
-use Rattle.name_rules.proofs.tests.verdicts_of_the_table.Given as goal
-
-abbrev pub ghosts-table : goal.ghosts-table
-ghosts-table g a = record { name = a.blank.name; parts = a.blank.parts }
