@@ -208,10 +208,10 @@ fn moved(
     ensures { IfOk result (λ a. let b = seen_below name.now in
         seen_asked a ≡ by_dname_of (dname_of node.now.own target.now) (own_of b b.path) (replaced b (drop left b.path) target.now)) }
 {
-    let dname = Resource::new(alloc, &node.own, rr_type::DNAME, target.wire())?;
     let own = name.own_at(alloc, &node.top, 0)?;
-    let target = name_before(alloc, &name.path[..left], target)?;
-    by_dname(alloc, dname, &own, target)
+    let renamed = name_before(alloc, &name.path[..left], target)?;
+    let dname = Resource::new(alloc, &node.own, rr_type::DNAME, target.wire())?;
+    by_dname(alloc, dname, &own, renamed)
 }
 
 /// What a name below `bit.` is answered with, whose value is this object.

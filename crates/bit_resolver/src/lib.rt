@@ -16,8 +16,3 @@ pub use limits::{CLASS_IN, EXPIRE, MINIMUM, MOST_CNAMES, REFRESH, RETRY};
 pub use question::resolve;
 pub use resource::{Resource, Resources, Sections};
 pub use zone::Zone;
-
-#[cfg(test)]
-mod rows;
-#[cfg(test)]
-mod tests;

@@ -1,6 +1,6 @@
 //! RDATA of elements.
 
-ghost use Rattle.std.specs.Prelude.{◌≡◌, ◌++◌, ◌∷◌, [], option_map, IfOk, OnOk};
+ghost use Rattle.std.specs.Prelude.{◌≡◌, ◌++◌, ◌∷◌, [], option_map, IfOk, OnOk, Some};
 ghost use Rattle.domain_text.specs.Host.{host_name as host_name_of};
 ghost use Rattle.std.specs.List.{flat_map};
 ghost use Rattle.ifa_value.specs.Elements.{alone};
@@ -61,24 +61,31 @@ fn host_behind(
     }
 }
 
-/// A digest behind some numbers.
-fn digest_behind(alloc: Global, front: &[u8], digest: &[u8]) -> Result<Bytes, NoMemory>
-    ensures { IfOk result (λ b. b ≡ front.now ++ digest.now) }
+/// RDATA that is these bytes.
+fn copied(alloc: Global, bytes: &[u8]) -> Result<Option<Bytes>, NoMemory>
+    ensures { IfOk result (λ o. o ≡ Some bytes.now) }
+{
+    Ok(Some(Bytes::copy_of(alloc, bytes)?))
+}
+
+/// RDATA that is a digest behind some numbers.
+fn digest_behind(alloc: Global, front: &[u8], digest: &[u8]) -> Result<Option<Bytes>, NoMemory>
+    ensures { IfOk result (λ o. o ≡ Some (front.now ++ digest.now)) }
 {
     let mut found = Bytes::copy_of(alloc, front)?;
     found.extend(digest)?;
-    Ok(found)
+    Ok(Some(found))
 }
 
 /// RDATA of a delegation signer.
-fn ds(alloc: Global, tag: u16, front: &[u8], digest: &[u8]) -> Result<Bytes, NoMemory>
-    ensures { IfOk result (λ b. b ≡ numbers16 (tag ∷ []) ++ (front.now ++ digest.now)) }
+fn ds(alloc: Global, tag: u16, front: &[u8], digest: &[u8]) -> Result<Option<Bytes>, NoMemory>
+    ensures { IfOk result (λ o. o ≡ Some (numbers16 (tag ∷ []) ++ (front.now ++ digest.now))) }
 {
     let mut found = Bytes::new(alloc);
     add_numbers16(&[tag], &mut found)?;
     found.extend(front)?;
     found.extend(digest)?;
-    Ok(found)
+    Ok(Some(found))
 }
 
 /// RDATA of an element at a node. None exactly where the element is skipped there, or gives no record.
@@ -91,27 +98,27 @@ pub(crate) fn rdata(
     ensures { IfOk result (λ o. o ≡ rdata_of (host_name_of own.now top.now) element.now) }
 {
     match element {
-        Element::Ip4(address) => Ok(Some(Bytes::copy_of(alloc, address)?)),
-        Element::Ip6(address) => Ok(Some(Bytes::copy_of(alloc, address)?)),
+        Element::Ip4(address) => copied(alloc, address),
+        Element::Ip6(address) => copied(alloc, address),
         Element::Host(text) => host_behind(alloc, own, top, &[], text.as_slice()),
         Element::Ds {
             tag,
             algorithm,
             kind,
             digest,
-        } => Ok(Some(ds(alloc, *tag, &[*algorithm, *kind], digest.as_slice())?)),
+        } => ds(alloc, *tag, &[*algorithm, *kind], digest.as_slice()),
         Element::Tls {
             usage,
             selector,
             matching,
             digest,
-        } => Ok(Some(digest_behind(alloc, &[*usage, *selector, *matching], digest.as_slice())?)),
+        } => digest_behind(alloc, &[*usage, *selector, *matching], digest.as_slice()),
         Element::Sshfp {
             algorithm,
             kind,
             digest,
-        } => Ok(Some(digest_behind(alloc, &[*algorithm, *kind], digest.as_slice())?)),
-        Element::Txt(strings) => Ok(Some(Bytes::copy_of(alloc, strings.as_slice())?)),
+        } => digest_behind(alloc, &[*algorithm, *kind], digest.as_slice()),
+        Element::Txt(strings) => copied(alloc, strings.as_slice()),
         Element::Srv {
             priority,
             weight,
@@ -141,6 +148,36 @@ fn keep(rdata: Option<Bytes>, found: &mut Vec<Bytes>) -> Result<(), NoMemory>
     Ok(())
 }
 
+/// Adds RDATA of an element that isn't skipped.
+fn add_one(
+    alloc: Global,
+    own: &Name,
+    top: &Name,
+    element: &Element,
+    found: &mut Vec<Bytes>,
+) -> Result<(), NoMemory>
+    ensures { OnOk result (found.new.items ≡ found.old.items ++ alone (rdata_of (host_name_of own.now top.now) element.now)) }
+{
+    let rdata = rdata(alloc, own, top, element)?;
+    keep(rdata, found)
+}
+
+/// Adds RDATA of each of the elements that isn't skipped.
+fn add_each(
+    alloc: Global,
+    own: &Name,
+    top: &Name,
+    elements: &[Element],
+    found: &mut Vec<Bytes>,
+) -> Result<(), NoMemory>
+    ensures { OnOk result (found.new.items ≡ found.old.items ++ flat_map (λ e. alone (rdata_of (host_name_of own.now top.now) e)) elements.now) }
+{
+    for element in elements {
+        add_one(alloc, own, top, element, found)?;
+    }
+    Ok(())
+}
+
 /// RDATA of each of the elements that isn't skipped.
 pub(crate) fn each(
     alloc: Global,
@@ -151,9 +188,6 @@ pub(crate) fn each(
     ensures { IfOk result (λ v. v.items ≡ flat_map (λ e. alone (rdata_of (host_name_of own.now top.now) e)) elements.now) }
 {
     let mut found = Vec::new(alloc);
-    for element in elements {
-        let rdata = rdata(alloc, own, top, element)?;
-        keep(rdata, &mut found)?;
-    }
+    add_each(alloc, own, top, elements, &mut found)?;
     Ok(found)
 }

@@ -57,8 +57,8 @@ fn node_below<N: Names>(
     requires left { left < length name.now.path.items }
     ensures { IfOk result (λ n. seen_node n ≡ record { own = own_of (seen_below name.now) (drop left name.now.path.items); top = above.now.top; of = child_of (N.served names.now) (map members above.now.of.held.items) (get_or name.now.path.items left []) }) }
 {
-    let of = child(alloc, names, &above.of, name.path[left].as_slice())?;
     let own = name.own_at(alloc, &above.top, left)?;
+    let of = child(alloc, names, &above.of, name.path[left].as_slice())?;
     Ok(Node {
         own,
         top: above.top.copy(),

@@ -47,7 +47,7 @@ use Rattle.chain_state.proofs.WorkedLemmas.{applied_back}
 use Rattle.chain_state.specs.Whole.{Finishes, Commits, maps_before_block}
 use Rattle.nmc_base.specs.Heights.{highest}
 use Rattle.nmc_base.proofs.ListLemmas.{all-weaker}
-use Rattle.chain_state.specs.Chain.{rule_refused, Indexed, IsIndexed, SameIndex, IsStagedIndex, index_of, staged_of, staged_undo, newest_first, newest_hash}
+use Rattle.chain_state.specs.Chain.{rule_refused, Indexed, IsIndexed, SameIndex, IsAtBase, IsStagedIndex, IsConnected, index_of, staged_of, staged_undo, newest_first, newest_hash}
 use Rattle.name_tables.specs.declared.tables.Tables.{Tables}
 use Rattle.chain_state.specs.declared.whole.Committed.{Committed}
 use Rattle.chain_state.specs.declared.whole.Whole.{Whole}
@@ -130,6 +130,16 @@ module _ (base : Base) (tip : Tip) (hash : Hash32) (whole : Whole) (undos : Room
           (subst (λ m. IsSound base.profile base.height (suc tip.height) m (staged_undo hash whole ∷ newest_first undos.items)) (sym commits.maps) staged.sound_after));
       measured = subst AreMeasured (sym commits.maps) staged.measured_after;
       writable = subst (AllByRecursion IsWritable) (sym undo_added) staged.writable;
+    }
+
+    pub connected : IsConnected (staged_of base tip hash whole undos) (index_of base (record { height = tip.height + 1; hash = hash }) c.tables more)
+    connected = record {
+      base = refl;
+      height = sym (next_is tip.height);
+      hash = refl;
+      maps = commits.maps;
+      queue = commits.queue;
+      undos = undo_added;
     }
 
   pub abandoned_index : (tables : Tables) → maps_by tables ≡ maps_before_block whole → queued_in tables.queue ≡ queue_of (coins_in tables.coins) → AreFilled tables
@@ -339,3 +349,15 @@ begun_index base c low coins names queue undos none = record {
 
 pub begun_maps : (base : Base) (c : Tables) → c.coins ≡ [] → c.names ≡ [] → maps_by c ≡ maps_of base.profile [] (suc base.height)
 begun_maps base c coins names = λ i. record { coins = coins_in (coins i); names = names_in (names i) }
+
+pub begun_at : (base : Base) (c : Tables) → base.height ≤ highest → c.coins ≡ [] → c.names ≡ [] → c.queue ≡ []
+    → (undos : Roomy Undo) → undos.items ≡ [] → IsAtBase base (index_of base (record { height = base.height; hash = base.hash }) c undos)
+begun_at base c low coins names queue undos none = record {
+  low = low;
+  base_is = refl;
+  height = refl;
+  hash = refl;
+  maps = begun_maps base c coins names;
+  queue = ap queued_in queue ∙ sym (ap (λ s. queue_of (coins_in s)) coins);
+  undos = ap newest_first none;
+}

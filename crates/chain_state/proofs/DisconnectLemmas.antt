@@ -1,5 +1,5 @@
 -- The newest block of a chain is disconnected.
-use Rattle.std.proofs.Common.{◌≡◌, ℕ, zero, suc, ◌+◌, ◌-◌, Bool, true, false, nat_lt, not, ◌&&◌, List, [], ◌∷◌, ◌++◌, map, length, refl, sym, ap, subst, ◌∙◌, arith}
+use Rattle.std.proofs.Common.{◌≡◌, ℕ, zero, suc, ◌+◌, ◌-◌, ◌*◌, ◌≤◌, Bool, true, false, nat_lt, not, ◌&&◌, List, [], ◌∷◌, ◌++◌, map, length, refl, sym, ap, subst, ◌∙◌, arith}
 use Rattle.std.specs.Str.{bytes_eq}
 use Rattle.std.proofs.lemmas.List.{length-map, length-reverse}
 use Rattle.std.proofs.lemmas.Bool.Decides.{nat_tests}
@@ -37,8 +37,8 @@ use Rattle.undo_records.specs.Writable.{IsWritable}
 use Rattle.chain_state.specs.Measure.{AreMeasured}
 use Rattle.chain_state.proofs.MeasureLemmas.{undone_measured}
 use Rattle.chain_state.specs.Back.{block_work, IsStagedBack}
-use Rattle.chain_state.specs.StageBack.{IsBackRefusal, IsDisconnected, back_commit_steps}
-use Rattle.chain_state.specs.declared.back.BackRefusal.TheVariants.{NotTip}
+use Rattle.chain_state.specs.StageBack.{IsBackRefusal, IsDisconnected, newest_work, back_commit_steps}
+use Rattle.chain_state.specs.declared.back.BackRefusal.TheVariants.{AtBase, NotTip}
 use Rattle.name_tables.specs.declared.tables.Tables.{Tables}
 use Rattle.name_tables.proofs.ListLemmas.{or_left, or_right, or_both}
 use Rattle.chain_state.proofs.ChainLemmas.{newest_more, returned_index}
@@ -80,6 +80,19 @@ newest_is undos undo ends = ap newest_first ends.is ∙ newest_more ends.front u
 
 pub newest_none : (undos : List Undo) → newest_first undos ≡ [] → length undos ≡ 0
 newest_none undos none = sym (length-map undos seen_undo) ∙ sym (length-reverse (map seen_undo undos)) ∙ ap length none
+
+-- ---- the base alone, and what staging costs
+
+pub at_the_base : (c : Indexed) (undos : List Undo) (hash : Hash32) → c.undos ≡ newest_first undos → length undos ≡ 0 → SameIndex c c × IsBackRefusal c hash AtBase
+at_the_base c [] hash undos_are none = (record { base = refl; tip = refl; maps = refl; queue = refl; undos = refl }, undos_are)
+at_the_base c (undo ∷ undos) hash undos_are none = absurd (omega (arith, none))
+
+pub back_cheap : (given undos : List UndoRecord) → undos ≡ given → (undo : UndoRecord) (below : List UndoRecord) → given ≡ undo ∷ below
+    → (before after : ℕ) → after ≤ before + 2 * length undo.ops + 2 * length undo.expired → after + back_commit_steps undos ≤ before + 12 * newest_work given + 8
+back_cheap given undos same undo below is before after cheap =
+    let commit : back_commit_steps undos ≡ 8 * length undo.ops + 2 * length undo.expired = ap back_commit_steps (same ∙ is) in
+    let work : newest_work given ≡ length undo.ops + length undo.expired = ap newest_work is in
+    omega (arith, commit, work, cheap)
 
 -- ---- a hash that isn't the tip's
 

@@ -5,16 +5,19 @@ use Rattle.block_grammar.specs.Fault.{IsFaultPlace}
 use Rattle.nmc_base.specs.Heights.{highest}
 use Rattle.nmc_base.specs.declared.limits.TheConstants.{LONGEST_BLOCK}
 use Rattle.chain_state.specs.Chain.{Indexed, SameIndex, StagedIndex, IsStagedOn, IsAbandoned}
-use Rattle.chain_state.specs.Stage.{IsRefusal}
+use Rattle.chain_state.specs.Stage.{IsRefusal, Stages}
 use Rattle.chain_state.specs.declared.stage.Refusal.{Refusal}
 use Rattle.chain_state.specs.declared.stage.Refusal.TheVariants.{BadBlock, NotOnTip, HeightLimit, MerkleMismatch, Rule, JournalFull}
+use Rattle.chain_state.specs.declared.stage.StageOutcome.{StageOutcome}
+use Rattle.chain_state.specs.declared.stage.StageOutcome.TheVariants.{Staged, Refused, NoMemory}
 use Rattle.chain_laws.specs.Standing.{hash_of, IsValidOn}
 use Rattle.chain_laws.specs.Refusals.{RefusesConnect}
 use Rattle.machine.specs.Chain.{Chain}
 use Rattle.machine.specs.Connecting.{IsValid, Refuses}
 use Rattle.chain_steps.specs.Standing.{StandsFor}
 use Rattle.chain_steps.specs.Views.{refusal_of}
-use Rattle.chain_steps.specs.Stages.{IsFullFor, IsStagedFor, IsRefusedFor, LacksMemoryFor}
+use Rattle.chain_steps.specs.Stages.{IsFullFor, IsStagedFor, IsRefusedFor, LacksMemoryFor, StagesFor}
+use Rattle.chain_steps.specs.GivenUp.{GivesUp}
 use Rattle.chain_steps.proofs.ChainTips.{chain_tip, index_tip, rule_of_bytes}
 use Rattle.chain_steps.proofs.ConnectRefusals.{IsOnTip, IsUnbroken, no_block_refused, off_tip_refused, too_high, memory_taken, root_refused, rule_broken, full_refused, is_valid}
 use Rattle.chain_laws.proofs.StandingLemmas.{same_stands, valid_next, connects, abandoned_same, own_queue}
@@ -109,3 +112,15 @@ module _ (g : Staging) where
         refuses = full_journal valid_on full;
         stands = abandoned_stands same abandoned;
       }
+
+    -- ---- each outcome, with room in the area and without
+
+    pub with_room : (outcome : StageOutcome) → Stages g.index k.block outcome → (IsFull → ⊥) → StagesFor g.area g.most g.chain g.bytes outcome
+    with_room (Staged s) on fits = staged_for s on fits
+    with_room (Refused same refusal) h fits = refused same refusal h.0 h.1
+    with_room (NoMemory same) h fits = lacking same h.0 h.1 h.2
+
+    pub without_room : (outcome result : StageOutcome) → Stages g.index k.block outcome → GivesUp outcome result → IsFull → StagesFor g.area g.most g.chain g.bytes result
+    without_room (Staged s) result on gone full = rw gone.is (full_for s on gone.same gone.abandoned full)
+    without_room (Refused same refusal) result h gone full = rw gone (refused same refusal h.0 h.1)
+    without_room (NoMemory same) result h gone full = rw gone (lacking same h.0 h.1 h.2)

@@ -1,5 +1,6 @@
 pub mod Views
 pub mod Standing
 pub mod Stages
+pub mod GivenUp
 pub mod StagesBack
 pub mod Costs

@@ -2,6 +2,7 @@ ghost use Rattle.std.specs.Prelude.{◌≤◌, ◌+◌, length};
 ghost use Rattle.nmc_base.specs.declared.limits.TheConstants.{LONGEST_BLOCK};
 ghost use Rattle.chain_state.specs.StageBack.{IsBackCheap};
 ghost use Rattle.chain_steps.specs.Stages.{StagesBytes, Fits};
+ghost use Rattle.chain_steps.specs.GivenUp.{GivesUp};
 ghost use Rattle.chain_steps.specs.StagesBack.{StagesHash, FitsBack};
 ghost use Rattle.chain_steps.specs.Costs.{IsCheapBlock};
 
@@ -36,20 +37,29 @@ pub fn stage_bytes<L: Ledger>(
     ensures fits { Fits area most (6 + length bytes.now) result }
     ensures cost { IsCheapBlock bytes.now result steps.old steps.new }
 {
-    let block = match read_block(bytes) {
-        Ok(block) => block,
-        Err(fault) => return StageOutcome::Refused(chain, Refusal::BadBlock { at: fault.at }),
-    };
     let is_full = most.saturating_sub(area) < CONNECT_RECORD + bytes.len() as u64;
-    match chain.stage(alloc, &block, steps) {
-        StageOutcome::Staged(staged) => {
+    match read_block(bytes) {
+        Ok(block) => {
+            let outcome = chain.stage(alloc, &block, steps);
             if is_full {
-                return StageOutcome::Refused(staged.abandon(steps), Refusal::JournalFull);
+                give_up(outcome, steps)
+            } else {
+                outcome
             }
-            StageOutcome::Staged(staged)
         }
-        StageOutcome::Refused(chain, refusal) => StageOutcome::Refused(chain, refusal),
-        StageOutcome::NoMemory(chain) => StageOutcome::NoMemory(chain),
+        Err(fault) => StageOutcome::Refused(chain, Refusal::BadBlock { at: fault.at }),
+    }
+}
+
+/// The outcome where the area has no room: what was staged is given up.
+fn give_up<L: Ledger>(outcome: StageOutcome, steps: &mut Steps<L>) -> StageOutcome
+    ensures { GivesUp outcome result }
+{
+    match outcome {
+        StageOutcome::Staged(staged) => {
+            StageOutcome::Refused(staged.abandon(steps), Refusal::JournalFull)
+        }
+        unstaged => unstaged,
     }
 }
 

@@ -19,7 +19,7 @@ pub enum KeptEffect {
 }
 
 /// What a call named that failed.
-#[derive(Clone, Copy, Debug)]
+#[derive(Clone, Copy)]
 pub enum FailedEffect {
     /// A read, a length or a sync: the file is as it was.
     FailedLook,

@@ -15,6 +15,3 @@ pub use choice::Choice;
 pub use disk::{Disk, Failed};
 pub use law::{OfFiles, images_after_a_sync, images_of_a_disk, images_of_moments};
 pub use memory::MemoryDisk;
-
-#[cfg(test)]
-mod tests;

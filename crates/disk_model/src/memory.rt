@@ -1,11 +1,12 @@
-ghost use Rattle.std.specs.Prelude.{◌≡◌, ◌⊎◌, ◌<◌, ◌≤◌, ◌∷◌, ◌&&◌, true, [], ℕ, nat_lt, length, take, map, slice_index_or, OnOk, OnErr, IfOk};
+ghost use Rattle.std.specs.Prelude.{◌≡◌, ◌⊎◌, ◌<◌, ◌≤◌, ◌∷◌, ◌&&◌, true, false, [], ℕ, nat_lt, length, take, map, slice_index_or, OnOk, OnErr, IfOk};
 ghost use Rattle.fault_counts.specs.Counts.{faults_of};
 ghost use Rattle.fault_counts.specs.Faults.{HasCause};
 ghost use Rattle.disk_model.specs.Moments.{IsImage};
 ghost use Rattle.disk_model.specs.Reads.{seen, IsRead};
 ghost use Rattle.disk_model.specs.DiskSeen.{bytes_in, Measures, ReadsAt, WritesAt, CutsTo, Syncs};
 ghost use Rattle.disk_model.specs.Calls.{call_on, after_call, looked, written, write_failed, cut_to, cut_failed, synced};
-ghost use Rattle.disk_model.specs.Kept.{failed_effect, EndsInRange};
+ghost use Rattle.disk_model.specs.Kept.{failed_effect, touched_in, EndsInRange};
+ghost use Rattle.disk_model.specs.Stored.{IsStored};
 ghost use Rattle.disk_model.specs.MemoryLog.{fresh_log, moments_of, memory_seen, files_at, synced_at, KeepsCall, KeptInList, KeptTogether};
 ghost use Rattle.disk_model.specs.Chosen.{IsChosen};
 
@@ -128,16 +129,7 @@ impl MemoryDisk {
         ensures { IfOk result (λ disk. disk ≡ fresh_log (zero.items ∷ (one.items ∷ (two.items ∷ []))) []) }
     {
         let counts = FaultCounts::new(alloc, &[])?;
-        let files = [
-            Vec::from_slice(alloc, &zero)?,
-            Vec::from_slice(alloc, &one)?,
-            Vec::from_slice(alloc, &two)?,
-        ];
-        let touched = [
-            TouchedFile::nothing(alloc, zero.len())?,
-            TouchedFile::nothing(alloc, one.len())?,
-            TouchedFile::nothing(alloc, two.len())?,
-        ];
+        let (files, touched) = stored_anew(alloc, &zero, &one, &two)?;
         Ok(MemoryDisk {
             alloc,
             first: [zero, one, two],
@@ -246,14 +238,6 @@ impl MemoryDisk {
     }
 }
 
-#[cfg(test)]
-impl MemoryDisk {
-    /// As if the list of calls had found no memory.
-    pub(crate) fn fill_list(&mut self) {
-        self.is_full = true;
-    }
-}
-
 impl Disk for MemoryDisk {
     ghost tells = { true };
 
@@ -308,6 +292,28 @@ impl Disk for MemoryDisk {
     {
         self.keep_sync(file)
     }
+}
+
+/// What is stored of three files of these bytes before any call: the bytes again, none of them touched.
+fn stored_anew(
+    alloc: Global,
+    zero: &[u8],
+    one: &[u8],
+    two: &[u8],
+) -> Result<([Vec<u8>; 3], [TouchedFile; 3]), NoMemory>
+    ensures { IfOk result (λ stored. IsStored (map (λ v. v.items) stored.0) (zero.now ∷ (one.now ∷ (two.now ∷ []))) [] false (touched_in stored.1)) }
+{
+    let files = [
+        Vec::from_slice(alloc, zero)?,
+        Vec::from_slice(alloc, one)?,
+        Vec::from_slice(alloc, two)?,
+    ];
+    let touched = [
+        TouchedFile::nothing(alloc, zero.len())?,
+        TouchedFile::nothing(alloc, one.len())?,
+        TouchedFile::nothing(alloc, two.len())?,
+    ];
+    Ok((files, touched))
 }
 
 /// Whether so many calls go past those in the list, and some are kept beside it.

@@ -13,4 +13,3 @@ pub mod Making
 pub mod MakingSteps
 pub mod Connecting
 pub mod Disconnecting
-pub mod Silence

@@ -1,5 +1,5 @@
 //! Following a command that was kept in the area.
-ghost use Rattle.std.specs.Prelude.{◌≡◌, ◌∷◌};
+ghost use Rattle.std.specs.Prelude.{◌≡◌, ◌∷◌, length, Err};
 ghost use Rattle.name_store.specs.Reading.{FollowsRecord};
 
 use chain_state::{BackOutcome, Chain, StageOutcome};
@@ -24,6 +24,13 @@ pub enum Unfollowed {
     NoMemory,
 }
 
+/// Lets go of the chain, in this one place: each such place is dear to prove.
+fn without_chain(_chain: Chain, why: Unfollowed) -> Result<Chain, Unfollowed>
+    ensures { result ≡ Err why }
+{
+    Err(why)
+}
+
 /// The chain with the block.
 fn follow_connect<L: Ledger>(
     alloc: Global,
@@ -34,13 +41,23 @@ fn follow_connect<L: Ledger>(
     ensures { FollowsRecord chain (1 ∷ block.now) result }
 {
     if block.len() > LONGEST_BLOCK {
-        return Err(Unfollowed::Refused);
+        return without_chain(chain, Unfollowed::Refused);
     }
     match stage_bytes(alloc, chain, block, 0, u64::MAX, steps) {
         StageOutcome::Staged(staged) => Ok(staged.commit(steps)),
-        StageOutcome::Refused(_, _) => Err(Unfollowed::Refused),
-        StageOutcome::NoMemory(_) => Err(Unfollowed::NoMemory),
+        StageOutcome::Refused(chain, _) => without_chain(chain, Unfollowed::Refused),
+        StageOutcome::NoMemory(chain) => without_chain(chain, Unfollowed::NoMemory),
     }
+}
+
+/// The hash of these 32 bytes.
+fn hash_of(bytes: &[u8]) -> Hash32
+    requires { length bytes.now ≡ 32 }
+    ensures { result.0 ≡ bytes.now }
+{
+    let mut hash = [0; 32];
+    hash.copy_from_slice(bytes);
+    Hash32(hash)
 }
 
 /// The chain without its newest block.
@@ -53,36 +70,34 @@ fn follow_disconnect<L: Ledger>(
     ensures { FollowsRecord chain (2 ∷ hash.now) result }
 {
     if hash.len() != 32 {
-        return Err(Unfollowed::Refused);
+        return without_chain(chain, Unfollowed::Refused);
     }
-    let mut bytes = [0; 32];
-    bytes.copy_from_slice(hash);
-    match stage_hash(alloc, chain, Hash32(bytes), 0, u64::MAX, steps) {
+    match stage_hash(alloc, chain, hash_of(hash), 0, u64::MAX, steps) {
         BackOutcome::StagedBack(staged) => Ok(staged.commit(steps)),
-        BackOutcome::Refused(_, _) => Err(Unfollowed::Refused),
-        BackOutcome::NoMemory(_) => Err(Unfollowed::NoMemory),
+        BackOutcome::Refused(chain, _) => without_chain(chain, Unfollowed::Refused),
+        BackOutcome::NoMemory(chain) => without_chain(chain, Unfollowed::NoMemory),
     }
 }
 
-/// The chain behind the command of this record.
+/// The chain behind the command of this record's bytes.
 pub fn follow<L: Ledger>(
     alloc: Global,
     chain: Chain,
-    record: &[u8],
+    bytes: &[u8],
     steps: &mut Steps<L>,
 ) -> Result<Chain, Unfollowed>
-    ensures { FollowsRecord chain record.now result }
+    ensures { FollowsRecord chain bytes.now result }
 {
-    match record.split_first() {
+    match bytes.split_first() {
         Some((head, body)) => {
             if *head == CONNECT {
                 follow_connect(alloc, chain, body, steps)
             } else if *head == DISCONNECT {
                 follow_disconnect(alloc, chain, body, steps)
             } else {
-                Err(Unfollowed::Refused)
+                without_chain(chain, Unfollowed::Refused)
             }
         }
-        None => Err(Unfollowed::Refused),
+        None => without_chain(chain, Unfollowed::Refused),
     }
 }

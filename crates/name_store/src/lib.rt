@@ -21,6 +21,3 @@ pub use faults::{CreateFault, OpenFault};
 pub use law::{one_damage, one_kind_of_files, one_run_state};
 pub use making::create;
 pub use store::{BackOutcome, Outcome, Store};
-
-#[cfg(test)]
-mod tests;

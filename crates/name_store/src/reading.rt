@@ -35,6 +35,9 @@ pub enum Stepped {
     All(Reading),
 }
 
+/// Lets go of what was read, in a place of its own: such a place is dear to prove.
+fn let_go(_reading: Reading) {}
+
 /// Follows the next command of the area.
 fn step<D: Disk, L: Ledger>(
     reading: Reading,
@@ -79,7 +82,14 @@ fn step<D: Disk, L: Ledger>(
                 Err(Unfollowed::NoMemory) => Err(OpenFault::NoMemory),
             }
         }
-        Err(fault) => Err(OpenFault::from(fault)),
+        Err(fault) => {
+            let_go(Reading {
+                journal,
+                chain,
+                held,
+            });
+            Err(OpenFault::from(fault))
+        }
     }
 }
 

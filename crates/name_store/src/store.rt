@@ -9,7 +9,7 @@ ghost use Rattle.name_store.specs.Disconnecting as disconnecting;
 
 use crate::keeping::{CONNECT, DISCONNECT, keep};
 use crate::limits::LONGEST_AREA;
-use chain_state::{BackRefusal, Chain, Refusal, StageOutcome};
+use chain_state::{BackRefusal, Chain, Refusal, StageOutcome, StagedBack, StagedChain};
 use chain_steps::{stage_bytes, stage_hash};
 use disk_model::Disk;
 use domain_text::Name;
@@ -58,6 +58,12 @@ pub enum BackOutcome {
     NoMemory(Store),
     Faulted,
 }
+
+/// Lets go of a staged block, in a place of its own: such a place is dear to prove.
+fn let_go(_staged: StagedChain) {}
+
+/// Lets go of a staged disconnect, likewise.
+fn let_go_back(_staged: StagedBack) {}
 
 impl Store {
     /// The store of these parts.
@@ -118,7 +124,10 @@ impl Store {
                 let tip = chain.tip();
                 Outcome::Done(Store { chain, host, area }, tip)
             }
-            Err(_) => Outcome::Faulted,
+            Err(_) => {
+                let_go(staged);
+                Outcome::Faulted
+            }
         }
     }
 
@@ -159,7 +168,10 @@ impl Store {
                 let tip = chain.tip();
                 BackOutcome::Done(Store { chain, host, area }, tip)
             }
-            Err(_) => BackOutcome::Faulted,
+            Err(_) => {
+                let_go_back(staged);
+                BackOutcome::Faulted
+            }
         }
     }
 }

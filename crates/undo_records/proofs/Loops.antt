@@ -1,13 +1,15 @@
 -- Values that are read one after the other.
-use Rattle.std.proofs.Common.{◌≡◌, ℕ, suc, ◌-◌, ◌<◌, ◌≤◌, List, [], ◌∷◌, ◌++◌, Option, Some, refl, sym, ap, ◌∙◌, append_assoc, append-nil, arith}
+use Rattle.std.proofs.Common.{◌≡◌, ℕ, suc, ◌-◌, ◌<◌, ◌≤◌, List, [], ◌∷◌, ◌++◌, Option, Some, refl, sym, ap, subst, ◌∙◌, append_assoc, append-nil, arith}
 use Rattle.std.specs.Prelude.{Result, Ok, Err}
 use Rattle.nmc_base.specs.declared.hashes.OutPoint.{OutPoint}
 use Rattle.block_grammar.specs.Combinators.{◌>>=◌, then_from, map_from, many_from}
+use Rattle.block_grammar.proofs.ReaderLaws.{ok_is, bind_ok, made_err}
+use Rattle.chain_names.specs.declared.coin.HeldCoin.{HeldCoin}
 use Rattle.undo_records.specs.declared.fault.FaultKind.{FaultKind}
 use Rattle.undo_records.specs.declared.fault.Stop.{Stop}
 use Rattle.undo_records.specs.declared.fault.Stop.TheVariants.{At, NoMemory}
 use Rattle.undo_records.specs.Reading.{Reads, held_from, coins_from}
-use Rattle.undo_records.specs.Fields.{Gives}
+use Rattle.undo_records.specs.Fields.{Gives, Grown, grown_by}
 
 abbrev pub Found : Type 0 → Type 0
 Found A = Result (A × List ℕ) (FaultKind × List ℕ)
@@ -71,6 +73,30 @@ one_more {A = A} read next all is xs count counter bytes x after whole lt e so_f
     behind_push xs x (next (count - suc counter) x after)
     ∙ sym (ap (λ (n : ℕ). behind xs (all n bytes)) (one_less count counter lt) ∙ ap (λ (r : Found (List A)). behind xs r) (is.more (count - suc counter) bytes ∙ ap (λ (r : Found A). with_rest r (next (count - suc counter))) (sym e)))
     ∙ so_far
+
+-- a value more was read, and stands behind those before it
+pub many_grown : {A : Type 0} (read : Reads A) (xs : List A) (count counter : ℕ) (bytes : List ℕ) (ys : List A) (after : List ℕ) (whole : Found (List A)) → counter < count
+    → Ok (ys, after) ≡ map_from (λ (x : A). xs ++ x ∷ []) read bytes → behind xs (many_from read (count - counter) bytes) ≡ whole
+    → behind ys (many_from read (count - suc counter) after) ≡ whole
+many_grown {A = A} read xs count counter bytes ys after whole lt e so_far =
+    let a = bind_ok (read bytes) (λ (x : A × List ℕ). Ok (xs ++ x.0 ∷ [], x.1)) (ys, after) (sym e) in
+    subst (λ (y : List A × List ℕ). behind y.0 (many_from read (count - suc counter) y.1) ≡ whole) (ok_is _ _ a.2)
+    (one_more read (λ n _. many_from read n) (many_from read) (many_is read) xs count counter bytes a.0.0 a.0.1 whole lt (sym a.1) so_far)
+
+-- a coin more was read, and stands behind those before it
+pub coins_grown : (last : Option OutPoint) (xs : List HeldCoin) (count counter : ℕ) (bytes : List ℕ) (ys : List HeldCoin) (at : OutPoint) (after : List ℕ) (whole : Found (List HeldCoin)) → counter < count
+    → Ok ((ys, at), after) ≡ map_from (grown_by xs) (held_from last) bytes → behind xs (coins_from last (count - counter) bytes) ≡ whole
+    → behind ys (coins_from (Some at) (count - suc counter) after) ≡ whole
+coins_grown last xs count counter bytes ys at after whole lt e so_far =
+    let a = bind_ok (held_from last bytes) (λ (x : HeldCoin × List ℕ). Ok (grown_by xs x.0, x.1)) ((ys, at), after) (sym e) in
+    subst (λ (y : Grown × List ℕ). behind y.0.0 (coins_from (Some y.0.1) (count - suc counter) y.1) ≡ whole) (ok_is _ _ a.2)
+    (one_more (held_from last) (λ n held. coins_from (Some held.at) n) (coins_from last) (coins_is last) xs count counter bytes a.0.0 a.0.1 whole lt (sym a.1) so_far)
+
+-- what isn't read has no changed value
+pub not_changed : {A B X Y : Type 0} (f : A → B) (r : Found A) (view : X → B × List ℕ) (view' : Y → A × List ℕ) (stop : Stop)
+    → Gives view (Err stop) (r >>= λ (x : A × List ℕ). Ok (f x.0, x.1)) → Gives view' (Err stop) r
+not_changed f r view view' NoMemory e = tt
+not_changed {A = A} f r view view' (At fault) e = sym (made_err r (λ (x : A × List ℕ). (f x.0, x.1)) (fault.kind, fault.rest.now) (sym e))
 
 -- the next value isn't read
 pub no_more : {A X Y : Type 0} (read : Reads A) (next : ℕ → A → Reads (List A)) (all : ℕ → Reads (List A)) → IsMany read next all

@@ -1,8 +1,10 @@
 -- What the readers of the code give, as the readers on lists give it.
-use Rattle.std.specs.Prelude.{◌≡◌, ℕ, List, Option, Some, None, Result, Ok, Err}
+use Rattle.std.specs.Prelude.{◌≡◌, ℕ, List, [], ◌∷◌, ◌++◌, Option, Some, None, Result, Ok, Err}
 use Rattle.chain_names.specs.declared.coin.Coin.{Coin}
 use Rattle.chain_names.specs.declared.coin.Coin.TheVariants.{New, Named}
+use Rattle.chain_names.specs.declared.coin.HeldCoin.{HeldCoin}
 use Rattle.chain_names.specs.declared.coin.Item.{Item}
+use Rattle.nmc_base.specs.declared.hashes.OutPoint.{OutPoint}
 use Rattle.chain_names.specs.declared.undo.UndoOp.{UndoOp}
 use Rattle.chain_names.specs.declared.undo.UndoOp.TheVariants.{New as op_new}
 use Rattle.undo_records.specs.declared.fault.FaultKind.{FaultKind}
@@ -14,9 +16,11 @@ use Rattle.undo_records.specs.declared.found.FoundCoin.TheVariants.{New as found
 use Rattle.undo_records.specs.declared.found.FoundItem.{FoundItem}
 use Rattle.undo_records.specs.declared.found.FoundChange.{FoundChange}
 use Rattle.undo_records.specs.declared.found.FoundOp.{FoundOp}
-use Rattle.undo_records.specs.declared.found.FoundOp.TheVariants.{New as found_made, First as found_first, Update as found_update}
+use Rattle.undo_records.specs.declared.found.FoundOp.TheVariants.{New as found_made, Change as found_change}
+use Rattle.undo_records.specs.declared.found.ChangeKind.{ChangeKind}
+use Rattle.undo_records.specs.declared.found.ChangeKind.TheVariants.{First as kind_first, Update as kind_update}
 use Rattle.undo_records.specs.Text.{Change, change_of}
-use Rattle.undo_records.specs.Reading.{first_of, update_of}
+use Rattle.undo_records.specs.Reading.{Reads, new_coin_from, named_coin_from, first_of, update_of}
 
 -- what was read, or the first fault
 abbrev pub seen : {X A : Type 0} → (X → A × List ℕ) → Result X Fault → Result (A × List ℕ) (FaultKind × List ℕ)
@@ -28,6 +32,14 @@ abbrev pub Gives : {X A : Type 0} → (X → A × List ℕ) → Result X Stop �
 Gives view (Ok x) read = Ok (view x) ≡ read
 Gives view (Err (At fault)) read = Err (fault.kind, fault.rest.now) ≡ read
 Gives view (Err NoMemory) read = Unit {0}
+
+-- ---- a list of coins with one more, and the outpoint of that one
+
+abbrev pub Grown : Type 0
+Grown = List HeldCoin × OutPoint
+
+abbrev pub grown_by : List HeldCoin → HeldCoin → Grown
+grown_by coins held = (coins ++ held ∷ [], held.at)
 
 -- ---- what was found in bytes, before it has memory of its own
 
@@ -45,7 +57,16 @@ seen_before (Some item) = Some (seen_item item)
 abbrev pub seen_change : FoundChange → Change
 seen_change c = change_of c.made c.spent (seen_coin c.coin) c.name.now (seen_before c.before)
 
+-- the operation that a change of this kind is
+abbrev pub op_of : ChangeKind → Change → UndoOp
+op_of kind_first change = first_of change
+op_of kind_update change = update_of change
+
+-- the coin that it spends
+abbrev pub spent_from : ChangeKind → Reads Coin
+spent_from kind_first = new_coin_from
+spent_from kind_update = named_coin_from
+
 abbrev pub seen_op : FoundOp → UndoOp
 seen_op (found_made made) = op_new made
-seen_op (found_first change) = first_of (seen_change change)
-seen_op (found_update change) = update_of (seen_change change)
+seen_op (found_change kind change) = op_of kind (seen_change change)

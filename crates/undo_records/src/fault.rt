@@ -22,7 +22,7 @@ pub enum UndoFault {
 }
 
 /// What is wrong at a place.
-#[derive(Clone, Copy, PartialEq, Eq, Debug)]
+#[derive(Clone, Copy)]
 pub(crate) enum FaultKind {
     Cut,
     BadTag,
@@ -30,7 +30,7 @@ pub(crate) enum FaultKind {
 }
 
 /// The first fault in bytes.
-#[derive(Clone, Copy, Debug)]
+#[derive(Clone, Copy)]
 pub(crate) struct Fault<'a> {
     pub(crate) kind: FaultKind,
     /// The bytes from the place of the fault on. There are none where the bytes end too early.
@@ -38,7 +38,7 @@ pub(crate) struct Fault<'a> {
 }
 
 /// Why reading stopped.
-#[derive(Clone, Copy, Debug)]
+#[derive(Clone, Copy)]
 pub(crate) enum Stop<'a> {
     At(Fault<'a>),
     NoMemory,

@@ -90,8 +90,7 @@ pub(crate) fn value_at<'a>(bytes: &'a [u8]) -> Result<(&'a [u8], &'a [u8]), Faul
     ensures { seen (λ x. (x.0.now, x.1.now)) result ≡ value_from bytes.now }
 {
     let (len, rest) = value_length_at(bytes)?;
-    let (value, rest) = piece_at(len as usize, rest)?;
-    Ok((value, rest))
+    piece_at(len as usize, rest)
 }
 
 #[tactic(auto, unfolding(crate::specs::Reading::point_from))]

@@ -24,9 +24,15 @@ pub(crate) struct FoundChange<'a> {
     pub(crate) before: Option<FoundItem<'a>>,
 }
 
+/// The operation that a change is, and so the kind of the coin that it spends.
+#[derive(Clone, Copy)]
+pub(crate) enum ChangeKind {
+    First,
+    Update,
+}
+
 #[derive(Clone, Copy)]
 pub(crate) enum FoundOp<'a> {
     New { made: OutPoint },
-    First(FoundChange<'a>),
-    Update(FoundChange<'a>),
+    Change(ChangeKind, FoundChange<'a>),
 }

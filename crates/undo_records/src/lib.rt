@@ -22,6 +22,3 @@ pub use parts::Parts;
 pub use reading::read;
 pub use undo::Undo;
 pub use writing::write;
-
-#[cfg(test)]
-mod tests;

@@ -1,9 +1,9 @@
 //! The readers of the lists of a record. They take memory item by item, so that a count alone costs none.
 
-ghost use Rattle.std.specs.Prelude.{◌≡◌};
-ghost use Rattle.block_grammar.specs.Combinators.{many_from};
+ghost use Rattle.std.specs.Prelude.{◌≡◌, ◌++◌, ◌∷◌, [], None};
+ghost use Rattle.block_grammar.specs.Combinators.{many_from, map_from, then_from};
 ghost use Rattle.undo_records.specs.Reading.{op_from, ops_from, is_after, later_point_from, held_from, coins_from, expired_from};
-ghost use Rattle.undo_records.specs.Fields.{seen, Gives};
+ghost use Rattle.undo_records.specs.Fields.{seen, Gives, Grown, grown_by};
 
 use crate::coins::named_coin_at;
 use crate::fault::{Fault, FaultKind, Stop};
@@ -15,44 +15,51 @@ use nmc_base::{OutPoint, RoomyList};
 use std::alloc::Global;
 use std::cmp::Ordering;
 
-/// The operation at the front.
-fn next_op<'a>(alloc: Global, bytes: &'a [u8]) -> Result<(UndoOp, &'a [u8]), Stop<'a>>
-    ensures { Gives (λ x. (x.0, x.1.now)) result (op_from bytes.now) }
+/// Adds the operation at the front to those before it, and answers the bytes behind it.
+fn next_op<'a>(
+    alloc: Global,
+    ops: &mut RoomyList<UndoOp>,
+    bytes: &'a [u8],
+) -> Result<&'a [u8], Stop<'a>>
+    ensures { Gives (λ rest. (ops.new.items, rest.now)) result (map_from (λ op. ops.old.items ++ op ∷ []) op_from bytes.now) }
 {
     let (found, rest) = op_at(bytes)?;
+    ops.reserve(1)?;
     let op = owned_op(alloc, found)?;
-    Ok((op, rest))
+    ops.push(op);
+    Ok(rest)
 }
 
 /// So many operations.
 fn many_ops<'a>(
     alloc: Global,
     count: u32,
+    ops: &mut RoomyList<UndoOp>,
     bytes: &'a [u8],
-) -> Result<(RoomyList<UndoOp>, &'a [u8]), Stop<'a>>
-    ensures { Gives (λ x. (x.0.items, x.1.now)) result (many_from op_from count bytes.now) }
+) -> Result<&'a [u8], Stop<'a>>
+    requires { ops.old.items ≡ [] }
+    ensures { Gives (λ rest. (ops.new.items, rest.now)) result (many_from op_from count bytes.now) }
 {
-    let mut ops = RoomyList::new(alloc);
     let mut rest = bytes;
     for _ in 0..count {
-        let (op, after) = next_op(alloc, rest)?;
-        ops.reserve(1)?;
-        ops.push(op);
+        let after = next_op(alloc, ops, rest)?;
         rest = after;
     }
-    Ok((ops, rest))
+    Ok(rest)
 }
 
 /// Operations behind their number.
 #[tactic(auto, unfolding(crate::specs::Reading::ops_from))]
-pub(crate) fn ops_at<'a>(
+fn ops_at<'a>(
     alloc: Global,
+    ops: &mut RoomyList<UndoOp>,
     bytes: &'a [u8],
-) -> Result<(RoomyList<UndoOp>, &'a [u8]), Stop<'a>>
-    ensures { Gives (λ x. (x.0.items, x.1.now)) result (ops_from bytes.now) }
+) -> Result<&'a [u8], Stop<'a>>
+    requires { ops.old.items ≡ [] }
+    ensures { Gives (λ rest. (ops.new.items, rest.now)) result (ops_from bytes.now) }
 {
     let (count, rest) = u32_at(bytes)?;
-    many_ops(alloc, count, rest)
+    many_ops(alloc, count, ops, rest)
 }
 
 /// Whether the outpoint is greater than the one before, if there is one.
@@ -87,50 +94,69 @@ fn later_point_at<'a>(
     })
 }
 
-/// The coin at the front.
+/// Adds the coin at the front to those before it, and answers its outpoint and the bytes behind it.
 #[tactic(auto, unfolding(crate::specs::Reading::held_from))]
 fn next_coin<'a>(
     alloc: Global,
     last: Option<OutPoint>,
+    coins: &mut RoomyList<HeldCoin>,
     bytes: &'a [u8],
-) -> Result<(HeldCoin, &'a [u8]), Stop<'a>>
-    ensures { Gives (λ x. (x.0, x.1.now)) result (held_from last bytes.now) }
+) -> Result<(OutPoint, &'a [u8]), Stop<'a>>
+    ensures { Gives {A = Grown} (λ x. ((coins.new.items, x.0), x.1.now)) result (map_from (grown_by coins.old.items) (held_from last) bytes.now) }
 {
     let (at, rest) = later_point_at(last, bytes)?;
     let (found, rest) = named_coin_at(rest)?;
+    coins.reserve(1)?;
     let coin = owned_coin(alloc, found)?;
-    Ok((HeldCoin { at, coin }, rest))
+    coins.push(HeldCoin { at, coin });
+    Ok((at, rest))
 }
 
 /// So many coins, each behind a greater outpoint than the one before.
 fn many_coins<'a>(
     alloc: Global,
     count: u32,
+    coins: &mut RoomyList<HeldCoin>,
     bytes: &'a [u8],
-) -> Result<(RoomyList<HeldCoin>, &'a [u8]), Stop<'a>>
-    ensures { Gives (λ x. (x.0.items, x.1.now)) result (coins_from None count bytes.now) }
+) -> Result<&'a [u8], Stop<'a>>
+    requires { coins.old.items ≡ [] }
+    ensures { Gives (λ rest. (coins.new.items, rest.now)) result (coins_from None count bytes.now) }
 {
-    let mut coins = RoomyList::new(alloc);
     let mut last = None;
     let mut rest = bytes;
     for _ in 0..count {
-        let (coin, after) = next_coin(alloc, last, rest)?;
-        last = Some(coin.at);
-        coins.reserve(1)?;
-        coins.push(coin);
+        let (at, after) = next_coin(alloc, last, coins, rest)?;
+        last = Some(at);
         rest = after;
     }
-    Ok((coins, rest))
+    Ok(rest)
 }
 
 /// Expired coins behind their number.
 #[tactic(auto, unfolding(crate::specs::Reading::expired_from))]
-pub(crate) fn expired_at<'a>(
+fn expired_at<'a>(
     alloc: Global,
+    coins: &mut RoomyList<HeldCoin>,
     bytes: &'a [u8],
-) -> Result<(RoomyList<HeldCoin>, &'a [u8]), Stop<'a>>
-    ensures { Gives (λ x. (x.0.items, x.1.now)) result (expired_from bytes.now) }
+) -> Result<&'a [u8], Stop<'a>>
+    requires { coins.old.items ≡ [] }
+    ensures { Gives (λ rest. (coins.new.items, rest.now)) result (expired_from bytes.now) }
 {
     let (count, rest) = u32_at(bytes)?;
-    many_coins(alloc, count, rest)
+    many_coins(alloc, count, coins, rest)
+}
+
+/// Both lists of a record, into empty ones.
+pub(crate) fn lists_at<'a>(
+    alloc: Global,
+    ops: &mut RoomyList<UndoOp>,
+    expired: &mut RoomyList<HeldCoin>,
+    bytes: &'a [u8],
+) -> Result<&'a [u8], Stop<'a>>
+    requires ops { ops.old.items ≡ [] }
+    requires expired { expired.old.items ≡ [] }
+    ensures { Gives (λ rest. ((ops.new.items, expired.new.items), rest.now)) result (then_from ops_from (λ _. expired_from) bytes.now) }
+{
+    let rest = ops_at(alloc, ops, bytes)?;
+    expired_at(alloc, expired, rest)
 }

@@ -1,13 +1,15 @@
 //! The readers of operations.
 
 ghost use Rattle.std.specs.Prelude.{◌≡◌};
-ghost use Rattle.undo_records.specs.Reading.{new_coin_from, named_coin_from, change_from, op_from};
-ghost use Rattle.undo_records.specs.Fields.{seen, seen_change, seen_op};
+ghost use Rattle.block_grammar.specs.Combinators.{map_from};
+ghost use Rattle.chain_names.specs.declared.undo.UndoOp.TheVariants.{New as op_new};
+ghost use Rattle.undo_records.specs.Reading.{point_from, change_from, op_from};
+ghost use Rattle.undo_records.specs.Fields.{seen, seen_coin, seen_op, op_of, spent_from};
 
 use crate::coins::{bad_tag, before_at, named_coin_at, new_coin_at};
 use crate::fault::{Fault, cut};
 use crate::fields::{name_at, point_at};
-use crate::found::{FoundChange, FoundOp};
+use crate::found::{ChangeKind, FoundChange, FoundCoin, FoundOp};
 
 /// The tag of a commitment (OP_NAME_NEW).
 pub(crate) const MADE: u8 = 0x51;
@@ -18,34 +20,27 @@ pub(crate) const FIRST: u8 = 0x52;
 /// The tag of an update (OP_NAME_UPDATE).
 pub(crate) const UPDATE: u8 = 0x53;
 
-/// A change that spends a commitment.
-#[tactic(auto, unfolding(crate::specs::Reading::change_from))]
-fn first_change_at<'a>(bytes: &'a [u8]) -> Result<(FoundChange<'a>, &'a [u8]), Fault<'a>>
-    ensures { seen (λ x. (seen_change x.0, x.1.now)) result ≡ change_from new_coin_from bytes.now }
+/// The coin that a change of this kind spends.
+fn spent_coin_at<'a>(
+    kind: ChangeKind,
+    bytes: &'a [u8],
+) -> Result<(FoundCoin<'a>, &'a [u8]), Fault<'a>>
+    ensures { seen (λ x. (seen_coin x.0, x.1.now)) result ≡ spent_from kind bytes.now }
 {
-    let (made, rest) = point_at(bytes)?;
-    let (spent, rest) = point_at(rest)?;
-    let (coin, rest) = new_coin_at(rest)?;
-    let (name, rest) = name_at(rest)?;
-    let (before, rest) = before_at(rest)?;
-    let change = FoundChange {
-        made,
-        spent,
-        coin,
-        name,
-        before,
-    };
-    Ok((change, rest))
+    match kind {
+        ChangeKind::First => new_coin_at(bytes),
+        ChangeKind::Update => named_coin_at(bytes),
+    }
 }
 
-/// A change that spends a name.
+/// A change of this kind, behind its tag.
 #[tactic(auto, unfolding(crate::specs::Reading::change_from))]
-fn update_change_at<'a>(bytes: &'a [u8]) -> Result<(FoundChange<'a>, &'a [u8]), Fault<'a>>
-    ensures { seen (λ x. (seen_change x.0, x.1.now)) result ≡ change_from named_coin_from bytes.now }
+fn change_at<'a>(kind: ChangeKind, bytes: &'a [u8]) -> Result<(FoundOp<'a>, &'a [u8]), Fault<'a>>
+    ensures { seen (λ x. (seen_op x.0, x.1.now)) result ≡ map_from (op_of kind) (change_from (spent_from kind)) bytes.now }
 {
     let (made, rest) = point_at(bytes)?;
     let (spent, rest) = point_at(rest)?;
-    let (coin, rest) = named_coin_at(rest)?;
+    let (coin, rest) = spent_coin_at(kind, rest)?;
     let (name, rest) = name_at(rest)?;
     let (before, rest) = before_at(rest)?;
     let change = FoundChange {
@@ -55,7 +50,15 @@ fn update_change_at<'a>(bytes: &'a [u8]) -> Result<(FoundChange<'a>, &'a [u8]), 
         name,
         before,
     };
-    Ok((change, rest))
+    Ok((FoundOp::Change(kind, change), rest))
+}
+
+/// A commitment that is made, behind its tag.
+fn made_at<'a>(bytes: &'a [u8]) -> Result<(FoundOp<'a>, &'a [u8]), Fault<'a>>
+    ensures { seen (λ x. (seen_op x.0, x.1.now)) result ≡ map_from (λ point. op_new point) point_from bytes.now }
+{
+    let (made, rest) = point_at(bytes)?;
+    Ok((FoundOp::New { made }, rest))
 }
 
 #[tactic(auto, unfolding(crate::specs::Reading::op_from))]
@@ -66,16 +69,13 @@ pub(crate) fn op_at<'a>(bytes: &'a [u8]) -> Result<(FoundOp<'a>, &'a [u8]), Faul
         return Err(cut());
     };
     if *tag == MADE {
-        let (made, rest) = point_at(rest)?;
-        return Ok((FoundOp::New { made }, rest));
+        return made_at(rest);
     }
     if *tag == FIRST {
-        let (change, rest) = first_change_at(rest)?;
-        return Ok((FoundOp::First(change), rest));
+        return change_at(ChangeKind::First, rest);
     }
     if *tag == UPDATE {
-        let (change, rest) = update_change_at(rest)?;
-        return Ok((FoundOp::Update(change), rest));
+        return change_at(ChangeKind::Update, rest);
     }
     Err(bad_tag(bytes))
 }

@@ -1,11 +1,12 @@
 //! What was found, with memory of its own.
 
 ghost use Rattle.std.specs.Prelude.{◌≡◌, IfOk};
-ghost use Rattle.undo_records.specs.Fields.{seen_coin, seen_item, seen_before, seen_op};
+ghost use Rattle.undo_records.specs.Text.{change_of};
+ghost use Rattle.undo_records.specs.Fields.{seen_coin, seen_item, seen_before, seen_change, seen_op, op_of};
 
-use crate::found::{FoundCoin, FoundItem, FoundOp};
+use crate::found::{ChangeKind, FoundChange, FoundCoin, FoundItem, FoundOp};
 use chain_names::{Coin, Item, UndoOp};
-use nmc_base::{Bytes, NoMemory};
+use nmc_base::{Bytes, NoMemory, OutPoint};
 use std::alloc::Global;
 
 pub(crate) fn owned_coin(alloc: Global, found: FoundCoin<'_>) -> Result<Coin, NoMemory>
@@ -43,34 +44,53 @@ fn owned_before(alloc: Global, found: Option<FoundItem<'_>>) -> Result<Option<It
     }
 }
 
+/// The operation that a change of this kind is.
+fn change_op(
+    kind: ChangeKind,
+    made: OutPoint,
+    spent: OutPoint,
+    coin: Coin,
+    name: Bytes,
+    before: Option<Item>,
+) -> UndoOp
+    ensures { result ≡ op_of kind (change_of made spent coin name before) }
+{
+    match kind {
+        ChangeKind::First => UndoOp::First {
+            made,
+            spent,
+            coin,
+            name,
+            before,
+        },
+        ChangeKind::Update => UndoOp::Update {
+            made,
+            spent,
+            coin,
+            name,
+            before,
+        },
+    }
+}
+
+fn owned_change(
+    alloc: Global,
+    kind: ChangeKind,
+    change: FoundChange<'_>,
+) -> Result<UndoOp, NoMemory>
+    ensures { IfOk result (λ op. op ≡ op_of kind (seen_change change.entry)) }
+{
+    let name = Bytes::copy_of(alloc, change.name)?;
+    let coin = owned_coin(alloc, change.coin)?;
+    let before = owned_before(alloc, change.before)?;
+    Ok(change_op(kind, change.made, change.spent, coin, name, before))
+}
+
 pub(crate) fn owned_op(alloc: Global, found: FoundOp<'_>) -> Result<UndoOp, NoMemory>
     ensures { IfOk result (λ op. op ≡ seen_op found.entry) }
 {
     match found {
         FoundOp::New { made } => Ok(UndoOp::New { made }),
-        FoundOp::First(change) => {
-            let coin = owned_coin(alloc, change.coin)?;
-            let name = Bytes::copy_of(alloc, change.name)?;
-            let before = owned_before(alloc, change.before)?;
-            Ok(UndoOp::First {
-                made: change.made,
-                spent: change.spent,
-                coin,
-                name,
-                before,
-            })
-        }
-        FoundOp::Update(change) => {
-            let coin = owned_coin(alloc, change.coin)?;
-            let name = Bytes::copy_of(alloc, change.name)?;
-            let before = owned_before(alloc, change.before)?;
-            Ok(UndoOp::Update {
-                made: change.made,
-                spent: change.spent,
-                coin,
-                name,
-                before,
-            })
-        }
+        FoundOp::Change(kind, change) => owned_change(alloc, kind, change),
     }
 }

@@ -10,9 +10,9 @@ ghost use Rattle.undo_records.specs.Answers.{placed_fault, GivesUndo, IsCausedBy
 
 use crate::fault::{FaultKind, Stop, UndoFault};
 use crate::fields::hash_at;
-use crate::lists::{expired_at, ops_at};
+use crate::lists::lists_at;
 use crate::undo::Undo;
-use nmc_base::Hash32;
+use nmc_base::{Hash32, RoomyList};
 use std::alloc::Global;
 
 /// The record at the front, and the bytes after it.
@@ -21,8 +21,9 @@ fn undo_at<'a>(alloc: Global, bytes: &'a [u8]) -> Result<(Undo, &'a [u8]), Stop<
     ensures { Gives (λ x. (seen_undo x.0, x.1.now)) result (undo_from bytes.now) }
 {
     let (block, rest) = hash_at(bytes)?;
-    let (ops, rest) = ops_at(alloc, rest)?;
-    let (expired, rest) = expired_at(alloc, rest)?;
+    let mut ops = RoomyList::new(alloc);
+    let mut expired = RoomyList::new(alloc);
+    let rest = lists_at(alloc, &mut ops, &mut expired, rest)?;
     let undo = Undo {
         block: Hash32(block),
         ops,

@@ -1,6 +1,6 @@
 //! The writers of the parts of a record. Where memory runs out, half a text may stand at the list's end.
 
-ghost use Rattle.std.specs.Prelude.{◌≡◌, ◌++◌, ◌<◌, ◌≤◌, ◌^◌, length, OnOk};
+ghost use Rattle.std.specs.Prelude.{◌≡◌, ◌++◌, ◌<◌, ◌≤◌, ◌^◌, ◌∷◌, length, OnOk};
 ghost use Rattle.std.specs.List.{flat_map, AllByRecursion};
 ghost use Rattle.std.specs.Int.{w16, w32, to_le_bytes};
 ghost use Rattle.nmc_base.specs.declared.limits.TheConstants.{LONGEST_VALUE};
@@ -90,10 +90,11 @@ fn add_before(out: &mut Bytes, before: &Option<Item>) -> Result<(), NoMemory>
     }
 }
 
-/// What stands behind the tag of a first change or of an update.
+/// A first change or an update, behind its tag.
 #[tactic(auto, unfolding(crate::specs::Text::change_text))]
 fn add_change(
     out: &mut Bytes,
+    tag: u8,
     made: &OutPoint,
     spent: &OutPoint,
     coin: &Coin,
@@ -103,8 +104,9 @@ fn add_change(
     requires coin { HasShortName coin.now }
     requires name { FitsName name.now }
     requires before { FitsBefore before.now }
-    ensures { OnOk result (out.new ≡ out.old ++ change_text (change_of made.now spent.now coin.now name.now before.now)) }
+    ensures { OnOk result (out.new ≡ out.old ++ tag ∷ change_text (change_of made.now spent.now coin.now name.now before.now)) }
 {
+    out.extend(&[tag])?;
     add_point(out, made)?;
     add_point(out, spent)?;
     add_coin(out, coin)?;
@@ -128,20 +130,14 @@ fn add_op(out: &mut Bytes, op: &UndoOp) -> Result<(), NoMemory>
             coin,
             name,
             before,
-        } => {
-            out.extend(&[FIRST])?;
-            add_change(out, made, spent, coin, name, before)
-        }
+        } => add_change(out, FIRST, made, spent, coin, name, before),
         UndoOp::Update {
             made,
             spent,
             coin,
             name,
             before,
-        } => {
-            out.extend(&[UPDATE])?;
-            add_change(out, made, spent, coin, name, before)
-        }
+        } => add_change(out, UPDATE, made, spent, coin, name, before),
     }
 }
 

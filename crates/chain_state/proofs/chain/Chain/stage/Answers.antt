@@ -24,3 +24,18 @@ returns-clause-stages g c =
     ∙ ap (λ (h : Hash32). h.0) (is_the_tip c.root.result c.in-Ok.found.1 (sym c.if-ne-2.false ∙ c.ne-2.ensures))
     ∙ c.in-Ok.ensures.root_is in
     stages c.args.self block c.stage_names.result on low root c.stage_names.ensures.names
+
+pub returns-then-ne-clause-cost : goal.returns-then-ne-clause-cost
+returns-then-ne-clause-cost g c = tt
+
+pub returns-then-self-ge-HIGHEST_HEIGHT-clause-cost : goal.returns-then-self-ge-HIGHEST_HEIGHT-clause-cost
+returns-then-self-ge-HIGHEST_HEIGHT-clause-cost g c = tt
+
+pub returns-in-Err-clause-cost : goal.returns-in-Err-clause-cost
+returns-in-Err-clause-cost g c = tt
+
+pub returns-then-ne-2-clause-cost : goal.returns-then-ne-2-clause-cost
+returns-then-ne-2-clause-cost g c = tt
+
+pub returns-clause-cost : goal.returns-clause-cost
+returns-clause-cost g c = c.stage_names.ensures.cost

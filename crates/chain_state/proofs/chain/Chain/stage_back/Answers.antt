@@ -1,12 +1,13 @@
-use Rattle.std.proofs.Common.{◌≡◌, ◌≢◌, ◌-◌, List, [], length, refl, sym, ap, subst, ◌∙◌}
+use Rattle.std.proofs.Common.{◌≡◌, ◌≢◌, ◌-◌, ◌+◌, ◌*◌, ◌≤◌, List, [], length, refl, sym, ap, subst, ◌∙◌, arith}
 use Rattle.std.specs.Prelude.{Some, slice_get}
 use Rattle.nmc_base.specs.Roomy.{Roomy}
 use Rattle.undo_records.specs.declared.undo.Undo.{Undo}
 use Rattle.undo_records.specs.Seen.{seen_undo}
 use Rattle.chain_state.specs.Chain.{Indexed, SameIndex, indexed_of, index_of, newest_first}
-use Rattle.chain_state.specs.StageBack.{IsBackRefusal, IsStagedBackOn}
-use Rattle.chain_state.specs.declared.back.BackRefusal.TheVariants.{NotTip}
-use Rattle.chain_state.proofs.DisconnectLemmas.{EndsIn, ends_in, newest_is, not_the_tip, staged_back, stage_again, same_again, newest_none, is_the_tip, room_for}
+use Rattle.name_tables.specs.Tables.{AreFilled}
+use Rattle.chain_state.specs.StageBack.{IsBackRefusal, IsStagedBackOn, back_commit_steps, newest_work}
+use Rattle.chain_state.specs.declared.back.BackRefusal.TheVariants.{AtBase, NotTip}
+use Rattle.chain_state.proofs.DisconnectLemmas.{EndsIn, ends_in, none_last, newest_is, at_the_base, back_cheap, not_the_tip, staged_back, stage_again, same_again, newest_none, is_the_tip, room_for}
 use Rattle.chain_state.proofs.chain.Chain.stage_back.Goals as goal
 
 pub returns-then-ne-clause-stages : goal.returns-then-ne-clause-stages
@@ -62,3 +63,39 @@ returns-in-Ok-clause-stages g c =
       hash_is = is_the_tip c.args.hash s.tip.hash c.if-ne.ensures;
       same = same_again whole c.split-tables.result.0 from c.make_room.new.self undos (ap (λ (l : Roomy Undo). newest_first l.items) c.split-tables.ensures.undos) c.in-Ok.ensures.ok.same;
     })
+
+pub returns-then-len-eq0-clause-stages : goal.returns-then-len-eq0-clause-stages
+returns-then-len-eq0-clause-stages g c =
+    let s = c.self.inside in
+    subst (λ (x : Indexed). SameIndex x x × IsBackRefusal x c.args.hash AtBase) c.self.view_is
+    (at_the_base (indexed_of s.base s.tip s.parts) s.parts.undos.items c.args.hash refl (sym c.len.ensures ∙ c.if-len-eq0.true))
+
+pub unreachable-requires : goal.unreachable-requires
+unreachable-requires g c =
+    c.if-len-eq0.false (c.len.ensures ∙ ap (λ (l : Roomy Undo). length l.items) (sym c.split-tables.ensures.undos)
+    ∙ ap length (sym c.as_slice.ensures ∙ none_last c.as_slice.result.now (sym c.in_default.ensures.value)))
+
+pub make_room-requires : goal.make_room-requires
+make_room-requires g c = record { filled = subst AreFilled (sym c.split-tables.ensures.tables) c.self.invariant.filled }
+
+pub returns-then-len-eq0-clause-cost : goal.returns-then-len-eq0-clause-cost
+returns-then-len-eq0-clause-cost g c = tt
+
+pub returns-then-ne-clause-cost : goal.returns-then-ne-clause-cost
+returns-then-ne-clause-cost g c = tt
+
+pub returns-in-Err-clause-cost : goal.returns-in-Err-clause-cost
+returns-in-Err-clause-cost g c = tt
+
+pub returns-in-Ok-clause-cost : goal.returns-in-Ok-clause-cost
+returns-in-Ok-clause-cost g c =
+    let s = c.self.inside in
+    let undo = c.in-Some.undo.now in
+    let undos = c.split-tables.result.1 in
+    let ends : EndsIn undos.items undo = ends_in undos.items undo (subst (λ (l : List Undo). slice_get l (length l - 1) ≡ Some undo) c.as_slice.ensures (sym c.in-Some.ensures.value)) in
+    let same : newest_first undos.items ≡ newest_first s.parts.undos.items = ap (λ (l : Roomy Undo). newest_first l.items) c.split-tables.ensures.undos in
+    let ops : length c.as_slice-2.result.now ≡ length undo.ops.items = ap length c.as_slice-2.ensures in
+    let expired : length c.as_slice-3.result.now ≡ length undo.expired.items = ap length c.as_slice-3.ensures in
+    subst (λ (x : Indexed). c.make_room.new.steps + back_commit_steps (newest_first undos.items) ≤ c.args.steps.now + 12 * newest_work x.undos + 8) c.self.view_is
+    (back_cheap (newest_first s.parts.undos.items) (newest_first undos.items) same (seen_undo undo) (newest_first ends.front) (sym same ∙ newest_is undos.items undo ends)
+    c.args.steps.now c.make_room.new.steps (omega (arith, ops, expired, c.in-Ok.ensures.cost)))

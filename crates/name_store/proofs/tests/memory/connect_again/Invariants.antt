@@ -1,4 +1,0 @@
-use Rattle.name_store.proofs.tests.memory.connect_again.Given as goal
-
-abbrev pub ghosts-connect_twice : goal.ghosts-connect_twice
-ghosts-connect_twice g a = record { name = a.blank.name; parts = a.blank.parts }

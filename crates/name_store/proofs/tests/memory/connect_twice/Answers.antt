@@ -1,5 +1,0 @@
-use Rattle.name_store.proofs.tests.memory.connect_twice.Goals as goal
-
--- the store that is handed back is still on the disk
-pub connect-outcome-requires-clause-on_disk : goal.connect-outcome-requires-clause-on_disk
-connect-outcome-requires-clause-on_disk g c = λ told. (c.in-NoMemory.ensures.kept told c.requires.stands.0 c.requires.stands.1).still_on

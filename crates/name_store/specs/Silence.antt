@@ -1,5 +1,0 @@
--- A disk that tells nothing of its files: of it everything is said.
-use Rattle.std.specs.Prelude.{IsTrue, false}
-
-pub no_telling : {P : Type 0} → IsTrue false → P
-no_telling told = cc

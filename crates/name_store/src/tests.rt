@@ -1,9 +1,0 @@
-mod bytes;
-mod failures;
-mod far;
-mod files;
-mod first_block;
-mod life;
-mod making;
-mod memory;
-mod stops;
