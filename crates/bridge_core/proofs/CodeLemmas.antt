@@ -4,14 +4,13 @@ use Rattle.feed_frames.specs.Replies.{Reply}
 use Rattle.chain_names.specs.declared.refusal.RuleRefusal.{RuleRefusal}
 use Rattle.chain_names.specs.declared.refusal.RuleRefusal.TheVariants.{MultipleNameInputs, MultipleNameOutputs, PlainWithNameInput, PlainWithNameOutput, NameWithoutOutput, Greedy, NewWithNameInput, NewWrongSize, UpdateWithoutInput, NameTooLong, ValueTooLong, UpdateOfNew, NameMismatch, FirstNotFromNew, Immature, RandTooLong, CommitMismatch, NameTaken, DuplicateOutpoint}
 use Rattle.chain_names.specs.Refusals.{number_of}
-use Rattle.machine.specs.Chain.{Chain}
 use Rattle.machine.specs.Connecting.{Refusal, BadBlock, NotOnTip, HeightLimit, MerkleMismatch, Rule, JournalFull, refusal_reply}
 use Rattle.machine.specs.Disconnecting as back
 use Rattle.machine.specs.Disconnecting.{BackRefusal, AtBase, NotTip, back_reply}
-use Rattle.machine.specs.Reply.{accepted_reply, no_memory_reply}
+use Rattle.machine.specs.Reply.{no_memory_reply}
 use Rattle.machine.proofs.CommandLemmas.{coded, coded_back}
 use Rattle.machine.proofs.RefusalLemmas.{code_of}
-use Rattle.bridge_core.specs.Bridge.{fault_code, fault_reply}
+use Rattle.bridge_core.specs.Bridge.{fault_code}
 
 -- a rule's number
 numbered : (r : RuleRefusal) → number_of r ≤ 28
@@ -66,15 +65,3 @@ module _ (reply : Reply) where
 
   pub lacking_not_done : reply ≡ no_memory_reply → reply.code ≡ 0 → ⊥
   lacking_not_done e done = let same = code_of reply no_memory_reply e in omega arith
-
-  pub lacking_no_fault : reply ≡ no_memory_reply → reply.code ≡ fault_code → ⊥
-  lacking_no_fault e is = let same = code_of reply no_memory_reply e in omega arith
-
-  pub accepted_code : (chain : Chain) → reply ≡ accepted_reply chain → reply.code ≡ 0
-  accepted_code chain e = code_of reply (accepted_reply chain) e
-
-  pub fault_not_done : reply ≡ fault_reply → reply.code ≡ 0 → ⊥
-  fault_not_done e done = let same = code_of reply fault_reply e in omega arith
-
-  pub fault_is : reply ≡ fault_reply → reply.code ≡ fault_code
-  fault_is e = code_of reply fault_reply e

@@ -1,6 +1,5 @@
 -- What files stand for where a store is on them.
-use Rattle.std.proofs.Common.{◌≡◌, inl, inr, Bool}
-use Rattle.std.specs.Prelude.{IsTrue}
+use Rattle.std.proofs.Common.{◌≡◌, inl, inr, true, refl}
 use Rattle.disk_model.specs.Moments.{EachMoment}
 use Rattle.disk_model.specs.DiskSeen.{DiskSeen, bytes_in}
 use Rattle.disk_model.proofs.MomentLemmas.{last_moment}
@@ -12,9 +11,12 @@ use Rattle.name_store.specs.Stored.{Stored, IsOn}
 use Rattle.name_store.proofs.StoreLemmas.{stands_still}
 use Rattle.bridge_core.specs.Bridge.{AreFilesOf, OutlivesCrashes, accepted_by, fault_code}
 
-module _ (tells : Bool) (told : IsTrue tells) (store : Stored) (seen : DiskSeen) (on : IsOn store seen.moments.now) (run : RunState) (stands : Stands (bytes_in seen) run) where
+module _ (store : Stored) (seen : DiskSeen) (on : IsOn store seen.moments.now) (run : RunState) (stands : Stands (bytes_in seen) run) where
+  pub moments_of : EachMoment (EachStandsForEither run run) seen.moments seen.moments
+  moments_of = stands_still true refl store seen seen on run run stands
+
   pub each_of : EachStands seen.moments.now run
-  each_of image is = elim (last_moment (stands_still tells told store seen seen on run run stands) image is) [ inl s ↦ s | inr s ↦ s ]
+  each_of = λ image is. elim (last_moment moments_of image is) [ inl s ↦ s | inr s ↦ s ]
 
   pub files_of : AreFilesOf run seen.moments.now
   files_of = record { read = stands; each = each_of }
@@ -27,7 +29,3 @@ module _ (run : RunState) (event : Event) (before after : DiskSeen) (reply : Rep
   -- it was not, and no fault came
   pub crashes_undone : (reply.code ≡ 0 → ⊥) → AreFilesOf run after.moments.now → OutlivesCrashes run event before after reply
   crashes_undone not_done files = record { any_moment = moments; done = λ is. absurd (not_done is); undone = λ other no_fault. files }
-
-  -- a fault came
-  pub crashes_fault : (reply.code ≡ 0 → ⊥) → reply.code ≡ fault_code → OutlivesCrashes run event before after reply
-  crashes_fault not_done fault = record { any_moment = moments; done = λ is. absurd (not_done is); undone = λ other no_fault. absurd (no_fault fault) }

@@ -1,96 +1,49 @@
 -- What a turn leaves on a disk that tells its files, by what came of the command in its store.
-use Rattle.std.proofs.Common.{◌≡◌, ℕ, Bool, List, sym, subst}
-use Rattle.std.specs.Prelude.{IsTrue}
+use Rattle.std.proofs.Common.{◌≡◌, ℕ, List, sym, subst}
+use Rattle.disk_model.specs.Moments.{EachMoment}
 use Rattle.disk_model.specs.DiskSeen.{DiskSeen, bytes_in}
 use Rattle.feed_frames.specs.Replies.{Reply}
-use Rattle.chain_state.specs.declared.stage.Refusal.{Refusal}
-use Rattle.chain_state.specs.declared.back.BackRefusal.{BackRefusal}
-use Rattle.nmc_base.specs.declared.chain_ends.Tip.{Tip}
-use Rattle.machine.specs.Event.{Connect, Disconnect, Do, Ask}
+use Rattle.machine.specs.Event.{Command, Do, Ask}
 use Rattle.machine.specs.RunState.{RunState, accepted}
-use Rattle.name_store.specs.Stands.{Stands}
+use Rattle.name_store.specs.Stands.{Stands, EachStandsForEither}
 use Rattle.name_store.specs.Stored.{Stored, IsOn}
-use Rattle.name_store.proofs.StoreLemmas.{stands_still}
-use Rattle.name_store.specs.Connecting.{ConnectsOn}
-use Rattle.name_store.specs.Disconnecting.{DisconnectsOn}
-use Rattle.name_store.specs.declared.store.Outcome.TheVariants as outcome
-use Rattle.name_store.specs.declared.store.BackOutcome.TheVariants as back
-use Rattle.bridge_core.specs.Bridge.{KeepsOn, fault_reply}
-use Rattle.bridge_core.specs.declared.bridge.Turned.TheVariants.{On, Ended}
-use Rattle.bridge_core.proofs.CodeLemmas.{fault_not_done, fault_is}
-use Rattle.bridge_core.proofs.FileLemmas.{files_of, crashes_done, crashes_undone, crashes_fault}
+use Rattle.bridge_core.specs.Bridge.{KeepsOn}
+use Rattle.bridge_core.specs.declared.bridge.Turned.TheVariants.{On}
+use Rattle.bridge_core.proofs.FileLemmas.{moments_of, files_of, crashes_done, crashes_undone}
 
-stands_again : (run : RunState) {before after : DiskSeen} → after ≡ before → Stands (bytes_in before) run → Stands (bytes_in after) run
-stands_again run same stands = subst (λ (d : DiskSeen). Stands (bytes_in d) run) (sym same) stands
+-- the command was kept: the files stand for the run state with it
+pub record Kept (run : RunState) (command_is : Command) (before after : DiskSeen) (store : Stored) : Type 0 where
+  pub still_on : IsOn store after.moments.now
+  pub done : Stands (bytes_in before) run → Stands (bytes_in after) (accepted run command_is)
+  pub any_moment : Stands (bytes_in before) run → EachMoment (EachStandsForEither run (accepted run command_is)) before.moments after.moments
 
-module _ {tells : Bool} (told : IsTrue tells) (run : RunState) {before after : DiskSeen} {store : Stored} {reply : Reply} where
-  -- ---- a connect
+-- it wasn't, and the disk wasn't asked
+pub record NotKept (run : RunState) (command_is : Command) (before after : DiskSeen) (store : Stored) : Type 0 where
+  pub still_on : IsOn store after.moments.now
+  pub same : after ≡ before
+  pub any_moment : Stands (bytes_in before) run → EachMoment (EachStandsForEither run (accepted run command_is)) before.moments after.moments
 
-  pub connect_kept : (bytes : List ℕ) {tip : Tip} → ConnectsOn run bytes before after (outcome.Done store tip) → reply.code ≡ 0 → KeepsOn run (Do (Connect bytes)) before after reply (On store)
-  connect_kept bytes on done = record {
-    still_on = on.still_on;
-    crashes = λ stands. crashes_done run (Do (Connect bytes)) before after reply (on.any_moment stands) done (files_of tells told store after on.still_on (accepted run (Connect bytes)) (on.done stands));
+module _ (run : RunState) (command_is : Command) {before after : DiskSeen} {store : Stored} {reply : Reply} where
+  pub command_kept : Kept run command_is before after store → reply.code ≡ 0 → KeepsOn run (Do command_is) before after reply (On store)
+  command_kept k done = record {
+    still_on = k.still_on;
+    crashes = λ stands. crashes_done run (Do command_is) before after reply (k.any_moment stands) done (files_of store after k.still_on (accepted run command_is) (k.done stands));
   }
 
-  pub connect_not_kept : (bytes : List ℕ) {refusal : Refusal} → ConnectsOn run bytes before after (outcome.Refused store refusal) → after ≡ before → (reply.code ≡ 0 → ⊥)
-      → KeepsOn run (Do (Connect bytes)) before after reply (On store)
-  connect_not_kept bytes on same undone = record {
-    still_on = on.still_on;
-    crashes = λ stands. crashes_undone run (Do (Connect bytes)) before after reply (on.any_moment stands) undone (files_of tells told store after on.still_on run (stands_again run same stands));
+  pub command_not_kept : NotKept run command_is before after store → (reply.code ≡ 0 → ⊥) → KeepsOn run (Do command_is) before after reply (On store)
+  command_not_kept k undone = record {
+    still_on = k.still_on;
+    crashes = λ stands. crashes_undone run (Do command_is) before after reply (k.any_moment stands) undone
+        (files_of store after k.still_on run (subst (λ (d : DiskSeen). Stands (bytes_in d) run) (sym k.same) stands));
   }
 
-  pub connect_no_memory : (bytes : List ℕ) → ConnectsOn run bytes before after (outcome.NoMemory store) → after ≡ before → (reply.code ≡ 0 → ⊥) → KeepsOn run (Do (Connect bytes)) before after reply (On store)
-  connect_no_memory bytes on same undone = record {
-    still_on = on.still_on;
-    crashes = λ stands. crashes_undone run (Do (Connect bytes)) before after reply (on.any_moment stands) undone (files_of tells told store after on.still_on run (stands_again run same stands));
-  }
-
-  -- ---- a disconnect
-
-  pub disconnect_kept : (hash : List ℕ) {tip : Tip} → DisconnectsOn run hash before after (back.Done store tip) → reply.code ≡ 0 → KeepsOn run (Do (Disconnect hash)) before after reply (On store)
-  disconnect_kept hash on done = record {
-    still_on = on.still_on;
-    crashes = λ stands. crashes_done run (Do (Disconnect hash)) before after reply (on.any_moment stands) done (files_of tells told store after on.still_on (accepted run (Disconnect hash)) (on.done stands));
-  }
-
-  pub disconnect_not_kept : (hash : List ℕ) {refusal : BackRefusal} → DisconnectsOn run hash before after (back.Refused store refusal) → after ≡ before → (reply.code ≡ 0 → ⊥)
-      → KeepsOn run (Do (Disconnect hash)) before after reply (On store)
-  disconnect_not_kept hash on same undone = record {
-    still_on = on.still_on;
-    crashes = λ stands. crashes_undone run (Do (Disconnect hash)) before after reply (on.any_moment stands) undone (files_of tells told store after on.still_on run (stands_again run same stands));
-  }
-
-  pub disconnect_no_memory : (hash : List ℕ) → DisconnectsOn run hash before after (back.NoMemory store) → after ≡ before → (reply.code ≡ 0 → ⊥) → KeepsOn run (Do (Disconnect hash)) before after reply (On store)
-  disconnect_no_memory hash on same undone = record {
-    still_on = on.still_on;
-    crashes = λ stands. crashes_undone run (Do (Disconnect hash)) before after reply (on.any_moment stands) undone (files_of tells told store after on.still_on run (stands_again run same stands));
-  }
-
--- ---- a fault of the disk
-
-module _ (run : RunState) (before after : DiskSeen) (reply : Reply) (told : reply ≡ fault_reply) where
-  pub connect_fault : (bytes : List ℕ) → ConnectsOn run bytes before after outcome.Faulted → KeepsOn run (Do (Connect bytes)) before after reply Ended
-  connect_fault bytes on = record {
-    still_on = tt;
-    crashes = λ stands. crashes_fault run (Do (Connect bytes)) before after reply (on.any_moment stands) (fault_not_done reply told) (fault_is reply told);
-  }
-
-  pub disconnect_fault : (hash : List ℕ) → DisconnectsOn run hash before after back.Faulted → KeepsOn run (Do (Disconnect hash)) before after reply Ended
-  disconnect_fault hash on = record {
-    still_on = tt;
-    crashes = λ stands. crashes_fault run (Do (Disconnect hash)) before after reply (on.any_moment stands) (fault_not_done reply told) (fault_is reply told);
-  }
-
--- ---- a query
-
-module _ {tells : Bool} (told : IsTrue tells) (run : RunState) {seen : DiskSeen} {store : Stored} {reply : Reply} where
-  -- it asks nothing of the disk
-  pub asked_kept : (message : List ℕ) → IsOn store seen.moments.now → KeepsOn run (Ask message) seen seen reply (On store)
-  asked_kept message on = record {
-    still_on = on;
-    crashes = λ stands. record {
-      any_moment = stands_still tells told store seen seen on run run stands;
-      done = λ is. files_of tells told store seen on run stands;
-      undone = λ other no_fault. files_of tells told store seen on run stands;
-    };
-  }
+-- a query asks nothing of the disk
+pub asked_kept : (run : RunState) {seen : DiskSeen} {store : Stored} {reply : Reply} (message : List ℕ) → IsOn store seen.moments.now → KeepsOn run (Ask message) seen seen reply (On store)
+asked_kept run {seen} {store} message on = record {
+  still_on = on;
+  crashes = λ stands. record {
+    any_moment = moments_of store seen on run stands;
+    done = λ is. files_of store seen on run stands;
+    undone = λ other no_fault. files_of store seen on run stands;
+  };
+}

@@ -5,5 +5,7 @@ pub mod KeptLemmas
 pub mod ReachedLemmas
 pub mod OutcomeLemmas
 pub mod OpeningLemmas
+pub mod DumpingLemmas
+pub mod ServingLemmas
 pub mod WordLemmas
 pub mod StatusLemmas

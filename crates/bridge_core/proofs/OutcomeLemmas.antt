@@ -1,5 +1,5 @@
 -- What a replay comes to, by how its loop ended, or why its files weren't opened.
-use Rattle.std.proofs.Common.{◌≡◌, ℕ, Bool, List, [], ◌∷◌, ◌++◌, Err, refl, sym, subst}
+use Rattle.std.proofs.Common.{◌≡◌, ℕ, Bool, List, ◌∷◌, ◌++◌, [], refl, sym, subst}
 use Rattle.std.specs.Prelude.{IsTrue}
 use Rattle.fault_counts.specs.Faults.{NeverFell, Rose}
 use Rattle.fault_counts.proofs.FaultLemmas.{NeverFell_refl, stayed_then_Rose}
@@ -12,21 +12,21 @@ use Rattle.frame_loop.specs.Outcome as outcomes
 use Rattle.frame_loop.specs.declared.following.Ending.{Ending}
 use Rattle.frame_loop.specs.declared.following.Ending.TheVariants as endings
 use Rattle.frame_loop.proofs.OutcomeLemmas as loop_outcomes
-use Rattle.machine.specs.RunState.{RunState}
 use Rattle.name_store.specs.declared.faults.OpenFault.{OpenFault}
 use Rattle.name_store.specs.declared.faults.OpenFault.TheVariants as faults
-use Rattle.name_store.specs.Opening.{OpenAnswer, OpensFor}
 use Rattle.name_store.specs.Stands.{Stands}
 use Rattle.bridge_core.specs.Reached.{Beginning, HasReached, Reached, Broken}
 use Rattle.bridge_core.specs.Outcome.{Outside, IsDetermined, IsComplete}
+use Rattle.bridge_core.specs.Opening.{status_of_fault}
 use Rattle.bridge_core.specs.Replaying as replaying
-use Rattle.bridge_core.specs.Replaying.{Tells, EndsSo, StaysUnread, EndsAtDisk, in_opening, in_event, Replays, status_of_fault}
+use Rattle.bridge_core.specs.Replaying.{Tells, EndsSo, StaysUnread, in_opening, in_event, Replays}
 use Rattle.bridge_core.specs.declared.bridge.Turned.{Turned}
 use Rattle.bridge_core.specs.declared.bridge.Turned.TheVariants.{On, Ended}
 use Rattle.bridge_core.specs.declared.status.Status.{Status}
-use Rattle.bridge_core.specs.declared.status.Status.TheVariants.{Done, Words, Uninitialised, Initialised, Damaged, BadFrame, CutFrame, DiskFault, SourceFault, SinkFault, NoMemory, InputLimit}
+use Rattle.bridge_core.specs.declared.status.Status.TheVariants.{Done, Words, Uninitialised, Initialised, Damaged, BadFrame, CutFrame, DiskFault, SourceFault, SinkFault, NoMemory, InputLimit, PortFault}
+use Rattle.bridge_core.proofs.OpeningLemmas.{Unbegun, cause_of, begins_well}
 
-reached_later : (tells : Bool) (begun : Beginning) (frames : List Frame) (replies : List Reply) (last : Turned) (disk : DiskSeen) → HasReached tells begun frames replies last disk
+pub reached_later : (tells : Bool) (begun : Beginning) (frames : List Frame) (replies : List Reply) (last : Turned) (disk : DiskSeen) → HasReached tells begun frames replies last disk
     → NeverFell begun.disk.faults disk.faults
 reached_later tells begun frames replies (On bridge) disk r = r.later
 reached_later tells begun frames replies Ended disk r = absurd r
@@ -109,6 +109,7 @@ module _ {D : Type 0} (s : Scene D) (l : Loop s) where
   determined Uninitialised told = absurd told
   determined Initialised told = absurd told
   determined (Damaged file at) told = absurd told
+  determined PortFault told = absurd told
 
   complete : (status : Status) → Tells status l.how → IsComplete s.tells s.old s.new s.limit status
   complete Done told = λ tells run stands bytes frames left split below well. tt
@@ -123,6 +124,7 @@ module _ {D : Type 0} (s : Scene D) (l : Loop s) where
   complete Uninitialised told = absurd told
   complete Initialised told = absurd told
   complete (Damaged file at) told = absurd told
+  complete PortFault told = absurd told
 
   ended_so : (status : Status) → Tells status l.how → EndsSo s.tells s.seen s.disk s.old s.new s.limit status
   ended_so status told = record { start = l.begun; start_is = l.begun_is; begins = l.begins; how = l.how; last = l.last; told = told; transcript = l.transcript }
@@ -140,6 +142,7 @@ module _ {D : Type 0} (s : Scene D) (l : Loop s) where
   ended Uninitialised told = absurd told
   ended Initialised told = absurd told
   ended (Damaged file at) told = absurd told
+  ended PortFault told = absurd told
 
   pub replays_loop : (status : Status) → Tells status l.how → Replays s.tells s.seen s.disk s.old s.new s.limit status
   replays_loop status told = record {
@@ -153,38 +156,27 @@ module _ {D : Type 0} (s : Scene D) (l : Loop s) where
 
 -- ---- files that weren't opened
 
-pub record Unopened {D : Type 0} (s : Scene D) (fault : OpenFault) : Type 0 where
-  pub unread : StaysUnread s.tells s.old s.new
-  pub answer : IsTrue s.tells → OpenAnswer (bytes_in s.old.disk) s.new.disk.moments.now (Err fault)
-  pub follows : IsTrue s.tells → (run : RunState) → Stands (bytes_in s.old.disk) run → OpensFor run (Err fault)
-  pub never_fell : NeverFell s.old.disk.faults s.new.disk.faults
-  pub cause : fault ≡ faults.DiskFault → Rose s.old.disk.faults s.new.disk.faults
-
 module _ {D : Type 0} (s : Scene D) where
-  ended_unopened : (fault : OpenFault) → Unopened s fault → replaying.Ends s.tells s.seen s.disk s.old s.new s.limit (status_of_fault fault)
-  ended_unopened faults.Uninitialised u = (u.unread, u.answer)
-  ended_unopened (faults.Damaged file at) u = (u.unread, u.answer)
-  ended_unopened faults.DiskFault u = in_opening u.unread (u.cause refl)
-  ended_unopened faults.NoMemory u = u.unread
+  ended_unbegun : (fault : OpenFault) → StaysUnread s.tells s.old s.new (status_of_fault fault) → replaying.Ends s.tells s.seen s.disk s.old s.new s.limit (status_of_fault fault)
+  ended_unbegun faults.Uninitialised u = u
+  ended_unbegun (faults.Damaged file at) u = u
+  ended_unbegun faults.DiskFault u = in_opening u
+  ended_unbegun faults.NoMemory u = u
 
-  determined_unopened : (fault : OpenFault) → Unopened s fault → IsDetermined s.old s.new s.limit (status_of_fault fault)
-  determined_unopened faults.Uninitialised u = λ bytes frames rest left split is_rest well. tt
-  determined_unopened (faults.Damaged file at) u = λ bytes frames rest left split is_rest well. tt
-  determined_unopened faults.DiskFault u = λ bytes frames rest left split is_rest well. well.disk (u.cause refl)
-  determined_unopened faults.NoMemory u = λ bytes frames rest left split is_rest well. tt
+  determined_unbegun : (fault : OpenFault) → Unbegun s.tells s.old.disk s.new.disk fault → IsDetermined s.old s.new s.limit (status_of_fault fault)
+  determined_unbegun faults.Uninitialised u = λ bytes frames rest left split is_rest well. tt
+  determined_unbegun (faults.Damaged file at) u = λ bytes frames rest left split is_rest well. tt
+  determined_unbegun faults.DiskFault u = λ bytes frames rest left split is_rest well. well.disk (u.cause refl)
+  determined_unbegun faults.NoMemory u = λ bytes frames rest left split is_rest well. tt
 
-  complete_unopened : (fault : OpenFault) → Unopened s fault → IsComplete s.tells s.old s.new s.limit (status_of_fault fault)
-  complete_unopened faults.Uninitialised u = λ tells run stands bytes frames left split below well. u.follows tells run stands
-  complete_unopened (faults.Damaged file at) u = λ tells run stands bytes frames left split below well. u.follows tells run stands
-  complete_unopened faults.DiskFault u = λ tells run stands bytes frames left split below well. well.disk (u.cause refl)
-  complete_unopened faults.NoMemory u = λ tells run stands bytes frames left split below well. tt
-
-  pub replays_unopened : (fault : OpenFault) → Unopened s fault → Replays s.tells s.seen s.disk s.old s.new s.limit (status_of_fault fault)
-  replays_unopened fault u = record {
-    source_later = subst (λ (t : loops.Streams). NeverFell s.old.streams.source.faults t.source.faults) (sym u.unread.streams) (NeverFell_refl s.old.streams.source.faults);
-    sink_later = subst (λ (t : loops.Streams). NeverFell s.old.streams.sink.faults t.sink.faults) (sym u.unread.streams) (NeverFell_refl s.old.streams.sink.faults);
+  -- the files couldn't be opened, or memory ran out
+  pub replays_unbegun : (fault : OpenFault) → s.new.streams ≡ s.old.streams → Unbegun s.tells s.old.disk s.new.disk fault
+      → Replays s.tells s.seen s.disk s.old s.new s.limit (status_of_fault fault)
+  replays_unbegun fault same u = record {
+    source_later = subst (λ (t : loops.Streams). NeverFell s.old.streams.source.faults t.source.faults) (sym same) (NeverFell_refl s.old.streams.source.faults);
+    sink_later = subst (λ (t : loops.Streams). NeverFell s.old.streams.sink.faults t.sink.faults) (sym same) (NeverFell_refl s.old.streams.sink.faults);
     disk_later = u.never_fell;
-    ending = ended_unopened fault u;
-    determined = determined_unopened fault u;
-    complete = complete_unopened fault u;
+    ending = ended_unbegun fault (record { streams = same; any_moment = u.untouched; cause = cause_of s.tells s.old.disk s.new.disk fault u });
+    determined = determined_unbegun fault u;
+    complete = λ told run stands bytes frames left split below well. begins_well s.tells s.old.disk s.new.disk fault u told run stands well.disk;
   }

@@ -76,7 +76,7 @@ front_more commands more count = elim (cases_lt (length commands) count) [
 
 -- commands more leave what fewer left
 leaves_more : (start : Beginning) (commands more : List Command) (files : Files) → LeavesFront start commands files → LeavesFront start (commands ++ more) files
-leaves_more start commands more files leaves image_is is = elim (leaves image_is is) [
+leaves_more start commands more files leaves = λ image_is is. elim (leaves image_is is) [
   | inl there ↦ inl there
   | inr front ↦ let n = front_more commands more front.count in
       inr (record { count = n.0; stands = subst (λ (l : List Command). Stands image_is (all_accepted start.run l)) (sym n.1) front.stands })
@@ -85,7 +85,7 @@ leaves_more start commands more files leaves image_is is = elim (leaves image_is
 -- the run state behind the commands, or with one more
 leaves_either : (start : Beginning) (run : RunState) (commands : List Command) (last : Command) → run ≡ all_accepted start.run commands → (files : Files)
     → EachStandsForEither run (accepted run last) files → LeavesFront start (commands ++ last ∷ []) files
-leaves_either start run commands last run-is files each image_is is = elim (each image_is is) [
+leaves_either start run commands last run-is files each = λ image_is is. elim (each image_is is) [
   | inl before ↦ inr (record {
     count = length commands;
     stands = subst (λ (l : List Command). Stands image_is (all_accepted start.run l)) (sym (take_front commands (last ∷ []))) (subst (λ (r : RunState). Stands image_is r) run-is before);
@@ -100,7 +100,7 @@ leaves_either start run commands last run-is files each image_is is = elim (each
 -- the run state behind the commands
 leaves_same : (start : Beginning) (run : RunState) (commands : List Command) → run ≡ all_accepted start.run commands → (files : Files)
     → EachStandsForEither run run files → LeavesFront start commands files
-leaves_same start run commands run-is files each image_is is =
+leaves_same start run commands run-is files each = λ image_is is.
     let stands : Stands image_is run = elim (each image_is is) [ inl s ↦ s | inr s ↦ s ] in
     inr (record {
       count = length commands;
@@ -123,142 +123,142 @@ step_undone old new last reply step undone = step_state old new last reply step 
 
 -- ---- a turn
 
--- the turn that answered an event
-pub record AnswersEvent (tells : Bool) (old : Stored) (before after : DiskSeen) (event : Event) (reply : Reply) (turned : Turned) : Type 0 where
-  pub turns : Turns old event reply turned
-  pub fault_told : TellsFault reply turned
-  pub untouched : reply.code ≢ 0 → reply.code ≢ fault_code → after ≡ before
-  pub kept : IsTrue tells → (run : RunState) → StandsFor old run → KeepsOn run event before after reply turned
-  pub never_fell : NeverFell before.faults after.faults
-  pub cause : IfEnded (Rose before.faults after.faults) turned
+-- a turn as contracts see it: the bridge at its start, the disk before and after, and the reply
+pub record Turn : Type 0 where
+  pub old : Stored
+  pub before : DiskSeen
+  pub after : DiskSeen
+  pub reply : Reply
 
--- the turn that answered the frame of a command
-record Answered (tells : Bool) (old : Stored) (before after : DiskSeen) (frame : Frame) (reply : Reply) (turned : Turned) : Type 0 where
-  pub last : Command
-  pub same : frame_of (Do last) ≡ frame
-  pub by : AnswersEvent tells old before after (Do last) reply turned
+-- the turn answered the event
+pub record AnswersEvent (tells : Bool) (t : Turn) (event : Event) (turned : Turned) : Type 0 where
+  pub turns : Turns t.old event t.reply turned
+  pub fault_told : TellsFault t.reply turned
+  pub untouched : t.reply.code ≢ 0 → t.reply.code ≢ fault_code → t.after ≡ t.before
+  pub kept : IsTrue tells → (run : RunState) → StandsFor t.old run → KeepsOn run event t.before t.after t.reply turned
+  pub never_fell : NeverFell t.before.faults t.after.faults
+  pub cause : IfEnded (Rose t.before.faults t.after.faults) turned
 
--- what was reached so far
-pub record SoFar (tells : Bool) (start : Beginning) (old : Stored) (before : DiskSeen) : Type 0 where
+-- what was reached before it
+pub record SoFar (tells : Bool) (start : Beginning) (t : Turn) : Type 0 where
   pub frames : List Frame
   pub replies : List Reply
-  pub is : IsReached tells start frames replies old before
+  pub is : IsReached tells start frames replies t.old t.before
 
-module _ (tells : Bool) (start : Beginning) (old : Stored) (before after : DiskSeen) (r : SoFar tells start old before) where
+module _ (tells : Bool) (start : Beginning) (t : Turn) (r : SoFar tells start t) where
   abbrev so_far : List Command
   so_far = accepted_of r.is.events r.replies
 
   state_is : r.is.run ≡ all_accepted start.run so_far
   state_is = run_state start.run r.is.run r.is.events r.replies r.is.runs
 
-  module _ (frame : Frame) (reply : Reply) (turned : Turned) (a : Answered tells old before after frame reply turned) where
-    frames_are : r.frames ++ frame ∷ [] ≡ map frame_of (r.is.events ++ Do a.last ∷ [])
-    frames_are = ap (λ (fs : List Frame). fs ++ frame ∷ []) r.is.frames_are ∙ ap (λ (f : Frame). map frame_of r.is.events ++ f ∷ []) (sym a.same) ∙ frames_push r.is.events (Do a.last)
+  frames_are : (event : Event) → r.frames ++ frame_of event ∷ [] ≡ map frame_of (r.is.events ++ event ∷ [])
+  frames_are event = ap (λ (fs : List Frame). fs ++ frame_of event ∷ []) r.is.frames_are ∙ frames_push r.is.events event
 
+  module _ (last : Command) (turned : Turned) (a : AnswersEvent tells t (Do last) turned) where
     -- with the command that was accepted, or was being kept
-    moments_with : IsTrue tells → EachLeavesFront start (so_far ++ a.last ∷ []) after
+    moments_with : IsTrue tells → EachLeavesFront start (so_far ++ last ∷ []) t.after
     moments_with told =
-        join (weaken (LeavesFront start (so_far ++ a.last ∷ [])) (λ files leaves. leaves_more start so_far (a.last ∷ []) files leaves) (r.is.any_moment told))
-        (weaken (LeavesFront start (so_far ++ a.last ∷ [])) (λ files each. leaves_either start r.is.run so_far a.last state_is files each) ((a.by.kept told r.is.run r.is.stands).crashes (r.is.files told).read).any_moment)
+        join (weaken (LeavesFront start (so_far ++ last ∷ [])) (λ files leaves. leaves_more start so_far (last ∷ []) files leaves) (r.is.any_moment told))
+        (weaken (LeavesFront start (so_far ++ last ∷ [])) (λ files each. leaves_either start r.is.run so_far last state_is files each) ((a.kept told r.is.run r.is.stands).crashes (r.is.files told).read).any_moment)
 
-    later : NeverFell start.disk.faults after.faults
-    later = NeverFell_trans start.disk.faults before.faults after.faults r.is.later a.by.never_fell
+    later : NeverFell start.disk.faults t.after.faults
+    later = NeverFell_trans start.disk.faults t.before.faults t.after.faults r.is.later a.never_fell
 
-  module _ (frame : Frame) (reply : Reply) (new : Stored) (a : Answered tells old before after frame reply (On new)) where
-    abbrev moves : Stepped r.is.run a.last reply (a.by.turns r.is.run r.is.stands).new
-    moves = (a.by.turns r.is.run r.is.stands).step
+  module _ (last : Command) (new : Stored) (a : AnswersEvent tells t (Do last) (On new)) where
+    abbrev moves : Stepped r.is.run last t.reply (a.turns r.is.run r.is.stands).new
+    moves = (a.turns r.is.run r.is.stands).step
 
     abbrev next : RunState
-    next = (a.by.turns r.is.run r.is.stands).new
+    next = (a.turns r.is.run r.is.stands).new
 
-    files_next : IsTrue tells → AreFilesOf next after.moments.now
+    files_next : IsTrue tells → AreFilesOf next t.after.moments.now
     files_next told =
-        let crashes = (a.by.kept told r.is.run r.is.stands).crashes (r.is.files told).read in
-        elim (cases_eq reply.code 0) [
-          | inl done ↦ subst (λ (run : RunState). AreFilesOf run after.moments.now) (sym (step_done r.is.run next a.last reply moves (eq-eqb reply.code 0 done))) (crashes.done done)
-          | inr undone ↦ subst (λ (run : RunState). AreFilesOf run after.moments.now) (sym (step_undone r.is.run next a.last reply moves (ne_eqb reply.code 0 undone))) (crashes.undone undone a.by.fault_told)
+        let crashes = (a.kept told r.is.run r.is.stands).crashes (r.is.files told).read in
+        elim (cases_eq t.reply.code 0) [
+          | inl done ↦ subst (λ (run : RunState). AreFilesOf run t.after.moments.now) (sym (step_done r.is.run next last t.reply moves (eq-eqb t.reply.code 0 done))) (crashes.done done)
+          | inr undone ↦ subst (λ (run : RunState). AreFilesOf run t.after.moments.now) (sym (step_undone r.is.run next last t.reply moves (ne_eqb t.reply.code 0 undone))) (crashes.undone undone a.fault_told)
         ]
 
-    moments_next : IsTrue tells → EachLeavesFront start (accepted_of (r.is.events ++ Do a.last ∷ []) (r.replies ++ reply ∷ [])) after
+    moments_next : IsTrue tells → EachLeavesFront start (accepted_of (r.is.events ++ Do last ∷ []) (r.replies ++ t.reply ∷ [])) t.after
     moments_next told =
-        let pushed = accepted_push start.run r.is.run r.is.events r.replies a.last reply r.is.runs in
-        elim (cases_eq reply.code 0) [
-          | inl done ↦ subst (λ (l : List Command). EachLeavesFront start l after) (sym (pushed ∙ ap (λ (b : Bool). so_far ++ (if b then a.last ∷ [] else [])) (eq-eqb reply.code 0 done)))
-              (moments_with frame reply (On new) a told)
-          | inr undone ↦ subst (λ (l : List Command). EachLeavesFront start l after) (sym (pushed ∙ ap (λ (b : Bool). so_far ++ (if b then a.last ∷ [] else [])) (ne_eqb reply.code 0 undone) ∙ append-nil so_far))
-              (subst (λ (d : DiskSeen). EachLeavesFront start so_far d) (sym (a.by.untouched undone a.by.fault_told)) (r.is.any_moment told))
+        let pushed = accepted_push start.run r.is.run r.is.events r.replies last t.reply r.is.runs in
+        elim (cases_eq t.reply.code 0) [
+          | inl done ↦ subst (λ (l : List Command). EachLeavesFront start l t.after) (sym (pushed ∙ ap (λ (b : Bool). so_far ++ (if b then last ∷ [] else [])) (eq-eqb t.reply.code 0 done)))
+              (moments_with last (On new) a told)
+          | inr undone ↦ subst (λ (l : List Command). EachLeavesFront start l t.after) (sym (pushed ∙ ap (λ (b : Bool). so_far ++ (if b then last ∷ [] else [])) (ne_eqb t.reply.code 0 undone) ∙ append-nil so_far))
+              (subst (λ (d : DiskSeen). EachLeavesFront start so_far d) (sym (a.untouched undone a.fault_told)) (r.is.any_moment told))
         ]
 
-    reached_next : IsReached tells start (r.frames ++ frame ∷ []) (r.replies ++ reply ∷ []) new after
+    reached_next : IsReached tells start (r.frames ++ frame_of (Do last) ∷ []) (r.replies ++ t.reply ∷ []) new t.after
     reached_next = record {
-      events = r.is.events ++ Do a.last ∷ [];
+      events = r.is.events ++ Do last ∷ [];
       run = next;
-      frames_are = frames_are frame reply (On new) a;
-      runs = run_push start.run r.is.events r.replies r.is.run (record { event = Do a.last; reply = reply; next = next; step = moves }) r.is.runs;
-      stands = (a.by.turns r.is.run r.is.stands).stands;
+      frames_are = frames_are (Do last);
+      runs = run_push start.run r.is.events r.replies r.is.run (record { event = Do last; reply = t.reply; next = next; step = moves }) r.is.runs;
+      stands = (a.turns r.is.run r.is.stands).stands;
       files = files_next;
       any_moment = moments_next;
-      later = later frame reply (On new) a;
+      later = later last (On new) a;
     }
 
   -- a query was answered
-  module _ (message : List ℕ) (reply : Reply) (new : Stored) (a : AnswersEvent tells old before after (Ask message) reply (On new)) where
+  module _ (message : List ℕ) (new : Stored) (a : AnswersEvent tells t (Ask message) (On new)) where
     abbrev asked : RunState
     asked = (a.turns r.is.run r.is.stands).new
 
     same_state : asked ≡ r.is.run
     same_state = (a.turns r.is.run r.is.stands).step.unchanged
 
-    files_asked : IsTrue tells → AreFilesOf asked after.moments.now
+    files_asked : IsTrue tells → AreFilesOf asked t.after.moments.now
     files_asked told =
         let crashes = (a.kept told r.is.run r.is.stands).crashes (r.is.files told).read in
-        subst (λ (run : RunState). AreFilesOf run after.moments.now) (sym same_state)
-        (elim (cases_eq reply.code 0) [ inl done ↦ crashes.done done | inr undone ↦ crashes.undone undone a.fault_told ])
+        subst (λ (run : RunState). AreFilesOf run t.after.moments.now) (sym same_state)
+        (elim (cases_eq t.reply.code 0) [ inl done ↦ crashes.done done | inr undone ↦ crashes.undone undone a.fault_told ])
 
-    moments_asked : IsTrue tells → EachLeavesFront start (accepted_of (r.is.events ++ Ask message ∷ []) (r.replies ++ reply ∷ [])) after
+    moments_asked : IsTrue tells → EachLeavesFront start (accepted_of (r.is.events ++ Ask message ∷ []) (r.replies ++ t.reply ∷ [])) t.after
     moments_asked told =
-        subst (λ (l : List Command). EachLeavesFront start l after) (sym (accepted_asked start.run r.is.run r.is.events r.replies message reply r.is.runs))
+        subst (λ (l : List Command). EachLeavesFront start l t.after) (sym (accepted_asked start.run r.is.run r.is.events r.replies message t.reply r.is.runs))
         (join (r.is.any_moment told) (weaken (LeavesFront start so_far) (λ files each. leaves_same start r.is.run so_far state_is files each)
         ((a.kept told r.is.run r.is.stands).crashes (r.is.files told).read).any_moment))
 
-    reached_asked : IsReached tells start (r.frames ++ frame_of (Ask message) ∷ []) (r.replies ++ reply ∷ []) new after
+    reached_asked : IsReached tells start (r.frames ++ frame_of (Ask message) ∷ []) (r.replies ++ t.reply ∷ []) new t.after
     reached_asked = record {
       events = r.is.events ++ Ask message ∷ [];
       run = asked;
-      frames_are = ap (λ (fs : List Frame). fs ++ frame_of (Ask message) ∷ []) r.is.frames_are ∙ frames_push r.is.events (Ask message);
-      runs = run_push start.run r.is.events r.replies r.is.run (record { event = Ask message; reply = reply; next = asked; step = (a.turns r.is.run r.is.stands).step }) r.is.runs;
+      frames_are = frames_are (Ask message);
+      runs = run_push start.run r.is.events r.replies r.is.run (record { event = Ask message; reply = t.reply; next = asked; step = (a.turns r.is.run r.is.stands).step }) r.is.runs;
       stands = (a.turns r.is.run r.is.stands).stands;
       files = files_asked;
       any_moment = moments_asked;
-      later = NeverFell_trans start.disk.faults before.faults after.faults r.is.later a.never_fell;
+      later = NeverFell_trans start.disk.faults t.before.faults t.after.faults r.is.later a.never_fell;
     }
 
-  broken_next : (frame : Frame) (reply : Reply) (a : Answered tells old before after frame reply Ended) → IsBroken tells start (r.frames ++ frame ∷ []) (r.replies ++ reply ∷ []) after
-  broken_next frame reply a = record {
+  broken_next : (last : Command) → AnswersEvent tells t (Do last) Ended → IsBroken tells start (r.frames ++ frame_of (Do last) ∷ []) (r.replies ++ t.reply ∷ []) t.after
+  broken_next last a = record {
     events = r.is.events;
-    last = a.last;
+    last = last;
     answered = r.replies;
     run = r.is.run;
-    frames_are = frames_are frame reply Ended a;
-    replies_are = ap (λ (x : Reply). r.replies ++ x ∷ []) a.by.fault_told;
+    frames_are = frames_are (Do last);
+    replies_are = ap (λ (x : Reply). r.replies ++ x ∷ []) a.fault_told;
     runs = r.is.runs;
-    valid = a.by.turns r.is.run r.is.stands;
-    files = λ told. last_moment ((a.by.kept told r.is.run r.is.stands).crashes (r.is.files told).read).any_moment;
-    any_moment = λ told. moments_with frame reply Ended a told;
-    at_last = before.faults;
+    valid = a.turns r.is.run r.is.stands;
+    files = λ told. last_moment ((a.kept told r.is.run r.is.stands).crashes (r.is.files told).read).any_moment;
+    any_moment = λ told. moments_with last Ended a told;
+    at_last = t.before.faults;
     before_last = r.is.later;
-    failed = a.by.cause;
-    later = later frame reply Ended a;
+    failed = a.cause;
+    later = later last Ended a;
   }
 
   -- the event was answered
-  pub reached_by : (event : Event) (reply : Reply) (new : Stored) → AnswersEvent tells old before after event reply (On new)
-      → IsReached tells start (r.frames ++ frame_of event ∷ []) (r.replies ++ reply ∷ []) new after
-  reached_by (Do last) reply new by = reached_next (frame_of (Do last)) reply new (record { last = last; same = refl; by = by })
-  reached_by (Ask message) reply new by = reached_asked message reply new by
+  pub reached_by : (event : Event) (new : Stored) → AnswersEvent tells t event (On new)
+      → IsReached tells start (r.frames ++ frame_of event ∷ []) (r.replies ++ t.reply ∷ []) new t.after
+  reached_by (Do last) new by = reached_next last new by
+  reached_by (Ask message) new by = reached_asked message new by
 
   -- a fault ended the bridge, which comes in a command alone
-  pub broken_by : (event : Event) (reply : Reply) → AnswersEvent tells old before after event reply Ended
-      → IsBroken tells start (r.frames ++ frame_of event ∷ []) (r.replies ++ reply ∷ []) after
-  broken_by (Do last) reply by = broken_next (frame_of (Do last)) reply (record { last = last; same = refl; by = by })
-  broken_by (Ask message) reply by = absurd (by.turns r.is.run r.is.stands)
+  pub broken_by : (event : Event) → AnswersEvent tells t event Ended → IsBroken tells start (r.frames ++ frame_of event ∷ []) (r.replies ++ t.reply ∷ []) t.after
+  broken_by (Do last) by = broken_next last by
+  broken_by (Ask message) by = absurd (by.turns r.is.run r.is.stands)

@@ -6,7 +6,8 @@ use Rattle.name_store.specs.Stands.{Bytes}
 use Rattle.bridge_core.specs.Making.{InitAnswer}
 use Rattle.bridge_core.specs.declared.status.Status.{Status}
 use Rattle.bridge_core.specs.declared.status.Status.TheVariants.{Done, Words, Initialised, DiskFault}
-use Rattle.bridge_core.specs.declared.words.Command.TheVariants.{Init}
+use Rattle.bridge_core.specs.declared.words.Command.TheVariants.{Init, Serve}
+use Rattle.bridge_core.specs.declared.words.Plan.{Plan}
 
 pub done_not_initialised : {P : Type 0} → Done ≡ Initialised → P
 done_not_initialised e = cc
@@ -23,6 +24,9 @@ same_base found base host name e = cc
 
 pub same_host : (found base : Base) (host name : List ℕ) → Some (Init found host) ≡ Some (Init base name) → host ≡ name
 same_host found base host name e = cc
+
+pub same_plan : (found plan : Plan) → Some (Serve found) ≡ Some (Serve plan) → found ≡ plan
+same_plan found plan e = cc
 
 pub memory_not_fault : {P : Type 0} → faults.NoMemory ≡ faults.DiskFault → P
 memory_not_fault e = cc

@@ -9,8 +9,8 @@ use Rattle.nmc_base.specs.declared.chain_ends.Tip.{Tip}
 use Rattle.machine.specs.Chain.{Chain, height_of}
 use Rattle.machine.specs.Event.{Connect, Disconnect, Do}
 use Rattle.machine.specs.RunState.{chain_of, accepted, longest_area}
-use Rattle.machine.specs.Reply.{accepted_reply, no_memory_reply}
-use Rattle.machine.specs.Refusals.{accepts, declines, lacks_memory}
+use Rattle.machine.specs.Reply.{accepted_reply}
+use Rattle.machine.specs.Refusals.{accepts, declines}
 use Rattle.machine.specs.Connecting.{refusal_reply}
 use Rattle.machine.specs.Disconnecting.{back_reply}
 use Rattle.name_store.specs.Stored.{Stored, IsTipOf}
@@ -43,11 +43,6 @@ module _ (old store : Stored) (bytes : List ℕ) (reply : Reply) where
       let on = did run s in
       record { new = run; step = declines (refusal_of refusal) on.0 refl told; stands = on.1 }
 
-  pub connect_lacking : connecting.Connects longest_area old bytes (outcome.NoMemory store) → reply ≡ no_memory_reply → Turns old (Do (Connect bytes)) reply (On store)
-  connect_lacking did told = λ run s.
-      let on = did run s in
-      record { new = run; step = lacks_memory on.0 refl told; stands = on.1 }
-
 -- ---- a disconnect
 
 module _ (old store : Stored) (hash : List ℕ) (reply : Reply) where
@@ -60,8 +55,3 @@ module _ (old store : Stored) (hash : List ℕ) (reply : Reply) where
   disconnect_refused refusal did told = λ run s.
       let on = did run s in
       record { new = run; step = declines (back_refusal_of refusal) on.0 refl told; stands = on.1 }
-
-  pub disconnect_lacking : disconnecting.Disconnects longest_area old hash (back.NoMemory store) → reply ≡ no_memory_reply → Turns old (Do (Disconnect hash)) reply (On store)
-  disconnect_lacking did told = λ run s.
-      let on = did run s in
-      record { new = run; step = lacks_memory on.0 refl told; stands = on.1 }

@@ -10,48 +10,49 @@ use Rattle.std.proofs.lemmas.Str.{IsUtf8-from_ascii}
 use Rattle.std.proofs.lemmas.Str.Parse.{IsNumeralModel, numerals_by_value, tells_digits, parse_plain}
 use Rattle.nmc_base.specs.declared.chain_ends.Base.{Base}
 use Rattle.name_store.specs.Host.{IsHostOf}
-use Rattle.bridge_core.specs.Words.{IsHeight, IsPlain, IsHash, AreFields, Asks}
+use Rattle.bridge_core.specs.Words.{IsNumber, IsHeight, IsPort, AreTurns, IsPlain, IsHash, AreFields, AreNumbers, Asks}
 use Rattle.bridge_core.specs.declared.words.Command.{Command}
-use Rattle.bridge_core.specs.declared.words.Command.TheVariants.{Replay, Init}
+use Rattle.bridge_core.specs.declared.words.Command.TheVariants.{Replay, Dump, Init, Serve}
+use Rattle.bridge_core.specs.declared.words.Plan.{Plan}
 
 own : IsNumeralModel (AllDigits 10) (digits_value 10)
 own = numerals_by_value (AllDigits 10) tells_digits
 
-module _ (word : List ℕ) where
-  small : (height : ℕ) → IsHeight word height → height < 2 ^ 32
-  small height is = let low = is.low in omega arith
+module _ (least most : ℕ) (fits : most < 2 ^ 32) (word : List ℕ) where
+  small : (n : ℕ) → IsNumber least most word n → n < 2 ^ 32
+  small n is = let no_more = is.no_more in omega (arith, no_more, fits)
 
-  wide : (height : ℕ) → IsHeight word height → height < 2 ^ 64
-  wide height is = let low = is.low in omega arith
+  wide : (n : ℕ) → IsNumber least most word n → n < 2 ^ 64
+  wide n is = let below = small n is in omega (arith, below)
 
-  -- a height is text
-  pub height_text : (height : ℕ) → IsHeight word height → IsUtf8 word
-  height_text height is = subst IsUtf8 (sym is.spelled) (IsUtf8-from_ascii (decimal height) (IsAscii-decimal height (wide height is)))
+  -- a number is text
+  pub number_text : (n : ℕ) → IsNumber least most word n → IsUtf8 word
+  number_text n is = subst IsUtf8 (sym is.spelled) (IsUtf8-from_ascii (decimal n) (IsAscii-decimal n (wide n is)))
 
   -- and is read as the number
-  pub height_read : (height other : ℕ) → IsHeight word height → ParsesUnsigned {E = Unit {0}} 32 10 word (Ok other) → other ≡ height
-  height_read height other is parses = let read = parse-decimal {E = Unit {0}} 32 height word (Ok other) (small height is) (wide height is) is.spelled parses in cc
+  pub number_read : (n other : ℕ) → IsNumber least most word n → ParsesUnsigned {E = Unit {0}} 32 10 word (Ok other) → other ≡ n
+  number_read n other is parses = let read = parse-decimal {E = Unit {0}} 32 n word (Ok other) (small n is) (wide n is) is.spelled parses in cc
 
-  pub height_no_error : (height : ℕ) → IsHeight word height → ParsesUnsigned {E = Unit {0}} 32 10 word (Err tt) → ⊥
-  height_no_error height is parses = let read = parse-decimal {E = Unit {0}} 32 height word (Err tt) (small height is) (wide height is) is.spelled parses in cc
+  pub number_no_error : (n : ℕ) → IsNumber least most word n → ParsesUnsigned {E = Unit {0}} 32 10 word (Err tt) → ⊥
+  number_no_error n is parses = let read = parse-decimal {E = Unit {0}} 32 n word (Err tt) (small n is) (wide n is) is.spelled parses in cc
 
-  pub height_plain : (height : ℕ) → IsHeight word height → IsPlain word
-  height_plain height is = elim (cases_eq height 0) [
+  pub number_plain : (n : ℕ) → IsNumber least most word n → IsPlain word
+  number_plain n is = elim (cases_eq n 0) [
     | inl zero ↦ let one : word ≡ 48 ∷ [] = is.spelled ∙ ap decimal zero ∙ decimal_digit 0 (omega arith) in record {
       no_sign = λ e. absurd (omega (arith, e, ap (λ (w : List ℕ). slice_index w 0) one));
       no_zero = λ e. ap length one;
     }
     | inr some ↦
-        let first : 48 < slice_index word 0 = subst (λ (w : List ℕ). 48 < slice_index w 0) (sym is.spelled) (first_decimal height (omega (arith, some)) (wide height is)) in
+        let first : 48 < slice_index word 0 = subst (λ (w : List ℕ). 48 < slice_index w 0) (sym is.spelled) (first_decimal n (omega (arith, some)) (wide n is)) in
         record { no_sign = λ e. absurd (omega (arith, e, first)); no_zero = λ e. absurd (omega (arith, e, first)) }
   ]
 
-  -- a number that was read, written without a sign and a leading zero, is spelled by the word
-  pub plain_height : (height : ℕ) → IsPlain word → ParsesUnsigned {E = Unit {0}} 32 10 word (Ok height) → word ≡ decimal height
-  plain_height height plain parses =
-      let read = parse_plain own {E = Unit {0}} 32 word (Ok height) parses plain.no_sign in
-      let value : height ≡ digits_value 10 word = read.1 in
-      sym (ap decimal value ∙ decimal-digits_value own word read.0.0 read.0.1 plain.no_zero (omega (arith, read.0.2)))
+-- a number that was read, written without a sign and a leading zero, is spelled by the word
+pub plain_number : (word : List ℕ) (n : ℕ) → IsPlain word → ParsesUnsigned {E = Unit {0}} 32 10 word (Ok n) → word ≡ decimal n
+plain_number word n plain parses =
+    let read = parse_plain own {E = Unit {0}} 32 word (Ok n) parses plain.no_sign in
+    let value : n ≡ digits_value 10 word = read.1 in
+    sym (ap decimal value ∙ decimal-digits_value own word read.0.0 read.0.1 plain.no_zero (omega (arith, read.0.2)))
 
 -- ---- five words
 
@@ -70,6 +71,8 @@ pub asked_by : (words : List (List ℕ)) (has : HasFields words) (found : Option
     → ((base : Base) (name : List ℕ) → AreFields has.height has.hash has.host base name → found ≡ Some (Init base name))
     → (asked : Command) → Asks words asked → found ≡ Some asked
 asked_by words has found one Replay is = absurd (omega (arith, has.long, ap length is))
+asked_by words has found one Dump is = absurd (omega (arith, has.long, ap length is))
+asked_by words has found one (Serve plan) is = absurd (omega (arith, has.long, ap length is.words_are))
 asked_by words has found one (Init base name) is =
     let height : has.height ≡ is.height = has.height_at ∙ ap (λ (w : List (List ℕ)). get_or w 2 has.height) is.words_are in
     let hash : has.hash ≡ is.hash = has.hash_at ∙ ap (λ (w : List (List ℕ)). get_or w 3 has.hash) is.words_are in
@@ -79,4 +82,33 @@ asked_by words has found one (Init base name) is =
       height_is = subst (λ (t : List ℕ). IsHeight t base.height) (sym height) is.fields.height_is;
       hash_is = subst (λ (t : List ℕ). IsHash t base.hash.0) (sym hash) is.fields.hash_is;
       host_is = subst (λ (t : List ℕ). IsHostOf t name) (sym host) is.fields.host_is;
+    })
+
+-- ---- four words
+
+-- what stands at the places of the numbers
+pub record HasNumbers (words : List (List ℕ)) : Type 0 where
+  pub udp : List ℕ
+  pub feed : List ℕ
+  pub turns : List ℕ
+  pub udp_at : udp ≡ get_or words 1 udp
+  pub feed_at : feed ≡ get_or words 2 feed
+  pub turns_at : turns ≡ get_or words 3 turns
+  pub long : length words ≡ 4
+
+-- a command whose numbers they are is the one that is asked for
+pub served_by : (words : List (List ℕ)) (has : HasNumbers words) (found : Option Command)
+    → ((plan : Plan) → AreNumbers has.udp has.feed has.turns plan → found ≡ Some (Serve plan))
+    → (asked : Command) → Asks words asked → found ≡ Some asked
+served_by words has found one Replay is = absurd (omega (arith, has.long, ap length is))
+served_by words has found one Dump is = absurd (omega (arith, has.long, ap length is))
+served_by words has found one (Init base name) is = absurd (omega (arith, has.long, ap length is.words_are))
+served_by words has found one (Serve plan) is =
+    let udp : has.udp ≡ is.udp = has.udp_at ∙ ap (λ (w : List (List ℕ)). get_or w 1 has.udp) is.words_are in
+    let feed : has.feed ≡ is.feed = has.feed_at ∙ ap (λ (w : List (List ℕ)). get_or w 2 has.feed) is.words_are in
+    let turns : has.turns ≡ is.turns = has.turns_at ∙ ap (λ (w : List (List ℕ)). get_or w 3 has.turns) is.words_are in
+    one plan (record {
+      udp_is = subst (λ (t : List ℕ). IsPort t plan.udp) (sym udp) is.numbers.udp_is;
+      feed_is = subst (λ (t : List ℕ). IsPort t plan.feed) (sym feed) is.numbers.feed_is;
+      turns_are = subst (λ (t : List ℕ). AreTurns t plan.turns) (sym turns) is.numbers.turns_are;
     })

@@ -2,7 +2,10 @@ pub mod Views
 pub mod Bridge
 pub mod Reached
 pub mod Statuses
+pub mod Opening
 pub mod Outcome
 pub mod Replaying
+pub mod Dumping
+pub mod Serving
 pub mod Making
 pub mod Words

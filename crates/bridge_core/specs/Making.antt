@@ -9,7 +9,7 @@ use Rattle.name_store.specs.Header.{IsInitialised, IsUninitialised}
 use Rattle.name_store.specs.Making.{IsEmpty, EachIsBegun}
 use Rattle.name_store.specs.Stands.{Bytes, EachStands, begun_on}
 use Rattle.bridge_core.specs.declared.status.Status.{Status}
-use Rattle.bridge_core.specs.declared.status.Status.TheVariants.{Done, Words, Uninitialised, Initialised, Damaged, BadFrame, CutFrame, DiskFault, SourceFault, SinkFault, NoMemory, InputLimit}
+use Rattle.bridge_core.specs.declared.status.Status.TheVariants.{Done, Words, Uninitialised, Initialised, Damaged, BadFrame, CutFrame, DiskFault, SourceFault, SinkFault, NoMemory, InputLimit, PortFault}
 
 -- Files that are initialised stay as they are, and others are made. A fault of the disk may stand in the place of both, and
 -- there is no other status. Where the disk doesn't tell its files, nothing is said of them.
@@ -26,6 +26,7 @@ InitAnswer tells old SourceFault = ⊥
 InitAnswer tells old SinkFault = ⊥
 InitAnswer tells old NoMemory = ⊥
 InitAnswer tells old InputLimit = ⊥
+InitAnswer tells old PortFault = ⊥
 
 -- What `init` of a base and the text of its host did. Once it is done, whatever a crash leaves stands for the base and its
 -- host without a command; from an empty file 0 a crash meanwhile leaves files that are uninitialised, or those.

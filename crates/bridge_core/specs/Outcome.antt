@@ -9,7 +9,7 @@ use Rattle.frame_loop.specs.Outcome.{IsWhole, IsBadAt, IsCutAt, IsOverLimit}
 use Rattle.machine.specs.RunState.{RunState}
 use Rattle.name_store.specs.Stands.{Stands}
 use Rattle.bridge_core.specs.declared.status.Status.{Status}
-use Rattle.bridge_core.specs.declared.status.Status.TheVariants.{Done, Words, Uninitialised, Initialised, Damaged, BadFrame, CutFrame, DiskFault, SourceFault, SinkFault, NoMemory, InputLimit}
+use Rattle.bridge_core.specs.declared.status.Status.TheVariants.{Done, Words, Uninitialised, Initialised, Damaged, BadFrame, CutFrame, DiskFault, SourceFault, SinkFault, NoMemory, InputLimit, PortFault}
 
 -- what a command is handed, as contracts see it: a source and a sink, and a disk
 pub record Outside : Type 0 where
@@ -39,6 +39,7 @@ Outcome limit bytes frames rest Initialised = ⊥
 Outcome limit bytes frames rest DiskFault = ⊥
 Outcome limit bytes frames rest SourceFault = ⊥
 Outcome limit bytes frames rest SinkFault = ⊥
+Outcome limit bytes frames rest PortFault = ⊥
 
 -- where nothing failed, the status is the one that the files, the bytes and the limit decide
 abbrev pub IsDetermined : (old new : Outside) (limit : ℕ) → Status → Type 0
@@ -60,6 +61,7 @@ EndsWell DiskFault = ⊥
 EndsWell SourceFault = ⊥
 EndsWell SinkFault = ⊥
 EndsWell InputLimit = ⊥
+EndsWell PortFault = ⊥
 
 -- files that stand for a run state, whole frames alone, fewer bytes than the limit, and nothing that fails: the work is done
 abbrev pub IsComplete : (tells : Bool) (old new : Outside) (limit : ℕ) → Status → Type 0

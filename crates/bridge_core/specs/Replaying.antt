@@ -1,22 +1,17 @@
 -- What a replay read and wrote, where its frames and replies led, and what its files stand for.
 use Rattle.std.specs.Prelude.{◌≡◌, ℕ, Bool, IsTrue}
-use Rattle.fault_counts.specs.Faults.{NeverFell, Rose}
-use Rattle.disk_model.specs.Moments.{EachMoment}
+use Rattle.fault_counts.specs.Faults.{NeverFell}
 use Rattle.disk_model.specs.DiskSeen.{DiskSeen, bytes_in}
 use Rattle.frame_loop.specs.Transcript.{Transcript}
 use Rattle.frame_loop.specs.declared.following.Ending.{Ending}
 use Rattle.frame_loop.specs.declared.following.Ending.TheVariants as endings
-use Rattle.name_store.specs.Header.{IsUninitialised}
-use Rattle.name_store.specs.Damage.{IsDamaged}
-use Rattle.name_store.specs.Opening.{AddsNoImage}
-use Rattle.name_store.specs.declared.faults.OpenFault.{OpenFault}
-use Rattle.name_store.specs.declared.faults.OpenFault.TheVariants as faults
 use Rattle.name_store.specs.Stands.{Stands}
 use Rattle.bridge_core.specs.Reached.{Beginning, Reached, Broken}
+use Rattle.bridge_core.specs.Opening.{IsUnbegun, AddsNone}
 use Rattle.bridge_core.specs.Outcome.{Outside, IsDetermined, IsComplete}
 use Rattle.bridge_core.specs.declared.bridge.Turned.{Turned}
 use Rattle.bridge_core.specs.declared.status.Status.{Status}
-use Rattle.bridge_core.specs.declared.status.Status.TheVariants.{Done, Words, Uninitialised, Initialised, Damaged, BadFrame, CutFrame, DiskFault, SourceFault, SinkFault, NoMemory, InputLimit}
+use Rattle.bridge_core.specs.declared.status.Status.TheVariants.{Done, Words, Uninitialised, Initialised, Damaged, BadFrame, CutFrame, DiskFault, SourceFault, SinkFault, NoMemory, InputLimit, PortFault}
 
 -- the ending of the loop that the status tells: a bridge that has ended is a fault of the disk
 abbrev pub Tells : Status → Ending → Type 0
@@ -32,13 +27,7 @@ Tells Words how = ⊥
 Tells Uninitialised how = ⊥
 Tells Initialised how = ⊥
 Tells (Damaged file at) how = ⊥
-
--- the status of files that couldn't be opened
-abbrev pub status_of_fault : OpenFault → Status
-status_of_fault faults.Uninitialised = Uninitialised
-status_of_fault (faults.Damaged file at) = Damaged file at
-status_of_fault faults.DiskFault = DiskFault
-status_of_fault faults.NoMemory = NoMemory
+Tells PortFault how = ⊥
 
 -- The files were opened, and the loop over the stream ended so, from the run state that they stood for as they were read.
 pub record EndsSo {D : Type 0} (tells : Bool) (seen : D → DiskSeen) (disk : D) (old new : Outside) (limit : ℕ) (status : Status) : Type 0 where
@@ -50,24 +39,26 @@ pub record EndsSo {D : Type 0} (tells : Bool) (seen : D → DiskSeen) (disk : D)
   pub told : Tells status how
   pub transcript : Transcript (Reached tells seen start) (Broken tells seen start) old.streams new.streams limit how (last, disk)
 
--- Nothing was read and nothing written, and whatever a crash left was there at the start.
-pub record StaysUnread (tells : Bool) (old new : Outside) : Type 0 where
+-- Nothing was read and nothing written, whatever a crash left was there at the start, and the status has its cause.
+pub record StaysUnread (tells : Bool) (old new : Outside) (status : Status) : Type 0 where
   pub streams : new.streams ≡ old.streams
-  pub any_moment : IsTrue tells → EachMoment (AddsNoImage old.disk.moments.now) old.disk.moments new.disk.moments
+  pub any_moment : AddsNone tells old.disk new.disk
+  pub cause : IsUnbegun tells old.disk new.disk status
 
 -- the files couldn't be opened for a fault of the disk, or one came in the event answered last
 pub data EndsAtDisk {D : Type 0} (tells : Bool) (seen : D → DiskSeen) (disk : D) (old new : Outside) (limit : ℕ) : Type 0 where
-  in_opening : StaysUnread tells old new → Rose old.disk.faults new.disk.faults → EndsAtDisk tells seen disk old new limit
+  in_opening : StaysUnread tells old new DiskFault → EndsAtDisk tells seen disk old new limit
   in_event : EndsSo tells seen disk old new limit DiskFault → EndsAtDisk tells seen disk old new limit
 
 -- The files couldn't be opened, memory ran out, or the loop ended.
 abbrev pub Ends : {D : Type 0} (tells : Bool) (seen : D → DiskSeen) (disk : D) (old new : Outside) (limit : ℕ) → Status → Type 0
-Ends tells seen disk old new limit Uninitialised = StaysUnread tells old new × (IsTrue tells → IsUninitialised (bytes_in old.disk 0))
-Ends tells seen disk old new limit (Damaged file at) = StaysUnread tells old new × (IsTrue tells → IsDamaged (bytes_in old.disk) file at)
-Ends tells seen disk old new limit NoMemory = StaysUnread tells old new
+Ends tells seen disk old new limit Uninitialised = StaysUnread tells old new Uninitialised
+Ends tells seen disk old new limit (Damaged file at) = StaysUnread tells old new (Damaged file at)
+Ends tells seen disk old new limit NoMemory = StaysUnread tells old new NoMemory
 Ends tells seen disk old new limit DiskFault = EndsAtDisk tells seen disk old new limit
 Ends tells seen disk old new limit Words = ⊥
 Ends tells seen disk old new limit Initialised = ⊥
+Ends tells seen disk old new limit PortFault = ⊥
 Ends tells seen disk old new limit Done = EndsSo tells seen disk old new limit Done
 Ends tells seen disk old new limit (BadFrame offset) = EndsSo tells seen disk old new limit (BadFrame offset)
 Ends tells seen disk old new limit (CutFrame offset) = EndsSo tells seen disk old new limit (CutFrame offset)

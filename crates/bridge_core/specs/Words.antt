@@ -7,12 +7,26 @@ use Rattle.nmc_base.specs.declared.chain_ends.Base.{Base}
 use Rattle.nmc_base.specs.declared.chain_ends.Profile.TheVariants.{Regtest}
 use Rattle.name_store.specs.Host.{IsHostOf}
 use Rattle.bridge_core.specs.declared.words.Command.{Command}
-use Rattle.bridge_core.specs.declared.words.Command.TheVariants.{Replay, Init}
+use Rattle.bridge_core.specs.declared.words.Command.TheVariants.{Replay, Dump, Init, Serve}
+use Rattle.bridge_core.specs.declared.words.Plan.{Plan}
 
--- the height of a block: decimal digits without a leading zero, or `0`
-pub record IsHeight (text : List ℕ) (height : ℕ) : Type 0 where
-  pub spelled : text ≡ decimal height
-  pub low : height ≤ highest
+-- a number within its limits: decimal digits without a leading zero, or `0`
+pub record IsNumber (least most : ℕ) (text : List ℕ) (n : ℕ) : Type 0 where
+  pub spelled : text ≡ decimal n
+  pub no_less : least ≤ n
+  pub no_more : n ≤ most
+
+-- the height of a block
+abbrev pub IsHeight : List ℕ → ℕ → Type 0
+IsHeight = IsNumber 0 highest
+
+-- the number of a UDP port, or of a feed's
+abbrev pub IsPort : List ℕ → ℕ → Type 0
+IsPort = IsNumber 1 65535
+
+-- how many polls are made
+abbrev pub AreTurns : List ℕ → ℕ → Type 0
+AreTurns = IsNumber 1 1000000000
 
 -- neither a sign nor a leading zero stands in front
 pub record IsPlain (text : List ℕ) : Type 0 where
@@ -40,12 +54,44 @@ pub record AsksForFiles (words : List (List ℕ)) (base : Base) (name : List ℕ
   pub words_are : words ≡ codes "init" ∷ (codes "regtest" ∷ (height ∷ (hash ∷ (host ∷ []))))
   pub fields : AreFields height hash host base name
 
+-- the texts of the numbers of two ports, and of the turns
+pub record AreNumbers (udp feed turns : List ℕ) (plan : Plan) : Type 0 where
+  pub udp_is : IsPort udp plan.udp
+  pub feed_is : IsPort feed plan.feed
+  pub turns_are : AreTurns turns plan.turns
+
+-- the words `serve`, the numbers of two ports, and the turns
+pub record AsksToServe (words : List (List ℕ)) (plan : Plan) : Type 0 where
+  pub udp : List ℕ
+  pub feed : List ℕ
+  pub turns : List ℕ
+  pub words_are : words ≡ codes "serve" ∷ (udp ∷ (feed ∷ (turns ∷ [])))
+  pub numbers : AreNumbers udp feed turns plan
+
 -- the words ask for the command
 abbrev pub Asks : List (List ℕ) → Command → Type 0
 Asks words Replay = words ≡ codes "replay" ∷ []
+Asks words Dump = words ≡ codes "dump" ∷ []
 Asks words (Init base name) = AsksForFiles words base name
+Asks words (Serve plan) = AsksToServe words plan
 
 -- the texts are those of the files that the command makes
 abbrev pub IsInitOf : (height hash host : List ℕ) → Command → Type 0
 IsInitOf height hash host Replay = ⊥
+IsInitOf height hash host Dump = ⊥
 IsInitOf height hash host (Init base name) = AreFields height hash host base name
+IsInitOf height hash host (Serve plan) = ⊥
+
+-- the texts are those of the numbers that the command serves by
+abbrev pub IsServeOf : (udp feed turns : List ℕ) → Command → Type 0
+IsServeOf udp feed turns Replay = ⊥
+IsServeOf udp feed turns Dump = ⊥
+IsServeOf udp feed turns (Init base name) = ⊥
+IsServeOf udp feed turns (Serve plan) = AreNumbers udp feed turns plan
+
+-- what a command has no use for stays as it is: the source, the sink and the port
+abbrev pub Spares : Command → (source sink port : Type 0) → Type 0
+Spares Replay source sink port = port
+Spares Dump source sink port = source × port
+Spares (Init base name) source sink port = source × sink × port
+Spares (Serve plan) source sink port = source × sink

@@ -19,6 +19,7 @@ impl<D: Disk> Answerer<D> for Turned {
 
     ghost broken = { Broken D.tells D.seen };
 
+    #[inline(never)]
     fn turn<L: Ledger>(
         self,
         alloc: Global,

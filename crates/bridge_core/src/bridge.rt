@@ -5,6 +5,7 @@ ghost use Rattle.disk_model.specs.Moments.{EachMoment};
 ghost use Rattle.disk_model.specs.DiskSeen.{bytes_in};
 ghost use Rattle.machine.specs.Event.{Ask, Connect, Disconnect, Do};
 ghost use Rattle.machine.specs.RunState.{RunState};
+ghost use Rattle.name_report.specs.Report.{Reports};
 ghost use Rattle.name_store.specs.Opening.{OpenAnswer, OpensFor, AddsNoImage, ReadsAlike};
 ghost use Rattle.name_store.specs.Stands.{Stands};
 ghost use Rattle.name_store.specs.Stored.{StandsFor, IsOn};
@@ -16,13 +17,16 @@ ghost use Rattle.bridge_core.specs.Bridge.{
   IsCheapTurn,
   fault_code,
 };
+ghost use Rattle.bridge_core.specs.Dumping.{reported_of};
 ghost use Rattle.bridge_core.specs.Views.{event_of, IsWithinLimits};
 
 use crate::event::Event;
 use crate::querying::answer_query;
 use crate::replies::{accept, lack_memory, refuse, refuse_back, tell_fault};
+use byte_io::Sink;
 use disk_model::Disk;
 use frame_loop::ReplyBuf;
+use name_report::{ReportFault, report};
 use name_store::{BackOutcome, OpenFault, Outcome, Store};
 use nmc_base::{Hash32, Steps};
 use std::alloc::Global;
@@ -157,6 +161,14 @@ impl Bridge {
     {
         answer_query(alloc, &self.store, message, reply);
         self
+    }
+
+    /// Gives the report of the chain to the sink: its tip, and each name with all that it was given. All memory is taken
+    /// before the first write.
+    pub fn report<K: Sink>(&self, alloc: Global, sink: &mut K) -> Result<(), ReportFault>
+        ensures { (run : RunState) → StandsFor self.now run → Reports (reported_of run) (K.seen sink.old) (K.seen sink.new) result }
+    {
+        report(alloc, self.store.chain(), sink)
     }
 
     /// Deals with one event and writes its one reply.

@@ -1,10 +1,11 @@
 ghost use Rattle.std.specs.Prelude.{◌≡◌};
-ghost use Rattle.feed_frames.specs.Frames.{IsFramed};
 ghost use Rattle.feed_frames.specs.Front as feed;
 ghost use Rattle.machine.specs.Event.{frame_of};
-ghost use Rattle.bridge_core.specs.Views.{event_of};
+ghost use Rattle.frame_loop.specs.Turns.{IsAskable};
+ghost use Rattle.bridge_core.specs.Views.{event_of, IsWithinLimits};
 
 use feed_frames::Frame;
+use frame_loop::QUERY;
 use nmc_base::Hash32;
 
 /// What a bridge is asked to do: one whole frame.
@@ -14,20 +15,18 @@ pub enum Event<'a> {
     Connect(&'a [u8]),
     /// The hash of the newest block, which is to leave the chain.
     Disconnect(Hash32),
-    /// A message of DNS that is to be answered, of at most 65,535 bytes.
+    /// A message of DNS that is to be answered.
     Query(&'a [u8]),
 }
 
 /// The kind of a connect's frame.
 const CONNECT: u8 = 1;
 
-/// The kind of a query's frame.
-const QUERY: u8 = 3;
-
 /// The event of a whole frame.
 pub(crate) fn read_event(frame: Frame<'_>) -> Event<'_>
-    requires { IsFramed (feed.frame_of frame) }
-    ensures { frame_of (event_of result) ≡ feed.frame_of frame.entry }
+    requires { IsAskable (feed.frame_of frame) }
+    ensures same { frame_of (event_of result) ≡ feed.frame_of frame.entry }
+    ensures within { IsWithinLimits result }
 {
     if frame.kind == CONNECT {
         return Event::Connect(frame.payload);

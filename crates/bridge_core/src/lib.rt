@@ -4,11 +4,15 @@
 mod answering;
 mod bridge;
 mod command;
+mod dumping;
 mod event;
 mod making;
+mod numbers;
+mod opening;
 mod querying;
 mod replaying;
 mod replies;
+mod serving;
 mod status;
 mod words;
 
@@ -19,7 +23,4 @@ pub use frame_loop::ReplyBuf;
 pub use name_store::OpenFault;
 pub use replaying::replay;
 pub use status::Status;
-pub use words::Command;
-
-#[cfg(test)]
-mod tests;
+pub use words::{Command, Plan};

@@ -8,10 +8,8 @@ use bit_answers::{Answered, answer};
 use dns_message::LEAST_LIMIT;
 use frame_loop::ReplyBuf;
 use name_store::Store;
+use port_loop::DROPPED;
 use std::alloc::Global;
-
-/// The code of a message that gets no reply.
-const DROPPED: u8 = 8;
 
 /// Answers a message of DNS from the names that the store's chain serves: code 0 and the reply, or code 8 where it gets none.
 pub(crate) fn answer_query(alloc: Global, store: &Store, message: &[u8], reply: &mut ReplyBuf)

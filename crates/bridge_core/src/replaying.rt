@@ -1,14 +1,14 @@
 ghost use Rattle.std.specs.Prelude.{◌≡◌, ◌<◌, ◌≤◌, ◌^◌};
 ghost use Rattle.frame_loop.specs.Transcript.{streams};
 ghost use Rattle.bridge_core.specs.Outcome.{outside};
-ghost use Rattle.bridge_core.specs.Replaying.{Tells, Replays, status_of_fault};
+ghost use Rattle.bridge_core.specs.Replaying.{Tells, Replays};
 
 use crate::bridge::{Bridge, Turned};
+use crate::opening::{let_go, unopened};
 use crate::status::Status;
 use byte_io::{Sink, Source};
 use disk_model::Disk;
 use frame_loop::{Buffers, Ending, follow};
-use name_store::OpenFault;
 use nmc_base::{NoMemory, Steps};
 use std::alloc::Global;
 use std::marker::Brand;
@@ -28,21 +28,6 @@ fn status_of(ending: Ending) -> Status
         Ending::Ended => Status::DiskFault,
     }
 }
-
-/// The status of files that couldn't be opened.
-fn unopened(fault: OpenFault) -> Status
-    ensures { result ≡ status_of_fault fault }
-{
-    match fault {
-        OpenFault::Uninitialised => Status::Uninitialised,
-        OpenFault::Damaged { file, at } => Status::Damaged { file, at },
-        OpenFault::DiskFault => Status::DiskFault,
-        OpenFault::NoMemory => Status::NoMemory,
-    }
-}
-
-/// One place lets go of the bridge: each such place is dear to prove.
-fn let_go(_last: Turned) {}
 
 /// Opens the files, and then reads and answers frames by means of these buffers.
 fn replay_by<S: Source, K: Sink, D: Disk, L: Ledger>(

@@ -6,7 +6,8 @@ use std::fmt;
 /// How a command ended. It is displayed as its line on standard error; that of `Done` is empty.
 #[derive(Clone, Copy, PartialEq, Eq, Debug)]
 pub enum Status {
-    /// The work was done: the files were made, or the source was read to its end and every byte belongs to a whole frame.
+    /// The work was done: the files were made, the source was read to its end and every byte belongs to a whole frame, the
+    /// report was written, or all polls were made.
     Done,
     /// The words are none of the forms.
     Words,
@@ -26,10 +27,12 @@ pub enum Status {
     SourceFault,
     /// The last write failed, or took nothing of a piece that isn't empty.
     SinkFault,
-    /// Memory ran out before anything was read.
+    /// Memory ran out before anything was read, written or polled.
     NoMemory,
     /// As many bytes as the limit were read.
     InputLimit,
+    /// The ports couldn't be bound.
+    PortFault,
 }
 
 impl Status {
@@ -47,6 +50,7 @@ impl Status {
             Status::SinkFault => 7,
             Status::NoMemory => 8,
             Status::InputLimit => 9,
+            Status::PortFault => 10,
         }
     }
 }
@@ -68,6 +72,7 @@ impl fmt::Display for Status {
             Status::SinkFault => write!(f, "write fault"),
             Status::NoMemory => write!(f, "out of memory"),
             Status::InputLimit => write!(f, "input limit"),
+            Status::PortFault => write!(f, "port fault"),
         }
     }
 }

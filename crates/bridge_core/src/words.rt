@@ -1,49 +1,38 @@
-ghost use Rattle.std.specs.Prelude.{◌≡◌, ◌↔◌, ◌≤◌, List, ℕ, Some, IsTrue, IfSome, codes};
+ghost use Rattle.std.specs.Prelude.{◌≡◌, ◌↔◌, List, ℕ, Some, IsTrue, IfSome, codes};
 ghost use Rattle.nmc_base.specs.declared.chain_ends.Base.{Base};
 ghost use Rattle.name_store.specs.Host.{IsHostOf};
-ghost use Rattle.bridge_core.specs.Words.{Asks, AreFields, IsInitOf, IsHeight, IsPlain, IsHash};
+ghost use Rattle.bridge_core.specs.Words.{Asks, AreFields, AreNumbers, IsInitOf, IsServeOf, IsHash};
 
+use crate::numbers::{read_height, read_port, read_turns};
 use domain_text::{Name, absolute_name};
-use nmc_base::{Base, HIGHEST_HEIGHT, Hash32, Profile, Words};
+use nmc_base::{Base, Hash32, Profile, Words};
+
+/// The ports that are served, and how many polls are made.
+#[derive(Clone, Copy, PartialEq, Eq, Debug)]
+pub struct Plan {
+    /// The number of the UDP port.
+    pub udp: u16,
+    /// The number of the port that the feed connects to.
+    pub feed: u16,
+    /// How many polls are made.
+    pub turns: u32,
+}
 
 /// What a command line asks for.
 #[derive(Drop)]
 pub enum Command {
     /// The word `replay` alone.
     Replay,
+    /// The word `dump` alone.
+    Dump,
     /// The word `init`, a profile, a height, a hash and a host: the base of the files, and the name of its host.
     Init(Base, Name),
+    /// The word `serve`, the numbers of two ports, and the turns.
+    Serve(Plan),
 }
 
 /// No name of a base's host has more bytes on the wire.
 const LONGEST_HOST_NAME: usize = 244;
-
-/// Whether a number is written without a sign and without a leading zero.
-fn is_plain(word: &[u8]) -> bool
-    ensures { IsTrue result ↔ IsPlain word.now }
-{
-    match word {
-        [b'+', ..] => false,
-        [b'0'] => true,
-        [b'0', ..] => false,
-        _ => true,
-    }
-}
-
-/// The height that the word is.
-fn read_height(word: &[u8]) -> Option<u32>
-    ensures found { IfSome result (λ height. IsHeight word.now height) }
-    ensures one { (height : ℕ) → IsHeight word.now height → result ≡ Some height }
-{
-    let text = match str::from_utf8(word) {
-        Ok(text) => text,
-        Err(_) => return None,
-    };
-    match text.parse::<u32>() {
-        Ok(height) if is_plain(word) && height <= HIGHEST_HEIGHT => Some(height),
-        _ => None,
-    }
-}
 
 /// The hash that the word displays.
 fn read_hash(word: &[u8]) -> Option<Hash32>
@@ -78,7 +67,7 @@ fn read_host(word: &[u8]) -> Option<Name>
 }
 
 /// The command that makes the files of these texts.
-pub(crate) fn read_fields(height: &[u8], hash: &[u8], host: &[u8]) -> Option<Command>
+fn read_fields(height: &[u8], hash: &[u8], host: &[u8]) -> Option<Command>
     ensures found { IfSome result (λ asked. IsInitOf height.now hash.now host.now asked) }
     ensures one { (base : Base) (name : List ℕ) → AreFields height.now hash.now host.now base name → result ≡ Some (Command.Init base name) }
 {
@@ -93,10 +82,27 @@ pub(crate) fn read_fields(height: &[u8], hash: &[u8], host: &[u8]) -> Option<Com
     Some(Command::Init(base, host))
 }
 
+/// The command that serves by these numbers.
+fn read_plan(udp: &[u8], feed: &[u8], turns: &[u8]) -> Option<Command>
+    ensures found { IfSome result (λ asked. IsServeOf udp.now feed.now turns.now asked) }
+    ensures one { (plan : Plan) → AreNumbers udp.now feed.now turns.now plan → result ≡ Some (Command.Serve plan) }
+{
+    let udp = read_port(udp)?;
+    let feed = read_port(feed)?;
+    let turns = read_turns(turns)?;
+    Some(Command::Serve(Plan { udp, feed, turns }))
+}
+
 fn is_replay(word: &[u8]) -> bool
     ensures { IsTrue result ↔ (word.now ≡ codes "replay") }
 {
     word == b"replay".as_slice()
+}
+
+fn is_dump(word: &[u8]) -> bool
+    ensures { IsTrue result ↔ (word.now ≡ codes "dump") }
+{
+    word == b"dump".as_slice()
 }
 
 fn is_init(word: &[u8]) -> bool
@@ -111,6 +117,12 @@ fn is_regtest(word: &[u8]) -> bool
     word == b"regtest".as_slice()
 }
 
+fn is_serve(word: &[u8]) -> bool
+    ensures { IsTrue result ↔ (word.now ≡ codes "serve") }
+{
+    word == b"serve".as_slice()
+}
+
 /// The command that the words ask for, or none.
 pub(crate) fn read_words(words: &Words) -> Option<Command>
     ensures found { IfSome result (λ asked. Asks words.now.items asked) }
@@ -118,6 +130,10 @@ pub(crate) fn read_words(words: &Words) -> Option<Command>
 {
     match words.as_slice() {
         [word] if is_replay(word.as_slice()) => Some(Command::Replay),
+        [word] if is_dump(word.as_slice()) => Some(Command::Dump),
+        [form, udp, feed, turns] if is_serve(form.as_slice()) => {
+            read_plan(udp.as_slice(), feed.as_slice(), turns.as_slice())
+        }
         [form, profile, height, hash, host]
             if is_init(form.as_slice()) && is_regtest(profile.as_slice()) => {
             read_fields(height.as_slice(), hash.as_slice(), host.as_slice())

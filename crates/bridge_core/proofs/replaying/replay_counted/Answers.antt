@@ -4,7 +4,7 @@ use Rattle.disk_model.specs.Moments.{start}
 use Rattle.frame_loop.specs.Transcript.{streams}
 use Rattle.name_store.specs.declared.faults.OpenFault.TheVariants.{NoMemory}
 use Rattle.bridge_core.specs.Outcome.{outside}
-use Rattle.bridge_core.proofs.OutcomeLemmas.{replays_unopened}
+use Rattle.bridge_core.proofs.OutcomeLemmas.{replays_unbegun}
 use Rattle.bridge_core.proofs.StatusLemmas.{memory_not_fault}
 use Rattle.bridge_core.proofs.replaying.replay_counted.Goals as goal
 
@@ -12,9 +12,9 @@ pub returns-in-Err : goal.returns-in-Err
 returns-in-Err g c =
     let seen = g.D.Disk.seen in
     let same = outside (streams (g.S.Source.seen c.args.source.now) (g.K.Sink.seen c.args.sink.now)) (seen c.args.disk.now) in
-    replays_unopened (record { tells = g.D.Disk.tells; seen = seen; disk = c.args.disk.now; old = same; new = same; limit = c.args.limit }) NoMemory
+    replays_unbegun (record { tells = g.D.Disk.tells; seen = seen; disk = c.args.disk.now; old = same; new = same; limit = c.args.limit }) NoMemory refl
     (record {
-      unread = record { streams = refl; any_moment = λ told. start (λ image_is is. is) };
+      untouched = λ told. start (λ image_is is. is);
       answer = λ told. tt;
       follows = λ told run stands. tt;
       never_fell = NeverFell_refl (seen c.args.disk.now).faults;

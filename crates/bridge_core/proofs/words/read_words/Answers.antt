@@ -1,8 +1,24 @@
-use Rattle.std.proofs.Common.{List, ℕ, sym, subst}
+use Rattle.std.proofs.Common.{List, ℕ, sym, subst, arith}
 use Rattle.name_store.specs.Host.{IsHostOf}
-use Rattle.bridge_core.specs.Words.{Asks, IsHeight, IsHash}
-use Rattle.bridge_core.proofs.WordLemmas.{asked_by}
+use Rattle.bridge_core.specs.Words.{Asks, IsHeight, IsPort, AreTurns, IsHash}
+use Rattle.bridge_core.proofs.WordLemmas.{asked_by, served_by}
 use Rattle.bridge_core.proofs.words.read_words.Goals as goal
+
+pub returns-in-len4-clause-one : goal.returns-in-len4-clause-one
+returns-in-len4-clause-one c = λ asked is.
+    served_by c.as_slice.result.now (record {
+      udp = c.udp-item.result;
+      feed = c.feed-item.result;
+      turns = c.turns-item.result;
+      udp_at = c.udp-item.is;
+      feed_at = c.feed-item.is;
+      turns_at = c.turns-item.is;
+      long = omega (arith, c.in-len4.len_at_least, c.in-len4.len_below);
+    }) c.read_plan.result (λ plan are. c.read_plan.ensures.one plan (record {
+      udp_is = subst (λ (t : List ℕ). IsPort t plan.udp) (sym c.as_slice-in-len4.ensures) are.udp_is;
+      feed_is = subst (λ (t : List ℕ). IsPort t plan.feed) (sym c.as_slice-in-len4-2.ensures) are.feed_is;
+      turns_are = subst (λ (t : List ℕ). AreTurns t plan.turns) (sym c.as_slice-in-len4-3.ensures) are.turns_are;
+    })) asked (subst (λ (w : List (List ℕ)). Asks w asked) (sym c.as_slice.ensures) is)
 
 pub returns-in-len5-clause-one : goal.returns-in-len5-clause-one
 returns-in-len5-clause-one c = λ asked is.

@@ -1,0 +1,20 @@
+use Rattle.std.proofs.Common.{refl}
+use Rattle.fault_counts.proofs.FaultLemmas.{NeverFell_refl}
+use Rattle.disk_model.specs.Moments.{start}
+use Rattle.name_store.specs.declared.faults.OpenFault.TheVariants.{NoMemory}
+use Rattle.bridge_core.specs.Serving.{serve_seen}
+use Rattle.bridge_core.proofs.ServingLemmas.{serves_unbegun}
+use Rattle.bridge_core.proofs.StatusLemmas.{memory_not_fault}
+use Rattle.bridge_core.proofs.serving.serve_counted.Goals as goal
+
+pub returns-in-Err : goal.returns-in-Err
+returns-in-Err g c =
+    let seen = g.D.Disk.seen in
+    let same = serve_seen (g.P.Port.seen c.args.port.now) (seen c.args.disk.now) in
+    serves_unbegun (record { tells = g.D.Disk.tells; seen = seen; disk = c.args.disk.now; old = same; new = same; plan = c.args.plan }) NoMemory refl (record {
+      untouched = λ told. start (λ image_is is. is);
+      answer = λ told. tt;
+      follows = λ told run stands. tt;
+      never_fell = NeverFell_refl (seen c.args.disk.now).faults;
+      cause = λ e. memory_not_fault e;
+    })

@@ -1,0 +1,62 @@
+-- What `serve` asked its port, where its frames and replies led, and what its files stand for.
+use Rattle.std.specs.Prelude.{◌≡◌, ◌⊎◌, Bool, IsTrue, List, [], Some}
+use Rattle.fault_counts.specs.Faults.{NeverFell, Rose}
+use Rattle.byte_io.specs.Port.{Note, PortSeen, Adds, NotesFault}
+use Rattle.disk_model.specs.DiskSeen.{DiskSeen, bytes_in}
+use Rattle.port_loop.specs.Transcript.{Transcript}
+use Rattle.port_loop.specs.declared.attending.Ending.{Ending}
+use Rattle.port_loop.specs.declared.attending.Ending.TheVariants as endings
+use Rattle.machine.specs.RunState.{RunState}
+use Rattle.name_store.specs.Stands.{Stands}
+use Rattle.bridge_core.specs.Opening.{IsUnbegun, AddsNone}
+use Rattle.bridge_core.specs.Outcome.{EndsWell}
+use Rattle.bridge_core.specs.Reached.{Beginning, Reached, Broken}
+use Rattle.bridge_core.specs.declared.bridge.Turned.{Turned}
+use Rattle.bridge_core.specs.declared.status.Status.{Status}
+use Rattle.bridge_core.specs.declared.status.Status.TheVariants.{Done, DiskFault, PortFault}
+use Rattle.bridge_core.specs.declared.words.Plan.{Plan}
+
+-- what `serve` is handed, as contracts see it
+pub record ServeSeen : Type 0 where
+  pub port : PortSeen
+  pub disk : DiskSeen
+
+abbrev pub serve_seen : PortSeen → DiskSeen → ServeSeen
+serve_seen port disk = record { port = port; disk = disk }
+
+-- a bridge that has ended is a fault of the disk
+abbrev pub status_of_ending : Ending → Status
+status_of_ending endings.Done = Done
+status_of_ending endings.Ended = DiskFault
+
+-- The files were opened, the port was bound to the two numbers, and the loop over its polls ended so, from a bridge that no
+-- frame had changed: it stood for the run state that the files stood for as they were read.
+pub record ServesSo {D : Type 0} (tells : Bool) (seen : D → DiskSeen) (disk : D) (old new : ServeSeen) (plan : Plan) (how : Ending) : Type 0 where
+  pub start : Beginning
+  pub start_is : start.disk ≡ old.disk
+  pub begins : IsTrue tells → Stands (bytes_in old.disk) start.run
+  pub bound : new.port.bound ≡ Some (plan.udp, plan.feed)
+  pub notes : List Note
+  pub added : Adds old.port.notes new.port.notes notes
+  pub first : Turned × D
+  pub at_first : Reached tells seen start [] [] first
+  pub last : Turned
+  pub transcript : Transcript (Reached tells seen) (Broken tells seen) plan.turns notes first how (last, disk)
+
+-- Each status with its cause. Where no poll was made, whatever a crash left was
+-- there at the start; and the port was asked nothing, or there was a fault as it was to be bound.
+pub data ServeEnds {D : Type 0} (tells : Bool) (seen : D → DiskSeen) (disk : D) (old new : ServeSeen) (plan : Plan) : Status → Type 0 where
+  done : ServesSo tells seen disk old new plan endings.Done → ServeEnds tells seen disk old new plan Done
+  broken : ServesSo tells seen disk old new plan endings.Ended → ServeEnds tells seen disk old new plan DiskFault
+  unbound : NotesFault old.port new.port [] → AddsNone tells old.disk new.disk → ServeEnds tells seen disk old new plan PortFault
+  unbegun : (status : Status) → new.port ≡ old.port → AddsNone tells old.disk new.disk → IsUnbegun tells old.disk new.disk status
+      → ServeEnds tells seen disk old new plan status
+
+-- no count of faults fell; how it ended; and on files that stand for a run state, where the disk doesn't fail, all polls are
+-- made, or memory ran out, or the port couldn't be bound
+pub record Serves {D : Type 0} (tells : Bool) (seen : D → DiskSeen) (disk : D) (old new : ServeSeen) (plan : Plan) (status : Status) : Type 0 where
+  pub port_later : NeverFell old.port.faults new.port.faults
+  pub disk_later : NeverFell old.disk.faults new.disk.faults
+  pub ending : ServeEnds tells seen disk old new plan status
+  pub complete : IsTrue tells → (run : RunState) → Stands (bytes_in old.disk) run → ¬ (Rose old.disk.faults new.disk.faults)
+      → EndsWell status ⊎ (status ≡ PortFault)

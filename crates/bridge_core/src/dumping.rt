@@ -1,0 +1,35 @@
+ghost use Rattle.std.specs.Prelude.{◌≡◌};
+ghost use Rattle.bridge_core.specs.Dumping.{Dumps, dump_seen, status_of_report};
+
+use crate::bridge::{Bridge, Turned};
+use crate::opening::{let_go, unopened};
+use crate::status::Status;
+use byte_io::Sink;
+use disk_model::Disk;
+use name_report::ReportFault;
+use std::alloc::Global;
+
+/// The status of a report that ended so.
+fn status_of(written: Result<(), ReportFault>) -> Status
+    ensures { result ≡ status_of_report written }
+{
+    match written {
+        Ok(()) => Status::Done,
+        Err(ReportFault::SinkFault) => Status::SinkFault,
+        Err(ReportFault::NoMemory) => Status::NoMemory,
+    }
+}
+
+/// Opens the files, and writes the report of the names of their chain. It writes nothing to the files and cuts nothing.
+pub(crate) fn dump<K: Sink, D: Disk>(alloc: Global, sink: &mut K, disk: &mut D) -> Status
+    ensures { Dumps D.tells (dump_seen (K.seen sink.old) (D.seen disk.old)) (dump_seen (K.seen sink.new) (D.seen disk.new)) result }
+{
+    match Bridge::open(alloc, disk) {
+        Ok(bridge) => {
+            let written = bridge.report(alloc, sink);
+            let_go(Turned::On(bridge));
+            status_of(written)
+        }
+        Err(fault) => unopened(fault),
+    }
+}

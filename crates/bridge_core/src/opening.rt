@@ -1,0 +1,21 @@
+ghost use Rattle.std.specs.Prelude.{◌≡◌};
+ghost use Rattle.bridge_core.specs.Opening.{status_of_fault};
+
+use crate::bridge::Turned;
+use crate::status::Status;
+use name_store::OpenFault;
+
+/// The status of files that couldn't be opened.
+pub(crate) fn unopened(fault: OpenFault) -> Status
+    ensures { result ≡ status_of_fault fault }
+{
+    match fault {
+        OpenFault::Uninitialised => Status::Uninitialised,
+        OpenFault::Damaged { file, at } => Status::Damaged { file, at },
+        OpenFault::DiskFault => Status::DiskFault,
+        OpenFault::NoMemory => Status::NoMemory,
+    }
+}
+
+/// One place lets go of the bridge: each such place is dear to prove.
+pub(crate) fn let_go(_last: Turned) {}
