@@ -1,20 +1,13 @@
-//! The program: it follows the frames on standard input, answers them on standard output, and keeps them in the files of the
-//! folder that it runs in.
+//! The program: it follows frames on standard input or a feed, keeps them in the files of the folder that it runs in, and answers
+//! queries over a port.
 #![tactic(auto)]
 
-mod file_disk;
-mod folder;
-mod reader_source;
-mod writer_sink;
-
 use bridge_core::{Status, run};
-use file_disk::FileDisk;
 use nmc_base::{Bytes, NoMemory, Words};
-use reader_source::ReaderSource;
 use std::process::ExitCode;
 use std::rt::Env;
 use std::{env, io};
-use writer_sink::WriterSink;
+use system_io::{FileDisk, ReaderSource, SocketPort, WriterSink};
 
 /// What the program was called with: the words behind its name, or none where they are no text.
 fn words_of(rt: &(impl Env + AllocGlobal)) -> Result<Words, NoMemory> {
@@ -37,7 +30,15 @@ fn status_of(rt: &HostRuntime) -> Status {
             let mut source = ReaderSource::new(rt.reader());
             let mut sink = WriterSink::new(io::writer(rt));
             let mut disk = FileDisk::new(rt);
-            run(rt.alloc(), &words, &mut source, &mut sink, &mut disk)
+            let mut port = SocketPort::new(rt);
+            run(
+                rt.alloc(),
+                &words,
+                &mut source,
+                &mut sink,
+                &mut disk,
+                &mut port,
+            )
         }
         Err(NoMemory) => Status::NoMemory,
     }

@@ -5,7 +5,7 @@ use std::io::Read;
 
 /// A reader as a source: it counts the reads that failed, and tells of its bytes what the reader tells.
 #[derive(Drop)]
-pub(crate) struct ReaderSource<R> {
+pub struct ReaderSource<R> {
     reader: R,
     faults: u64,
     failed: bool,
@@ -13,7 +13,7 @@ pub(crate) struct ReaderSource<R> {
 
 impl<R> ReaderSource<R> {
     /// No read was made yet.
-    pub(crate) fn new(reader: R) -> Self
+    pub fn new(reader: R) -> Self
         ensures { result ≡ record { reader = reader; faults = 0; failed = false } }
     {
         ReaderSource {

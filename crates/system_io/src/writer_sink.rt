@@ -5,7 +5,7 @@ use std::io::Write;
 
 /// A writer as a sink: it counts the writes that failed, and tells of its bytes what the writer tells.
 #[derive(Drop)]
-pub(crate) struct WriterSink<W> {
+pub struct WriterSink<W> {
     writer: W,
     faults: u64,
     failed: bool,
@@ -15,7 +15,7 @@ pub(crate) struct WriterSink<W> {
 
 impl<W> WriterSink<W> {
     /// No write was made yet.
-    pub(crate) fn new(writer: W) -> Self
+    pub fn new(writer: W) -> Self
         ensures { result ≡ record { writer = writer; faults = 0; failed = false; stalled = false; stalls = 0 } }
     {
         WriterSink {

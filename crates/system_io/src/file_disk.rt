@@ -8,14 +8,14 @@ use std::io;
 
 /// The files of a folder as a disk: it counts the calls that failed, and tells nothing of what the files hold.
 #[derive(Drop)]
-pub(crate) struct FileDisk<'a> {
+pub struct FileDisk<'a> {
     folder: Folder<'a>,
     faults: u64,
 }
 
 impl<'a> FileDisk<'a> {
     /// No call was made yet, and no file is opened.
-    pub(crate) fn new(rt: &'a HostRuntime) -> Self {
+    pub fn new(rt: &'a HostRuntime) -> Self {
         FileDisk {
             folder: Folder::new(rt),
             faults: 0,
@@ -40,7 +40,7 @@ fn count<T>(faults: &mut u64, answer: io::Result<T>) -> Result<T, Failed>
 impl<'a> Disk for FileDisk<'a> {
     ghost use Rattle.std.specs.Prelude.{false, []};
     ghost use Rattle.disk_model.specs.FileState.{synced_file};
-    ghost use Rattle.bridge_server.specs.Silence.{no_telling};
+    ghost use Rattle.system_io.specs.Silence.{no_telling};
 
     ghost tells = { false };
 

@@ -1,0 +1,5 @@
+pub mod Arrival
+pub mod Client
+pub mod Silence
+pub mod SocketPort
+pub mod Unsent

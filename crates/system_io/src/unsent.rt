@@ -1,0 +1,90 @@
+ghost use Rattle.std.specs.Prelude.{◌≡◌, ◌++◌, ◌==◌, [], length, OnOk, OnErr};
+ghost use Rattle.system_io.specs.Unsent.{Moves};
+
+use nmc_base::NoMemory;
+use std::alloc::Global;
+use std::io::{self, ErrorKind, Write};
+use std::marker::Model;
+
+/// Bytes that a writer is still to take, in order.
+#[derive(Drop)]
+pub(crate) struct Unsent {
+    bytes: Vec<u8>,
+    // how many of them were taken
+    taken: usize,
+}
+
+impl Model for Unsent {
+    ghost use Rattle.std.specs.Prelude.{◌≤◌, List, ℕ, drop, length};
+
+    ghost Value = { List ℕ };
+
+    ghost view = { λ u. drop u.taken u.bytes.items };
+
+    ghost invariant = { λ u. u.taken ≤ length u.bytes.items };
+}
+
+impl Unsent {
+    pub(crate) fn new(alloc: Global) -> Unsent
+        ensures { result ≡ [] }
+    {
+        Unsent {
+            bytes: Vec::new(alloc),
+            taken: 0,
+        }
+    }
+
+    pub(crate) fn is_empty(&self) -> bool
+        ensures { result ≡ (length self.now == 0) }
+    {
+        self.taken == self.bytes.len()
+    }
+
+    pub(crate) fn extend(&mut self, bytes: &[u8]) -> Result<(), NoMemory>
+        ensures ok { OnOk result (self.new ≡ self.old ++ bytes.now) }
+        ensures err { OnErr result (self.new ≡ self.old) }
+    {
+        self.bytes.extend_from_slice(bytes)?;
+        Ok(())
+    }
+
+    /// Gives what is left to the writer, as much as it takes in one call, and says how much that was.
+    fn write_once<W: Write>(&mut self, writer: &mut W) -> io::Result<usize>
+        ensures { Moves (W.contents writer.old) (W.contents writer.new) self.old self.new }
+    {
+        let (_, left) = self.bytes.split_at(self.taken);
+        let count = writer.write(left)?;
+        self.taken += count;
+        Ok(count)
+    }
+
+    /// Gives what is left to the writer, as far as it takes it without a wait.
+    #[tactic(auto, using(crate::proofs::UnsentLemmas::Moves_append, crate::proofs::UnsentLemmas::Moves_nothing))]
+    pub(crate) fn send_on<W: Write>(&mut self, writer: &mut W) -> io::Result<()>
+        ensures { Moves (W.contents writer.old) (W.contents writer.new) self.old self.new }
+    {
+        for _ in 0..u64::MAX {
+            if self.is_empty() {
+                self.clear();
+                break;
+            }
+            match self.write_once(writer) {
+                Ok(0) => return Err(ErrorKind::WriteZero.into()),
+                Ok(_) => {}
+                Err(error) if error.kind() == ErrorKind::Interrupted => {}
+                Err(error) if error.kind() == ErrorKind::WouldBlock => break,
+                Err(error) => return Err(error),
+            }
+        }
+        Ok(())
+    }
+
+    /// Lets go of what was taken. The room for it is kept.
+    fn clear(&mut self)
+        requires { length self.old ≡ 0 }
+        ensures { self.new ≡ self.old }
+    {
+        self.bytes.clear();
+        self.taken = 0;
+    }
+}
