@@ -1,4 +1,4 @@
-//! Trials of the index over chains of made blocks: what is served, the greatest height, and want of memory.
+//! Trials of the index over a chain of blocks, for what no reply shows: want of memory at each step.
 #![tactic(auto)]
 
 #[cfg(test)]

@@ -37,6 +37,24 @@ fn number_of(refusal: &Refusal) -> Answer {
     }
 }
 
+/// The chain behind a block, and the answer.
+fn settled<L: Ledger>(outcome: StageOutcome, steps: &mut Steps<L>) -> (Chain, Answer) {
+    match outcome {
+        StageOutcome::Staged(staged) => (staged.commit(steps), (0, 0)),
+        StageOutcome::Refused(chain, refusal) => (chain, number_of(&refusal)),
+        StageOutcome::NoMemory(chain) => (chain, NO_MEMORY),
+    }
+}
+
+/// The chain behind a disconnect, and whether there was memory for it.
+fn settled_back<L: Ledger>(outcome: BackOutcome, steps: &mut Steps<L>) -> (Chain, bool) {
+    match outcome {
+        BackOutcome::StagedBack(staged) => (staged.commit(steps), true),
+        BackOutcome::Refused(chain, _) => (chain, true),
+        BackOutcome::NoMemory(chain) => (chain, false),
+    }
+}
+
 impl Held {
     /// A chain of the base alone.
     pub fn at_base(alloc: Global, base: Base) -> Result<Held, Stop>
@@ -45,13 +63,6 @@ impl Held {
         match Chain::at_base(alloc, base) {
             Ok(chain) => Ok(Held { chain: Some(chain) }),
             Err(_) => Err(Stop::NoMemory),
-        }
-    }
-
-    pub fn chain(&self) -> Result<&Chain, Stop> {
-        match &self.chain {
-            Some(chain) => Ok(chain),
-            None => Err(Stop::Wrong("a chain")),
         }
     }
 
@@ -69,6 +80,10 @@ impl Held {
         }
     }
 
+    fn put(&mut self, chain: Chain) {
+        self.chain = Some(chain);
+    }
+
     /// Connects the bytes of a block, and tells the answer.
     pub fn connect<L: Ledger>(
         &mut self,
@@ -80,12 +95,9 @@ impl Held {
             return Err(Stop::Wrong("too long"));
         }
         let chain = self.take()?;
-        let (chain, answer) = match stage_bytes(alloc, chain, bytes, AREA.0, AREA.1, steps) {
-            StageOutcome::Staged(staged) => (staged.commit(steps), (0, 0)),
-            StageOutcome::Refused(chain, refusal) => (chain, number_of(&refusal)),
-            StageOutcome::NoMemory(chain) => (chain, NO_MEMORY),
-        };
-        self.chain = Some(chain);
+        let outcome = stage_bytes(alloc, chain, bytes, AREA.0, AREA.1, steps);
+        let (chain, answer) = settled(outcome, steps);
+        self.put(chain);
         Ok(answer)
     }
 
@@ -97,12 +109,9 @@ impl Held {
     ) -> Result<bool, Stop> {
         let chain = self.take()?;
         let hash = chain.tip().hash;
-        let (chain, is_done) = match stage_hash(alloc, chain, hash, AREA.0, AREA.1, steps) {
-            BackOutcome::StagedBack(staged) => (staged.commit(steps), true),
-            BackOutcome::Refused(chain, _) => (chain, true),
-            BackOutcome::NoMemory(chain) => (chain, false),
-        };
-        self.chain = Some(chain);
+        let outcome = stage_hash(alloc, chain, hash, AREA.0, AREA.1, steps);
+        let (chain, is_done) = settled_back(outcome, steps);
+        self.put(chain);
         Ok(is_done)
     }
 }

@@ -1,16 +1,11 @@
-//! Trials: chains of made blocks, each with the answer that it gets.
+//! The trial: blocks in hexadecimal, each with the answer that it gets.
 //!
-//! A line of a trial is a block: its height, `ok` or its refusal, and its transactions between bars. Blocks without names
-//! stand below it up to its height. A refusal is its number and the index of the transaction, as `24:1`. Or it is `back`,
-//! the disconnect of the newest block; or it tells the value that is served for a name, as `= name:value`, or as `= name`
-//! where none is; or how many values it was given that stand, as `# name count`.
+//! A line is a block: `ok`, or the number of its refusal and the index of the transaction, as `24:1`; and its bytes. Or it is
+//! `back`, the disconnect of the newest block; or a word on the block that stands below it, behind `#`.
 
-use super::blocks::block_of;
 use super::held::{Answer, Held, NO_MEMORY};
-use super::labels::Labels;
-use super::served::{has_history, is_served};
 use super::stop::Stop;
-use nmc_base::{Base, Hash32, Profile, Steps, Tip};
+use nmc_base::{Base, Hash32, Profile, Steps};
 use std::alloc::Global;
 use std::process::Abort;
 use std::sync::ledger::Ledger;
@@ -24,8 +19,8 @@ pub enum Lacking {
     Again,
 }
 
-/// The base of trials.
-pub const BASE: Base = Base {
+/// The base of the trial.
+const BASE: Base = Base {
     profile: Profile::Regtest,
     height: 0,
     hash: Hash32([0; 32]),
@@ -34,12 +29,15 @@ pub const BASE: Base = Base {
 fn wanted_of(text: &str) -> Result<Answer, Stop> {
     match text.split_once(':') {
         None => Ok((0, 0)),
-        Some((number, index)) => Ok((number.parse::<u8>()?, index.parse::<u32>()?)),
+        Some((number, index)) => Ok((
+            number.parse::<u8>().ok().ok_or("a number")?,
+            index.parse::<u32>().ok().ok_or("an index")?,
+        )),
     }
 }
 
 /// Connects a block, which gets the wanted answer.
-pub fn gets<L: Ledger>(
+fn gets<L: Ledger>(
     rt: &impl Abort,
     alloc: Global,
     held: &mut Held,
@@ -53,39 +51,30 @@ pub fn gets<L: Ledger>(
         answer = held.connect(alloc, bytes, steps)?;
     }
     let height = held.tip()?.height;
-    assert!(rt; answer == wanted, "the block of height {height}");
+    assert!(rt; answer == wanted, "behind the block of height {height}");
     Ok(())
 }
 
-/// The block on the tip with these transactions.
-fn made(
-    alloc: Global,
-    tip: Tip,
-    labels: &mut Labels,
-    text: &str,
-    lacking: Lacking,
-) -> Result<Vec<u8>, Stop> {
-    match block_of(alloc, tip, labels, text) {
-        Err(Stop::NoMemory) if lacking == Lacking::Again => block_of(alloc, tip, labels, text),
-        made => made,
-    }
+/// Reads a block into the buffer, and gives its bytes.
+fn read<'a>(digits: &str, buffer: &'a mut [u8]) -> Result<&'a [u8], Stop> {
+    let bytes = buffer.get_mut(..digits.len() / 2).ok_or("a long block")?;
+    hex::decode_to_slice(digits, bytes).ok().ok_or("no digits")?;
+    Ok(bytes)
 }
 
-/// Connects blocks without names up to the height.
-fn grow<L: Ledger>(
+/// A block of the trial.
+fn block<L: Ledger>(
     rt: &impl Abort,
     alloc: Global,
     held: &mut Held,
-    height: u32,
+    line: &str,
     lacking: Lacking,
     steps: &mut Steps<L>,
 ) -> Result<(), Stop> {
-    let mut labels = Labels::new();
-    for _ in held.tip()?.height..height {
-        let bytes = made(alloc, held.tip()?, &mut labels, "", lacking)?;
-        gets(rt, alloc, held, &bytes, (0, 0), lacking, steps)?;
-    }
-    Ok(())
+    let (wanted, digits) = line.split_once(' ').ok_or("an answer")?;
+    let mut buffer = [0; 400];
+    let bytes = read(digits, &mut buffer)?;
+    gets(rt, alloc, held, bytes, wanted_of(wanted)?, lacking, steps)
 }
 
 /// Disconnects the newest block.
@@ -107,49 +96,20 @@ fn back<L: Ledger>(
     Ok(())
 }
 
-/// A block of a trial: its height, the wanted answer, and its transactions.
-fn parts_of(line: &str) -> Result<(u32, Answer, &str), Stop> {
-    let (height, rest) = line.split_once(' ').ok_or("a height")?;
-    let (wanted, text) = rest.split_once(' ').unwrap_or((rest, ""));
-    Ok((height.parse::<u32>()?, wanted_of(wanted)?, text))
-}
-
-/// A block of a trial, behind those below it.
-fn block<L: Ledger>(
-    rt: &impl Abort,
-    alloc: Global,
-    held: &mut Held,
-    labels: &mut Labels,
-    line: &str,
-    lacking: Lacking,
-    steps: &mut Steps<L>,
-) -> Result<(), Stop> {
-    let (height, wanted, text) = parts_of(line)?;
-    grow(rt, alloc, held, height.saturating_sub(1), lacking, steps)?;
-    let bytes = made(alloc, held.tip()?, labels, text, lacking)?;
-    gets(rt, alloc, held, &bytes, wanted, lacking, steps)
-}
-
-/// A line of a trial.
 fn line<L: Ledger>(
     rt: &impl Abort,
     alloc: Global,
     held: &mut Held,
-    labels: &mut Labels,
     line: &str,
     lacking: Lacking,
     steps: &mut Steps<L>,
 ) -> Result<(), Stop> {
-    if let Some(text) = line.strip_prefix("= ") {
-        is_served(rt, held.chain()?, text);
+    if line.starts_with('#') {
         return Ok(());
-    }
-    if let Some(text) = line.strip_prefix("# ") {
-        return has_history(rt, held.chain()?, text, steps);
     }
     match line {
         "back" => back(rt, alloc, held, lacking, steps),
-        _ => block(rt, alloc, held, labels, line, lacking, steps),
+        _ => block(rt, alloc, held, line, lacking, steps),
     }
 }
 
@@ -160,7 +120,22 @@ fn at_base(alloc: Global, lacking: Lacking) -> Result<Held, Stop> {
     }
 }
 
-/// The height of the tip behind all lines of a trial.
+/// The height of the tip behind all lines.
+fn lines<L: Ledger>(
+    rt: &impl Abort,
+    alloc: Global,
+    held: &mut Held,
+    text: &str,
+    lacking: Lacking,
+    steps: &mut Steps<L>,
+) -> Result<u32, Stop> {
+    for row in text.lines() {
+        line(rt, alloc, held, row, lacking, steps)?;
+    }
+    Ok(held.tip()?.height)
+}
+
+/// The height of the tip behind all lines of the trial.
 pub fn run<L: Ledger>(
     rt: &impl Abort,
     alloc: Global,
@@ -169,9 +144,5 @@ pub fn run<L: Ledger>(
     steps: &mut Steps<L>,
 ) -> Result<u32, Stop> {
     let mut held = at_base(alloc, lacking)?;
-    let mut labels = Labels::new();
-    for row in text.lines() {
-        line(rt, alloc, &mut held, &mut labels, row, lacking, steps)?;
-    }
-    Ok(held.tip()?.height)
+    lines(rt, alloc, &mut held, text, lacking, steps)
 }

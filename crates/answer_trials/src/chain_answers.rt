@@ -1,0 +1,53 @@
+ghost use Rattle.std.specs.Prelude.{◌≤◌};
+
+use crate::comparing::same;
+use bit_answers::{Answered, answer};
+use chain_state::Chain;
+use domain_text::{Name, absolute_name};
+use nmc_base::{Base, Hash32, Profile};
+use std::alloc::Global;
+use std::process::Abort;
+
+/// A query for an address of `x.bit.`
+const QUERY: [u8; 23] = [
+    0x12, 0x34, 1, 0, 0, 1, 0, 0, 0, 0, 0, 0, 1, b'x', 3, b'b', b'i', b't', 0, 0, 1, 0, 1,
+];
+
+/// That there is no such name: the SOA of `bit.` with the serial 40.
+const NAME_ERROR: &[u8] =
+    b"\x12\x34\x85\x03\x00\x01\x00\x00\x00\x01\x00\x00\x01x\x03bit\x00\x00\x01\x00\x01\x03bit\x00\x00\x06\x00\x01\x00\x00\x02\x58\x00\x37\x02ns\x07example\x00\x0ahostmaster\x02ns\x07example\x00\x00\x00\x00\x28\x00\x00\x02\x58\x00\x00\x02\x58\x00\x00\x1c\x20\x00\x00\x02\x58";
+
+/// The reply to a message from a chain of the base alone, at the height 40. None has 0 bytes.
+fn reply_to(alloc: Global, host: &Name, message: &[u8], buffer: &mut [u8; 512]) -> usize
+    ensures { result ≤ 512 }
+{
+    let base = Base {
+        profile: Profile::Regtest,
+        height: 40,
+        hash: Hash32([0; 32]),
+    };
+    match Chain::at_base(alloc, base) {
+        Ok(chain) => match answer(alloc, &chain, host, message, buffer) {
+            Answered::Dropped => 0,
+            Answered::Text(size) => size,
+        },
+        Err(_) => 0,
+    }
+}
+
+fn replies(rt: &impl Abort, alloc: Global, message: &[u8], want: &[u8]) {
+    let mut buffer = [0xaa; 512];
+    match absolute_name(b"ns.example.") {
+        Some(host) => {
+            let len = reply_to(alloc, &host, message, &mut buffer);
+            same(rt, &buffer[..len], want);
+        }
+        None => assert!(rt; false),
+    }
+}
+
+#[test]
+fn the_serial_is_the_height_of_the_tip(rt: HostRuntime) {
+    replies(&rt, rt.alloc(), &QUERY, NAME_ERROR);
+    replies(&rt, rt.alloc(), &QUERY[..11], b"");
+}

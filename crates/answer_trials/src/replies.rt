@@ -1,0 +1,106 @@
+ghost use Rattle.std.specs.Prelude.{◌≤◌, find, length};
+ghost use Rattle.std.specs.Option.{option_map};
+ghost use Rattle.std.specs.Str.{bytes_eq};
+
+use crate::comparing::same;
+use bit_replies::{Answered, answer};
+use bit_resolver::Zone;
+use domain_text::absolute_name;
+use import_expand::Names;
+use rows::{EXCHANGES, Exchange, Row};
+use std::alloc::Global;
+use std::process::Abort;
+
+mod rows;
+
+/// The names that are served.
+#[derive(Drop)]
+struct Index {
+    rows: &'static [Row],
+}
+
+impl Names for Index {
+    ghost served = { λ s name. option_map (λ r. r.1.now) (find (λ r. bytes_eq r.0.now name) s.rows.now) };
+
+    fn live(&self, name: &[u8]) -> Option<&[u8]> {
+        let row = self.rows.iter().find(|row| row.0.as_bytes() == name)?;
+        Some(row.1.as_bytes())
+    }
+}
+
+fn digit(c: u8) -> Option<u8> {
+    match c {
+        b'0'..=b'9' => Some(c - b'0'),
+        b'a'..=b'f' => Some(c - b'a' + 10),
+        _ => None,
+    }
+}
+
+/// Reads hexadecimal digits into a buffer of zeros. Gives how many bytes they make.
+fn read_hex(text: &[u8], into: &mut [u8]) -> usize
+    ensures { result ≤ length into.new }
+{
+    let mut digits: usize = 0;
+    for c in text {
+        let value = digit(*c).unwrap_or(0);
+        match into.get_mut(digits / 2) {
+            Some(byte) => *byte = byte.wrapping_mul(16).wrapping_add(value),
+            None => {}
+        }
+        digits = digits.wrapping_add(1);
+    }
+    (digits / 2).min(into.len())
+}
+
+/// The reply to a message, and its bytes. None has 0.
+fn reply_to(alloc: Global, served: &'static [Row], message: &[u8], buffer: &mut [u8; 512]) -> usize
+    ensures { result ≤ 512 }
+{
+    let Some(host) = absolute_name(b"ns.example.") else {
+        return 0;
+    };
+    let zone = Zone { host, serial: 40 };
+    match answer(alloc, &Index { rows: served }, &zone, message, 512, buffer) {
+        Answered::Dropped => 0,
+        Answered::Text(size) => size,
+    }
+}
+
+/// SERVFAIL to a query without EDNS that desires recursion: its bytes, but for the flags.
+fn is_failure(query: &[u8], reply: &[u8]) -> bool {
+    match (query.split_at_checked(4), reply.split_at_checked(4)) {
+        (Some((_, asked)), Some((front, rest))) => front == [0x12, 0x34, 0x81, 2].as_slice()
+            && rest == asked,
+        _ => false,
+    }
+}
+
+/// The reply to a query is this one, or, where that is allowed, SERVFAIL.
+fn replies(rt: &impl Abort, alloc: Global, row: &Exchange, may_fail: bool) {
+    let mut message = [0; 64];
+    let mut want = [0; 512];
+    let mut buffer = [0xaa; 512];
+    let message_len = read_hex(row.query, &mut message);
+    let want_len = read_hex(row.reply, &mut want);
+    let len = reply_to(alloc, row.served, &message[..message_len], &mut buffer);
+    if may_fail && is_failure(&message[..message_len], &buffer[..len]) {
+        return;
+    }
+    same(rt, &buffer[..len], &want[..want_len]);
+}
+
+// `checks/failing_trials_table` runs these two with allocations failing in turn: the first passes whichever it is, and the
+// second where there is none.
+#[test]
+fn a_query_without_memory_fails(rt: HostRuntime) {
+    for row in &EXCHANGES {
+        replies(&rt, rt.alloc(), row, true);
+    }
+}
+
+#[test]
+fn with_memory_each_query_is_answered(rt: HostRuntime) {
+    for row in &EXCHANGES {
+        replies(&rt, rt.alloc(), row, false);
+    }
+}

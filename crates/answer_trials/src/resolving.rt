@@ -1,0 +1,228 @@
+ghost use Rattle.std.specs.Prelude.{find};
+ghost use Rattle.std.specs.Option.{option_map};
+ghost use Rattle.std.specs.Str.{bytes_eq};
+
+use crate::comparing::same_text;
+use bit_resolver::{Resource, Sections, Zone, resolve};
+use dns_message::Question;
+use domain_text::{Name, absolute_name};
+use import_expand::Names;
+use nmc_base::Bytes;
+use rows::{CHASES, RULES, VECTORS};
+use std::alloc::Global;
+use std::process::Abort;
+use std::test::Fail;
+
+mod rows;
+
+/// A name and its value.
+#[derive(Drop)]
+struct Row<'a> {
+    name: &'a [u8],
+    value: &'a [u8],
+}
+
+/// The names that are served.
+#[derive(Drop)]
+struct Index<'a> {
+    rows: Vec<Row<'a>>,
+}
+
+impl<'a> Names for Index<'a> {
+    ghost served = { λ s name. option_map (λ r. r.value.now) (find (λ r. bytes_eq r.name.now name) s.rows.items) };
+
+    fn live(&self, name: &[u8]) -> Option<&[u8]> {
+        let row = self.rows.iter().find(|row| row.name == name)?;
+        Some(row.value)
+    }
+}
+
+/// A name's wire form, of labels that are joined and ended by dots.
+fn wire(alloc: Global, text: &str) -> Result<Bytes, Fail> {
+    let mut found = Bytes::new(alloc);
+    for label in text.split('.') {
+        let len = u8::try_from(label.len()).ok().ok_or("a long label")?;
+        found.extend(&[len])?;
+        found.extend(label.as_bytes())?;
+    }
+    Ok(found)
+}
+
+/// Adds bytes in hexadecimal.
+fn put_bytes(alloc: Global, out: &mut String, bytes: &[u8]) -> Result<(), Fail> {
+    let digits = hex::encode(alloc, bytes)?;
+    Ok(out.push_str(digits.as_str())?)
+}
+
+fn put_number(alloc: Global, out: &mut String, number: u16) -> Result<(), Fail> {
+    let digits = format!(in alloc; "{number}")?;
+    Ok(out.push_str(digits.as_str())?)
+}
+
+/// Adds a record: its owner, TYPE and RDATA.
+fn put_record(alloc: Global, out: &mut String, record: &Resource) -> Result<(), Fail> {
+    put_bytes(alloc, out, record.owner.wire())?;
+    out.push('/')?;
+    put_number(alloc, out, record.kind)?;
+    out.push('/')?;
+    put_bytes(alloc, out, record.rdata.as_slice())
+}
+
+/// Adds records, with commas between them, or `-`.
+fn put_records(alloc: Global, out: &mut String, records: &[Resource]) -> Result<(), Fail> {
+    if records.is_empty() {
+        out.push('-')?;
+    }
+    for (place, record) in records.iter().enumerate() {
+        if place > 0 {
+            out.push(',')?;
+        }
+        put_record(alloc, out, record)?;
+    }
+    Ok(())
+}
+
+/// Adds RCODE, AA and the sections.
+fn put_sections(alloc: Global, out: &mut String, sections: &Sections) -> Result<(), Fail> {
+    put_number(alloc, out, u16::from(sections.rcode))?;
+    out.push_str(if sections.aa { " 1 " } else { " 0 " })?;
+    put_records(alloc, out, sections.answer.as_slice())?;
+    out.push(' ')?;
+    put_records(alloc, out, sections.authority.as_slice())
+}
+
+fn shown(alloc: Global, sections: &Sections) -> Result<String, Fail> {
+    let mut out = String::new(alloc);
+    put_sections(alloc, &mut out, sections)?;
+    Ok(out)
+}
+
+fn number(text: &str) -> Result<u16, Fail> {
+    let number = text.parse::<u16>().ok().ok_or("no number")?;
+    Ok(number)
+}
+
+/// The answer to a question of this name, type and class.
+fn resolved(
+    alloc: Global,
+    index: &Index<'_>,
+    zone: &Zone,
+    name: &[u8],
+    kind: u16,
+    class: u16,
+) -> Result<Sections, Fail> {
+    let name = Name::from_wire(name).ok_or("no name")?;
+    let asked = Question {
+        id: 1,
+        flags: 0,
+        name: name.wire(),
+        kind,
+        class,
+    };
+    Ok(resolve(alloc, index, zone, &asked)?)
+}
+
+/// The same of a name as a text, as text.
+fn answer(
+    alloc: Global,
+    index: &Index<'_>,
+    zone: &Zone,
+    name: &str,
+    kind: u16,
+    class: u16,
+) -> Result<String, Fail> {
+    let wire = wire(alloc, name)?;
+    let sections = resolved(alloc, index, zone, wire.as_slice(), kind, class)?;
+    shown(alloc, &sections)
+}
+
+/// A name, a type, a class, and what the answer is.
+fn ask(
+    rt: &impl Abort,
+    alloc: Global,
+    index: &Index<'_>,
+    zone: &Zone,
+    line: &str,
+) -> Result<(), Fail> {
+    let (name, rest) = line.split_once(' ').ok_or("no name")?;
+    let (kind, rest) = rest.split_once(' ').ok_or("no type")?;
+    let (class, want) = rest.split_once(' ').ok_or("no class")?;
+    let got = answer(alloc, index, zone, name, number(kind)?, number(class)?)?;
+    same_text(rt, got.as_str(), want);
+    Ok(())
+}
+
+/// A host and a serial.
+fn zone(line: &str) -> Result<Zone, Fail> {
+    let (host, serial) = line.split_once(' ').ok_or("no serial")?;
+    let host = absolute_name(host.as_bytes()).ok_or("no host")?;
+    let serial = serial.parse::<u32>().ok().ok_or("no number")?;
+    Ok(Zone { host, serial })
+}
+
+/// A name and its value, with a space between them.
+fn served(line: &str) -> Result<Row<'_>, Fail> {
+    let (name, value) = line.split_once(' ').ok_or("no value")?;
+    Ok(Row {
+        name: name.as_bytes(),
+        value: value.as_bytes(),
+    })
+}
+
+/// A line that begins with `serve` has a name and its value; any other is a question and its answer.
+fn line<'a>(
+    rt: &impl Abort,
+    alloc: Global,
+    index: &mut Index<'a>,
+    zone: &Zone,
+    line: &'a str,
+) -> Result<(), Fail> {
+    match line.strip_prefix("serve ") {
+        Some(row) => Ok(index.rows.push(served(row)?)?),
+        None => ask(rt, alloc, index, zone, line),
+    }
+}
+
+fn lines<'a>(
+    rt: &impl Abort,
+    alloc: Global,
+    index: &mut Index<'a>,
+    zone: &Zone,
+    text: &'a str,
+) -> Result<(), Fail> {
+    for row in text.split('\n') {
+        line(rt, alloc, index, zone, row)?;
+    }
+    Ok(())
+}
+
+/// Lines, the first of which is the zone's.
+fn table(rt: &impl Abort, alloc: Global, text: &str) -> Result<(), Fail> {
+    let (first, rest) = text.split_once('\n').ok_or("no line")?;
+    let zone = zone(first)?;
+    let mut index = Index {
+        rows: Vec::new(alloc),
+    };
+    lines(rt, alloc, &mut index, &zone, rest)
+}
+
+/// The rules, one by one.
+#[test]
+fn rules(rt: HostRuntime) -> Result<(), Fail> {
+    table(&rt, rt.alloc(), RULES)
+}
+
+/// Rings, and ways of seven, eight and nine names.
+#[test]
+fn chases(rt: HostRuntime) -> Result<(), Fail> {
+    table(&rt, rt.alloc(), CHASES)
+}
+
+/// Answers of another program.
+#[test]
+fn answers_of_another_reading(rt: HostRuntime) -> Result<(), Fail> {
+    for text in VECTORS {
+        table(&rt, rt.alloc(), text)?;
+    }
+    Ok(())
+}

@@ -1,0 +1,11 @@
+//! Trials of the files: the disk in memory, the journal, the store; each stop, each failing call and each changed byte in turn.
+#![tactic(auto)]
+
+#[cfg(test)]
+mod comparing;
+#[cfg(test)]
+mod disk;
+#[cfg(test)]
+mod journal;
+#[cfg(test)]
+mod store;

@@ -1,0 +1,24 @@
+//! Trials of the program's words over streams, files and a port in memory: each of their calls fails in turn, each stop of the disk,
+//! and a name that a feed registers.
+#![tactic(auto)]
+
+#[cfg(test)]
+mod feed;
+#[cfg(test)]
+mod first_block;
+#[cfg(test)]
+mod outside;
+#[cfg(test)]
+mod polls;
+#[cfg(test)]
+mod registering;
+#[cfg(test)]
+mod replays;
+#[cfg(test)]
+mod statuses;
+#[cfg(test)]
+mod stops;
+#[cfg(test)]
+mod streams;
+#[cfg(test)]
+mod texts;

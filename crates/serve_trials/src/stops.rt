@@ -1,0 +1,235 @@
+//! The files and the first block in them: their bytes, each stop of the disk, and each of its calls failing.
+
+ghost use Rattle.std.specs.Prelude.{◌<◌};
+
+use crate::outside::{INIT, Outside, end_of, holds};
+use crate::streams::{Given, Pace, Taken};
+use crate::texts::bytes_of;
+use bridge_core::Status;
+use disk_model::{Choice, Disk, Failed, MemoryDisk};
+use nmc_base::NoMemory;
+use std::alloc::Global;
+use std::test::Fail;
+
+/// So many calls make the files: three for file 1, and a length, four, two and two for file 0.
+const MAKING: usize = 12;
+
+/// No run over the files of these tests makes more calls of the disk.
+const MANY: usize = 48;
+
+/// What came of a replay of the first block.
+#[derive(Clone, Copy, PartialEq, Eq)]
+enum Came {
+    /// The files aren't made, or not to their end.
+    Uninitialised,
+    /// The files weren't opened, for a fault of the disk, and nothing was written.
+    Unopened,
+    /// The reply told a fault of the disk, which ended the replay.
+    Faulted,
+    /// The block was accepted: it wasn't there before.
+    Accepted,
+    /// It stood there before.
+    NotOnTip,
+    Other,
+}
+
+fn told_by(status: Status, code: Option<u8>) -> Came {
+    match (status, code) {
+        (Status::Uninitialised, None) => Came::Uninitialised,
+        (Status::DiskFault, None) => Came::Unopened,
+        (Status::DiskFault, Some(0xfd)) => Came::Faulted,
+        (Status::Done, Some(0)) => Came::Accepted,
+        (Status::Done, Some(2)) => Came::NotOnTip,
+        _ => Came::Other,
+    }
+}
+
+/// Replays the first block.
+fn replay_first(alloc: Global, outside: &mut Outside) -> Result<Came, NoMemory> {
+    let input = bytes_of(alloc, "first")?;
+    outside.source = Given::new(alloc, &input, Pace::Whole, 0)?;
+    outside.sink = Taken::new(alloc, Pace::Whole, 0)?;
+    let status = end_of(alloc, outside, "replay");
+    Ok(told_by(status, outside.sink.bytes().first().copied()))
+}
+
+/// New files with the first block, on a disk of which this call fails; 0 is the number of none.
+fn make(alloc: Global, outside: &mut Outside, fail: u64) -> Result<Status, NoMemory> {
+    outside.disk = MemoryDisk::new(alloc, &[fail])?;
+    Ok(end_of(alloc, outside, INIT))
+}
+
+// ---- stops
+
+static CHOICES: [Choice; 5] = [
+    Choice::Old,
+    Choice::New,
+    Choice::Fill(0),
+    Choice::Fill(1),
+    Choice::Fill(255),
+];
+
+/// Whether files that were stopped after so many calls may be those of which this comes: before they were made to their end, or
+/// with the block or without it; and behind all calls with it.
+fn is_right(calls: usize, came: Came) -> bool {
+    match came {
+        Came::Uninitialised => calls < MAKING,
+        Came::Accepted => calls < MANY,
+        Came::NotOnTip => MAKING < calls,
+        _ => false,
+    }
+}
+
+/// A stop after so many calls, with this choice.
+fn is_right_after(
+    alloc: Global,
+    disk: &MemoryDisk,
+    after: &mut Outside,
+    calls: usize,
+    choice: Choice,
+) -> Result<bool, NoMemory> {
+    after.disk = disk.image(alloc, calls, choice)?;
+    Ok(is_right(calls, replay_first(alloc, after)?))
+}
+
+/// With each choice.
+fn is_right_by_each(
+    alloc: Global,
+    disk: &MemoryDisk,
+    after: &mut Outside,
+    calls: usize,
+) -> Result<bool, NoMemory> {
+    for choice in &CHOICES {
+        if !is_right_after(alloc, disk, after, calls, *choice)? {
+            return Ok(false);
+        }
+    }
+    Ok(true)
+}
+
+/// Each stop of these files.
+fn is_right_always(
+    alloc: Global,
+    disk: &MemoryDisk,
+    after: &mut Outside,
+) -> Result<bool, NoMemory> {
+    for calls in 0..MANY + 1 {
+        if !is_right_by_each(alloc, disk, after, calls)? {
+            return Ok(false);
+        }
+    }
+    Ok(true)
+}
+
+fn opens_always(alloc: Global, outside: &mut Outside) -> Result<bool, NoMemory> {
+    if make(alloc, outside, 0)? != Status::Done || replay_first(alloc, outside)? != Came::Accepted {
+        return Ok(false);
+    }
+    let mut after = Outside::new(alloc)?;
+    is_right_always(alloc, &outside.disk, &mut after)
+}
+
+#[test]
+fn opens_as_before_or_after_wherever_it_stops(rt: HostRuntime) -> Result<(), Fail> {
+    let mut outside = Outside::new(rt.alloc())?;
+    holds(&rt, opens_always(rt.alloc(), &mut outside)?, "each stop");
+    Ok(())
+}
+
+// ---- failing calls
+
+/// Where this call fails. The files open again then, and the replay goes on.
+fn fails_at(alloc: Global, outside: &mut Outside, call: u64) -> Result<Came, NoMemory> {
+    if make(alloc, outside, call)? != Status::Done {
+        return Ok(Came::Other);
+    }
+    let came = replay_first(alloc, outside)?;
+    if came == Came::Accepted {
+        return Ok(came);
+    }
+    match replay_first(alloc, outside)? {
+        Came::Accepted | Came::NotOnTip => Ok(came),
+        _ => Ok(Came::Other),
+    }
+}
+
+/// How many calls fail before the files are open, and how many in the command; None where another thing came of one.
+fn failing(alloc: Global, outside: &mut Outside) -> Result<Option<(u8, u8)>, NoMemory> {
+    let mut unopened = 0u8;
+    let mut faulted = 0u8;
+    for call in MAKING + 1..MANY {
+        match fails_at(alloc, outside, call as u64)? {
+            Came::Unopened => unopened = unopened.saturating_add(1),
+            Came::Faulted => faulted = faulted.saturating_add(1),
+            Came::Accepted => {}
+            _ => return Ok(None),
+        }
+    }
+    Ok(Some((unopened, faulted)))
+}
+
+/// A command that is accepted makes two writes and two syncs, and only where one of these fails the reply is code FD.
+#[test]
+fn tells_the_call_that_fails(rt: HostRuntime) -> Result<(), Fail> {
+    let mut outside = Outside::new(rt.alloc())?;
+    let is_so = match failing(rt.alloc(), &mut outside)? {
+        Some((unopened, faulted)) => unopened > 3 && faulted == 4,
+        None => false,
+    };
+    holds(&rt, is_so, "each call");
+    Ok(())
+}
+
+#[test]
+fn tells_the_call_of_making_that_fails(rt: HostRuntime) -> Result<(), Fail> {
+    let mut outside = Outside::new(rt.alloc())?;
+    for call in 1..MAKING + 1 {
+        let status = make(rt.alloc(), &mut outside, call as u64)?;
+        holds(&rt, status == Status::DiskFault, "a call");
+    }
+    Ok(())
+}
+
+// ---- bytes
+
+/// The three files with the first block: the header of the base at height 0 on 32 zero bytes, whose host is `ns.example.`, and the
+/// closed gate behind it; the block's record; and nothing.
+static FILES: [&str; 3] = [
+    "014e4d43494458310a0100000000 zeros 0b6e732e6578616d706c652e00",
+    "0000000000000000011e01000001 block 00",
+    "",
+];
+
+/// Whether the file has these bytes, and no more.
+fn has(disk: &mut MemoryDisk, file: u8, bytes: &[u8]) -> Result<bool, Failed>
+    requires { file < 3 }
+{
+    let mut found = [0; 512];
+    let count = disk.read(file, 0, &mut found)?;
+    Ok(&found[..count] == bytes)
+}
+
+/// Whether the files are these.
+fn are_files(alloc: Global, disk: &mut MemoryDisk) -> Result<bool, Fail> {
+    for file in 0..3u8 {
+        let bytes = bytes_of(alloc, FILES[file as usize])?;
+        if !has(disk, file, &bytes)? {
+            return Ok(false);
+        }
+    }
+    Ok(true)
+}
+
+#[test]
+fn keeps_the_first_block_in_its_files(rt: HostRuntime) -> Result<(), Fail> {
+    let mut outside = Outside::new(rt.alloc())?;
+    let status = make(rt.alloc(), &mut outside, 0)?;
+    let came = replay_first(rt.alloc(), &mut outside)?;
+    holds(
+        &rt,
+        status == Status::Done && came == Came::Accepted,
+        "made",
+    );
+    holds(&rt, are_files(rt.alloc(), &mut outside.disk)?, "bytes");
+    Ok(())
+}
