@@ -1,0 +1,149 @@
+"""The words, what is made of them, and the exit status."""
+import argparse
+import os
+import pathlib
+import sys
+import urllib.parse
+
+from . import __version__
+from .block_files import BlockFiles
+from .following import Choices, Follower
+from .http_calls import Cookie, Password
+from .node import Node
+from .pauses import Pauses
+from .progress import Progress
+from .server import Server
+from .troubles import Status, Stop
+
+NODE, SERVER = "http://127.0.0.1:18443/", "127.0.0.1:5301"
+COOKIE = "~/.namecoin/regtest/.cookie"
+PASSWORD = "NAMECOIN_RPC_PASSWORD"
+SHORTEST_PAUSE, LONGEST_PAUSE = 0.5, 60.0
+INTERRUPTED = 130
+
+EPILOG = """\
+exit statuses:
+  0    with --once or --blocks: the server stands at the tip of the best chain
+  2    the words are wrong, or a file that they name can't be read
+  3    the server refuses a block: its code, the rule's name, the block and the transaction are told
+  4    the server stands on blocks that the best chain doesn't have, down to its base or deeper than --deepest
+  5    the node refuses the name and the password, has pruned a block, or gave no good answer for --patience
+  6    what answers isn't the feed of a server, or it gave no good answer for --patience
+  130  interrupted from the terminal
+Whenever it ends, the server stands at a whole block, and the next run goes on from there.
+"""
+
+
+def seconds(text):
+    value = float(text)
+    if not 0 <= value < float("inf"):
+        raise ValueError
+    return value
+
+
+def some_seconds(text):
+    value = seconds(text)
+    if not value:
+        raise ValueError
+    return value
+
+
+def url(text):
+    parts = urllib.parse.urlsplit(text)
+    if parts.scheme != "http" or not parts.hostname or not parts.port or "@" in parts.netloc:
+        raise ValueError
+    return text
+
+
+def address(text):
+    host, _, port = text.rpartition(":")
+    if not host or not 0 < int(port) < 65536:
+        raise ValueError
+    return host.strip("[]"), int(port)
+
+
+def words():
+    layout = {"prog": "namecoin-feeder", "formatter_class": argparse.RawDescriptionHelpFormatter, "epilog": EPILOG}
+    about = "Keeps the feed of a Jaqhumpi server at the best chain of a Namecoin Core node."
+    parser = argparse.ArgumentParser(description=about, **layout)
+    add_source(parser.add_argument_group("where blocks come from"))
+    server = parser.add_argument_group("where they go")
+    server.add_argument("--server", metavar="HOST:PORT", type=address, default=SERVER, help="the server's feed (%(default)s)")
+    add_ways(parser.add_argument_group("how"))
+    parser.add_argument("--version", action="version", version=f"%(prog)s {__version__}")
+    return parser
+
+
+def add_source(group):
+    files = {"metavar": "FILE", "type": pathlib.Path}
+    group.add_argument("--node", metavar="URL", type=url, default=NODE, help="the node's JSON-RPC (%(default)s)")
+    group.add_argument("--cookie", default=COOKIE, help="the node's cookie (%(default)s)", **files)
+    group.add_argument("--user", metavar="NAME", help="a name in place of the cookie, with its password")
+    group.add_argument("--password-file", help=f"its first line is the password; without it the variable {PASSWORD} is", **files)
+    group.add_argument("--blocks", nargs="+", help="block files in place of a node: to their best chain, once", **files)
+
+
+def add_ways(group):
+    """How to follow."""
+    blocks, times = {"metavar": "BLOCKS", "type": int}, {"metavar": "SECONDS", "type": seconds}
+    some_times = {"metavar": "SECONDS", "type": some_seconds}
+    group.add_argument("--once", action="store_true", help="end as soon as the server stands at the node's tip")
+    group.add_argument("--every", default=1, help="look for a new tip so often (%(default)s)", **some_times)
+    group.add_argument("--deepest", default=1000, help="take no more blocks off in one reorganisation (%(default)s)", **blocks)
+    text = "wait so long for a node that is behind the server before blocks are taken off (%(default)s)"
+    group.add_argument("--grace", default=60, help=text, **times)
+    text = "end where nothing went well for so long; 0: try for ever (%(default)s)"
+    group.add_argument("--patience", default=0, help=text, **times)
+    text = "pauses between tries grow up to this (%(default)g)"
+    group.add_argument("--longest-pause", default=LONGEST_PAUSE, help=text, **some_times)
+    group.add_argument("--timeout", default=60, help="wait so long for an answer (%(default)s)", **some_times)
+
+
+def credentials(given):
+    if given.user is None:
+        return Cookie(given.cookie.expanduser())
+    if given.password_file is None:
+        if PASSWORD not in os.environ:
+            raise Stop(Status.WORDS, f"--user wants --password-file or the variable {PASSWORD}")
+        return Password(given.user, os.environ[PASSWORD])
+    try:
+        return Password(given.user, given.password_file.read_text().partition("\n")[0])
+    except OSError as fault:
+        raise Stop(Status.WORDS, f"{given.password_file} can't be read: {fault.strerror}") from None
+
+
+def source(given):
+    if given.blocks:
+        return BlockFiles(given.blocks)
+    return Node(given.node, credentials(given), given.timeout)
+
+
+def run(given, progress):
+    blocks = source(given)
+    server = Server(given.server, given.timeout)
+    pauses = Pauses(min(SHORTEST_PAUSE, given.longest_pause), given.longest_pause, given.patience, progress.say)
+    choices = Choices(given.once or blocks.is_fixed, given.every, given.deepest, given.grace)
+    try:
+        Follower(blocks, server, pauses, progress, choices).follow()
+    finally:
+        server.drop()
+        blocks.close()
+        progress.end()
+
+
+def main(arguments=None):
+    given = words().parse_args(arguments)
+    progress = Progress(sys.stderr)
+    try:
+        run(given, progress)
+    except Stop as stop:
+        progress.say(str(stop))
+        return int(stop.status)
+    except KeyboardInterrupt:
+        return INTERRUPTED
+    return int(Status.DONE)
+
+
+def command():
+    """The program where it is one file."""
+    sys.exit(main())

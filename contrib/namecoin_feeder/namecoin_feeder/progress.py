@@ -1,0 +1,82 @@
+"""How far the server is: a line that changes on a terminal, and otherwise a line every ten seconds."""
+import collections
+import time
+
+ON_TERMINAL, ELSEWHERE = 0.1, 10.0
+# The speed is that of so many seconds.
+SPAN = 10.0
+
+
+class Progress:
+    def __init__(self, out, clock=time.monotonic):
+        self.out, self.clock = out, clock
+        self.is_terminal = out.isatty()
+        self.every = ON_TERMINAL if self.is_terminal else ELSEWHERE
+        self.last = self.clock()
+        # Moments with the heights that stood then; and the line that isn't told yet.
+        self.heights, self.owed = collections.deque(), None
+
+    def say(self, text):
+        """A line for itself."""
+        self.out.write(("\r\x1b[K" if self.is_terminal else "") + f"namecoin_feeder: {text}\n")
+        self.out.flush()
+
+    def at(self, height, top):
+        """The server stands at a height, of the source's."""
+        now = self.clock()
+        self.heights.append((now, height))
+        while len(self.heights) > 2 and self.heights[0][0] < now - SPAN:
+            self.heights.popleft()
+        self.owed = (height, top)
+        self.tell(now)
+
+    def is_level(self, height):
+        """The server stands at the source's tip."""
+        if self.owed is not None:
+            self.owed = (height, height)
+        self.heights.clear()
+        self.tell(self.clock())
+
+    def tell(self, now):
+        if self.owed is None or now - self.last < self.every:
+            return
+        text = self.line(*self.owed)
+        if self.is_terminal:
+            self.out.write(f"\r{text}\x1b[K")
+            self.out.flush()
+        else:
+            self.say(text)
+        self.last, self.owed = now, None
+
+    def end(self):
+        """Tells what isn't told yet, and ends the terminal's line."""
+        if self.owed is not None:
+            self.say(self.line(*self.owed))
+        elif self.is_terminal:
+            self.out.write("\n")
+        self.owed = None
+
+    def line(self, height, top):
+        if height >= top:
+            return f"height {height}, the tip"
+        return f"height {height} of {top}" + self.speed(height, top)
+
+    def speed(self, height, top):
+        """Blocks a second, and the time that is left at that speed."""
+        if not self.heights:
+            return ""
+        moment, below = self.heights[0]
+        seconds = self.heights[-1][0] - moment
+        if seconds <= 0 or height <= below:
+            return ""
+        speed = (height - below) / seconds
+        return f", {speed:.3g} blocks/s, {spoken((top - height) / speed)} left"
+
+
+def spoken(seconds):
+    """A time in its two greatest units."""
+    seconds = round(seconds)
+    for size, unit, below, part in ((86400, "d", 3600, "h"), (3600, "h", 60, "min"), (60, "min", 1, "s")):
+        if seconds >= size:
+            return f"{seconds // size} {unit} {seconds % size // below} {part}"
+    return f"{seconds} s"

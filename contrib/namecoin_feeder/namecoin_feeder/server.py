@@ -1,0 +1,163 @@
+"""The feed of a server: a connection on which frames go out and their replies come back in order."""
+import collections
+import select
+import socket
+import struct
+
+from .blocks import NO_HASH, shown
+from .replies import ACCEPTED, AT_BASE, DISK_FAILED, HEIGHT_LIMIT, NO_MEMORY, NOT_ON_TIP, NOT_TIP, OTHER_ROOT, Reply
+from .troubles import ServerTrouble, Status, Stop
+
+CONNECT, DISCONNECT = b"\x01", b"\x02"
+MOST_PAYLOAD = 65_535
+ROOM = 65_536
+
+# A block that no server takes: its previous hash and its Merkle root are 32 zero bytes. It is refused with the hash of the
+# tip; or with the root of its transaction, where the tip is 32 zero bytes itself. A refused disconnect tells the tip too, but
+# not where the server stands on its base.
+PROBE = b"".join(
+    [
+        struct.pack("<I32s32sIII", 1, NO_HASH, NO_HASH, 0, 0, 0),
+        b"\x01" + struct.pack("<I", 1),
+        b"\x01" + bytes(36) + b"\0" + bytes(4),
+        b"\x01" + bytes(8) + b"\0" + bytes(4),
+    ]
+)
+
+
+def frame(kind, payload):
+    return kind + struct.pack("<I", len(payload)) + payload
+
+
+class Server:
+    """One connection at a time, and where the server's chain stands, as its replies tell it."""
+
+    def __init__(self, address, seconds):
+        self.address, self.seconds = address, seconds
+        self.socket = self.stream = self.tip = None
+        # What was sent and isn't answered yet, the oldest first.
+        self.sent = collections.deque()
+
+    @property
+    def name(self):
+        return "{}:{}".format(*self.address)
+
+    def open(self):
+        """Makes the connection and asks for the tip, where that isn't done. Whether it was done now."""
+        if self.socket is not None and not self.sent and self.is_readable():
+            raise self.lost(None)
+        try:
+            if self.socket is None:
+                self.socket = socket.create_connection(self.address, self.seconds)
+                self.socket.setsockopt(socket.IPPROTO_TCP, socket.TCP_NODELAY, 1)
+                self.stream = self.socket.makefile("rb", ROOM)
+        except OSError as fault:
+            self.drop()
+            raise ServerTrouble(f"the server at {self.name} isn't reached: {told(fault)}") from None
+        if self.tip is not None:
+            return False
+        self.write(frame(CONNECT, PROBE))
+        self.tip = self.tip_of(self.read())
+        return True
+
+    def is_readable(self):
+        """Whether something comes unasked, which is the connection's end: the server may have been started anew."""
+        return bool(select.select([self.socket], [], [], 0)[0])
+
+    def drop(self):
+        """Closes the connection. Whatever was sent and isn't answered may or may not be in the chain."""
+        for item in (self.stream, self.socket):
+            if item is not None:
+                item.close()
+        self.socket = self.stream = self.tip = None
+        self.sent.clear()
+
+    def tip_of(self, reply):
+        """The tip that the reply to the block which no server takes tells."""
+        if reply.code == NOT_ON_TIP and len(reply.payload) == len(NO_HASH):
+            return reply.payload
+        if reply.code in (OTHER_ROOT, HEIGHT_LIMIT):
+            return NO_HASH
+        raise self.unexpected(reply)
+
+    def connect(self, blocks):
+        """Sends blocks, in order; `answer` gives their replies."""
+        self.sent.extend(blocks)
+        self.write(b"".join(frame(CONNECT, block.data) for block in blocks))
+
+    def answer(self):
+        """The oldest block that isn't answered yet, and its reply."""
+        reply = self.read()
+        block = self.sent.popleft()
+        if reply.code == ACCEPTED:
+            self.accepts(reply)
+            if self.tip != block.hash:
+                raise self.unexpected(reply)
+        return block, reply
+
+    def disconnect(self):
+        """Takes the newest block off; False where the chain has none on its base."""
+        self.write(frame(DISCONNECT, self.tip))
+        reply = self.read()
+        if reply.code == ACCEPTED:
+            self.accepts(reply)
+        elif reply.code == NOT_TIP:
+            self.tip = reply.payload
+            raise ServerTrouble(f"the server stands on another block than before, {shown(self.tip)}: who else feeds it?")
+        elif reply.code != AT_BASE:
+            raise self.unexpected(reply)
+        return reply.code == ACCEPTED
+
+    def accepts(self, reply):
+        if len(reply.payload) != 4 + len(NO_HASH):
+            raise self.unexpected(reply)
+        self.tip = reply.payload[4:]
+
+    def write(self, text):
+        try:
+            self.socket.sendall(text)
+        except OSError as fault:
+            raise self.lost(fault) from None
+
+    def read(self):
+        """The next reply. The two that tell of the server's own want are troubles."""
+        head = self.take(5)
+        length = int.from_bytes(head[1:], "little")
+        if length > MOST_PAYLOAD:
+            raise self.unexpected(Reply(head[0], b""))
+        return self.wanted(Reply(head[0], self.take(length)))
+
+    def take(self, length):
+        try:
+            text = self.stream.read(length)
+        except OSError as fault:
+            raise self.lost(fault) from None
+        if len(text) < length:
+            raise self.lost(None)
+        return text
+
+    def wanted(self, reply):
+        if reply.code == DISK_FAILED:
+            self.drop()
+            raise ServerTrouble("the server's disk failed (code FD)")
+        if reply.code == NO_MEMORY:
+            self.drop()
+            raise ServerTrouble("the server is out of memory (code FE)")
+        return reply
+
+    def lost(self, fault):
+        """The trouble that the connection is lost."""
+        self.drop()
+        return ServerTrouble(f"the server at {self.name} " + (f"is lost: {told(fault)}" if fault else "closed the feed"))
+
+    def unexpected(self, reply):
+        self.drop()
+        told = f"code {reply.code}, payload {reply.payload[:40].hex() or 'empty'}"
+        return Stop(Status.SERVER, f"what answers at {self.name} is no feed that this program knows: {told}")
+
+
+def told(fault):
+    """What a fault of the system says, in few words."""
+    if isinstance(fault, socket.timeout):
+        return "no answer in time"
+    return fault.strerror or str(fault) or type(fault).__name__

@@ -1,0 +1,140 @@
+"""The words, what is told on the way, and how the feeder ends."""
+import contextlib
+import io
+import os
+import pathlib
+import pty
+import re
+import shutil
+import signal
+import subprocess
+import sys
+import tempfile
+import time
+
+from . import FEEDER
+from .case import Case, unittest
+
+from namecoin_feeder.command_line import main, words
+from namecoin_feeder.pauses import Pauses
+from namecoin_feeder.progress import Progress, spoken
+from namecoin_feeder.troubles import NodeTrouble, Status
+
+
+class Words(unittest.TestCase):
+    def test_wrong_words(self):
+        wrong = ("--nothing", "--server 127.0.0.1", "--server h:0", "--every -1", "--timeout 0", "--node localhost", "--node https://h:1/")
+        for given in map(str.split, wrong):
+            with self.subTest(given=given):
+                run = subprocess.run([sys.executable, "-m", "namecoin_feeder", *given], cwd=FEEDER, stderr=subprocess.PIPE)
+                self.assertEqual(run.returncode, Status.WORDS)
+
+    def test_user_without_password(self):
+        with open(os.devnull, "w") as sys.stderr:
+            self.assertEqual(main(["--user", "name"]), Status.WORDS)
+            self.assertEqual(main(["--user", "name", "--password-file", "/nowhere"]), Status.WORDS)
+        sys.stderr = sys.__stderr__
+
+    def test_help_tells_the_statuses(self):
+        told = set(map(int, re.findall(r"^  (\d+) ", words().format_help(), re.MULTILINE)))
+        self.assertEqual(told, {*map(int, Status), 130})
+
+    def test_runs_where_it_is_installed(self):
+        made = tempfile.TemporaryDirectory()
+        self.addCleanup(made.cleanup)
+        room = pathlib.Path(made.name)
+        target = room / "target"
+        shutil.copytree(FEEDER, room / "feeder", ignore=shutil.ignore_patterns("tests", "__pycache__"))
+        words = ["install", "--quiet", "--no-build-isolation", "--no-deps", "--target", target, room / "feeder"]
+        run = subprocess.run([sys.executable, "-m", "pip", *words], stdout=subprocess.PIPE, stderr=subprocess.STDOUT, text=True)
+        if re.search(r"No module named '?(pip|setuptools)|invalid command 'bdist_wheel'", run.stdout):
+            self.skipTest("pip, setuptools or wheel is missing here")
+        self.assertEqual(run.returncode, 0, run.stdout)
+        environment = {**os.environ, "PYTHONPATH": str(target)}
+        run = subprocess.run([target / "bin" / "namecoin-feeder", "--version"], env=environment, stdout=subprocess.PIPE, text=True)
+        self.assertRegex(run.stdout, r"^namecoin-feeder \d")
+
+
+class Ends(Case):
+    def test_terminated(self):
+        """Ended by a signal; started again, it goes on."""
+        self.node.move(self.chains.grow(self.chains.first, 300))
+        for number in (signal.SIGTERM, signal.SIGKILL, signal.SIGINT):
+            run, before = self.start(), self.server.frames
+            self.waits_for("frames", lambda: self.server.frames > before + 20)
+            run.send_signal(number)
+            self.assertEqual(run.wait(10), 130 if number == signal.SIGINT else -number)
+        self.feed()
+        self.assert_same()
+
+    def test_terminal(self):
+        """On a terminal the line is written over; the last one stays."""
+        self.node.move(self.chains.grow(self.chains.first, 200))
+        self.server.before = lambda _: time.sleep(0.005)
+        ours, theirs = pty.openpty()
+        run = subprocess.Popen(self.words("--once"), cwd=FEEDER, stderr=theirs)
+        os.close(theirs)
+        text = self.all_of(ours)
+        self.assertEqual(run.wait(30), 0)
+        self.assertRegex(text, r"\rheight \d+ of 200, [\d.e+]+ blocks/s, \d+ s left\x1b\[K")
+        self.assertRegex(text, r"height 200, the tip(\x1b\[K)?\r\n$")
+
+
+    def all_of(self, terminal):
+        """What comes to a terminal until its other end is closed."""
+        text = b""
+        with contextlib.suppress(OSError), open(terminal, "rb", 0) as stream:
+            while got := stream.read(4096):
+                text += got
+        return text.decode()
+
+
+class Clock:
+    """A clock and a sleep that take no time."""
+
+    def __init__(self):
+        self.now, self.slept = 0.0, []
+
+    def __call__(self):
+        return self.now
+
+    def sleep(self, seconds):
+        self.slept.append(seconds)
+        self.now += seconds
+
+
+class Told(unittest.TestCase):
+    def test_a_line_every_ten_seconds(self):
+        clock, out = Clock(), io.StringIO()
+        progress = Progress(out, clock)
+        for height in range(1, 31):
+            clock.now += 1
+            progress.at(height, 100)
+        for _ in range(60):
+            clock.now += 1
+            progress.is_level(30)
+        lines = out.getvalue().splitlines()
+        self.assertEqual(lines[0], "namecoin_feeder: height 10 of 100, 1 blocks/s, 1 min 30 s left")
+        self.assertEqual([line.split(",")[0][24:] for line in lines], ["10 of 100", "20 of 100", "30 of 100"])
+        progress.at(31, 31)
+        progress.is_level(31)
+        self.assertEqual(out.getvalue().splitlines()[3], "namecoin_feeder: height 31, the tip")
+        progress.end()
+        self.assertEqual(len(out.getvalue().splitlines()), 4)
+
+    def test_times(self):
+        told = [spoken(it) for it in (0, 59.4, 60, 3599, 3600, 90000)]
+        self.assertEqual(told, ["0 s", "59 s", "1 min 0 s", "59 min 59 s", "1 h 0 min", "1 d 1 h"])
+
+    def test_pauses_grow(self):
+        clock = Clock()
+        pauses = Pauses(0.5, 4, 0, lambda _: None, clock, clock.sleep)
+        for _ in range(6):
+            pauses.wait(NodeTrouble("it"))
+        pauses.passed()
+        pauses.wait(NodeTrouble("it"))
+        self.assertEqual(clock.slept, [0.5, 1, 2, 4, 4, 4, 0.5])
+
+
+if __name__ == "__main__":
+    unittest.main()
