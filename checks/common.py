@@ -1,5 +1,8 @@
 """What the scripts of this folder share: the built program, frames and replies, tables, and the count of what passed."""
+import contextlib
 import pathlib
+import random
+import socket
 import struct
 import subprocess
 import sys
@@ -9,6 +12,9 @@ TOP = pathlib.Path(__file__).resolve().parent.parent
 DATA = TOP / "checks" / "data"
 BASE_HASH = bytes(32)
 SECONDS = 60
+HERE = "127.0.0.1"
+# Below those that the system gives to who asks for any, so that nobody gets one of them in between.
+PORTS = range(20_000, 32_768)
 
 # The makers of blocks and of folders stand with the benchmarks.
 sys.path.insert(0, str(TOP / "bench"))
@@ -43,6 +49,15 @@ def replay(given, output=subprocess.PIPE):
     program()
     with made_folder() as folder:
         return run_in(folder, ["replay"], given, output)
+
+
+def free_port(kind):
+    """The number of a port of this machine that is free, of `socket.SOCK_DGRAM` or `socket.SOCK_STREAM`."""
+    for number in random.sample(PORTS, len(PORTS)):
+        with contextlib.suppress(OSError), socket.socket(socket.AF_INET, kind) as taken:
+            taken.bind((HERE, number))
+            return number
+    sys.exit(f"{pathlib.Path(sys.argv[0]).name}: no port is free")
 
 
 def reply(code, payload=b""):

@@ -222,11 +222,20 @@ def refusal_by_rules(log, transactions, height):
     return None, log
 
 
-class Model:
-    """The chain of the blocks that survive, each its hash and what it adds to the log, the newest last."""
+def digits(text):
+    """Bytes as a report has them."""
+    return text.hex() or "-"
 
-    def __init__(self):
-        self.blocks = []
+
+class Model:
+    """The chain of the blocks that survive, each its hash and what it adds to the log, the newest last, on a base of this height."""
+
+    def __init__(self, base=0):
+        self.base, self.blocks = base, []
+
+    @property
+    def height(self):
+        return self.base + len(self.blocks)
 
     @property
     def tip(self):
@@ -236,8 +245,31 @@ class Model:
     def log(self):
         return [event for _, events in self.blocks for event in events]
 
+    def given(self):
+        """Of each name in order: the values that it was given, each behind its height, the oldest first."""
+        given = {}
+        for event in self.log:
+            if event.operation and event.operation[0] != NEW:
+                given.setdefault(event.operation[1], []).append((event.height, event.operation[-1]))
+        return dict(sorted(given.items()))
+
+    def served(self, name):
+        """The value that is served for the name; None where there is none."""
+        made, value = self.given().get(name, [(None, None)])[-1]
+        return value if made is not None and not expired(made, self.height) else None
+
+    def report(self):
+        """The lines of `dump`."""
+        lines = [f"tip {self.height} {self.tip[::-1].hex()}"]
+        for name, values in self.given().items():
+            height, value = values[-1]
+            state = "lapsed" if self.served(name) is None else "served"
+            lines.append(f"name {digits(name)} {height} {state} {digits(value)}")
+            lines += [f"  at {height} {digits(value)}" for height, value in values]
+        return "".join(line + "\n" for line in lines).encode()
+
     def accepted(self):
-        return reply(0, struct.pack("<I", len(self.blocks)) + self.tip)
+        return reply(0, struct.pack("<I", self.height) + self.tip)
 
     def connect(self, block):
         try:
@@ -246,13 +278,13 @@ class Model:
             return reply(1, struct.pack("<I", fault.args[0]))
         if block[4:36] != self.tip:
             return reply(2, self.tip)
-        if len(self.blocks) == HIGHEST:
+        if self.height == HIGHEST:
             return reply(4)
         root = merkle_root([transaction.txid for transaction in transactions])
         if block[36:68] != root:
             return reply(3, root)
         before = self.log
-        refused, log = refusal_by_rules(before, transactions, len(self.blocks) + 1)
+        refused, log = refusal_by_rules(before, transactions, self.height + 1)
         if refused:
             return reply(refused[0], struct.pack("<I", refused[1]))
         self.blocks.append((block_hash(block), log[len(before) :]))

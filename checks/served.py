@@ -1,0 +1,166 @@
+"""A run of `serve`: what it is asked by datagrams, and its feed; and chains whose states are known."""
+import contextlib
+import select
+import socket
+import subprocess
+import time
+
+from common import HERE, SECONDS, Run, free_port, pieces, program
+from model import NEW, Model, expired
+
+from answers_model import reply_to, zone_of
+from blocks import CONNECT, block_of, coinbase, frame
+
+HOST = "ns.example."
+MOST_TURNS = 1_000_000_000
+LARGEST = 65535
+# It has no question: it gets a header alone, as any message of its length that is no reply.
+PROBE = bytes(12)
+TRIES, WAIT, SILENCE = 20, 1.0, 15.0
+
+
+class Server:
+    """A run of the program that serves the files of a folder."""
+
+    def __init__(self, folder, udp=None, feed=None, turns=MOST_TURNS, runs=None, **how):
+        self.udp, self.feed = udp or free_port(socket.SOCK_DGRAM), feed or free_port(socket.SOCK_STREAM)
+        words = [runs or program(), "serve", str(self.udp), str(self.feed), str(turns)]
+        streams = {"stdin": subprocess.DEVNULL, "stdout": subprocess.PIPE, "stderr": subprocess.PIPE}
+        self.run = subprocess.Popen(words, cwd=folder, **streams, **how)
+
+    def started(self):
+        """Waits until it answers."""
+        until = time.monotonic() + SECONDS
+        while self.once(PROBE, 0.05) is None:
+            if self.run.poll() is not None or time.monotonic() > until:
+                raise SystemExit(f"serve doesn't answer: {self.ended(kill=True)}")
+        return self
+
+    def once(self, message, seconds=WAIT):
+        """The reply to a datagram, sent once; None where there is none."""
+        with socket.socket(socket.AF_INET, socket.SOCK_DGRAM) as client:
+            client.connect((HERE, self.udp))
+            client.settimeout(seconds)
+            try:
+                client.send(message)
+                return client.recv(LARGEST)
+            except (TimeoutError, ConnectionRefusedError):
+                time.sleep(0.01)
+                return None
+
+    def ask(self, message):
+        """The reply to a message, which is sent again where a datagram may have been lost."""
+        replies = (self.once(message) for _ in range(TRIES))
+        return next((reply for reply in replies if reply is not None), None)
+
+    def feeds(self):
+        return Feed(self.feed)
+
+    def ended(self, kill=False):
+        """What came of the run. It's waited for, or killed."""
+        if kill:
+            self.run.kill()
+        output, line = self.run.communicate(timeout=SECONDS)
+        return Run(output, self.run.returncode, line.decode().strip())
+
+
+@contextlib.contextmanager
+def server_in(folder, **how):
+    """A server that has started, and is killed at the end."""
+    server = Server(folder, **how)
+    try:
+        yield server.started()
+    finally:
+        server.ended(kill=True)
+
+
+class Feed:
+    """A connection to the feed."""
+
+    def __init__(self, port):
+        self.port, self.text = port, b""
+        self.stream = socket.create_connection((HERE, port), timeout=SILENCE)
+        self.stream.setsockopt(socket.IPPROTO_TCP, socket.TCP_NODELAY, 1)
+
+    def __enter__(self):
+        return self
+
+    def __exit__(self, *_):
+        self.stream.close()
+
+    def say(self, text):
+        self.stream.sendall(text)
+
+    def more(self):
+        """Whether more came, before the server closed or was silent for long."""
+        try:
+            got = self.stream.recv(LARGEST)
+        except (TimeoutError, ConnectionResetError):
+            got = b""
+        self.text += got
+        return bool(got)
+
+    def reply(self):
+        """The next reply; what there is of it where no more comes."""
+        while len(self.text) < 5 or len(self.text) < 5 + int.from_bytes(self.text[1:5], "little"):
+            if not self.more():
+                break
+        length = 5 + int.from_bytes(self.text[1:5], "little")
+        told, self.text = self.text[:length], self.text[length:]
+        return told
+
+    def replies(self, count):
+        return [self.reply() for _ in range(count)]
+
+    def is_told(self, seconds):
+        """Whether something comes within so many seconds."""
+        return bool(select.select([self.stream], [], [], seconds)[0])
+
+    def rest(self):
+        """All that comes until the server closes; None where it doesn't."""
+        try:
+            while got := self.stream.recv(LARGEST):
+                self.text += got
+        except ConnectionResetError:
+            return self.text
+        except TimeoutError:
+            return None
+        return self.text
+
+
+def zone_after(model):
+    """The zone of the chain of a model."""
+    height, values = len(model.blocks), {}
+    for event in model.log:
+        if event.operation and event.operation[0] != NEW:
+            values[event.operation[1]] = (event.operation[-1], event.height)
+    return zone_of({name: value for name, (value, made) in values.items() if not expired(made, height)}, HOST, height)
+
+
+class Story:
+    """Commands, each with its reply and with the zone behind it; the first zone is that of the base."""
+
+    def __init__(self):
+        self.model, self.frames, self.replies = Model(), [], []
+        self.zones = [zone_after(self.model)]
+
+    def comes(self, item):
+        """A frame, whose reply is the model's."""
+        self.frames.append(item)
+        self.replies.append(self.model.answer(item))
+        self.zones.append(zone_after(self.model))
+
+    def all_come(self, text):
+        for item in pieces(text):
+            self.comes(item)
+
+    def block(self, transactions):
+        height = len(self.model.blocks) + 1
+        self.comes(frame(CONNECT, block_of(height, self.model.tip, [coinbase(height), *transactions])))
+
+    def text(self, first=0):
+        return b"".join(self.frames[first:])
+
+    def answers(self, message, first, last):
+        """The replies that the message has in the zones from the first to the last."""
+        return [reply_to(zone, message).text() for zone in self.zones[first : last + 1]]
