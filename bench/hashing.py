@@ -1,4 +1,5 @@
 """What a replay has to hash, and what it takes: the instructions of the program, counted by valgrind's callgrind."""
+import contextlib
 import pathlib
 import random
 import re
@@ -73,9 +74,12 @@ def has_counter():
     return shutil.which("valgrind") is not None
 
 
-def counted(path, function=re.escape(COMPRESSION)):
-    """The instructions of a replay of the file, into the files of a new store. The function is looked for by a pattern."""
-    with tempfile.NamedTemporaryFile("r") as trace, open(path, "rb") as stream, made_folder() as folder:
+def counted(path, function=re.escape(COMPRESSION), folder=None):
+    """The instructions of a replay of the file, into the files of the folder, or of a new store. The function is looked for by
+    a pattern."""
+    with contextlib.ExitStack() as stack:
+        trace, stream = stack.enter_context(tempfile.NamedTemporaryFile("r")), stack.enter_context(open(path, "rb"))
+        folder = folder or stack.enter_context(made_folder())
         command = ["valgrind", "--tool=callgrind", f"--callgrind-out-file={trace.name}", PROGRAM, "replay"]
         run = subprocess.run(command, cwd=folder, stdin=stream, stdout=subprocess.DEVNULL, stderr=subprocess.PIPE, text=True)
         total = re.search(r"Collected : (\d+)", run.stderr)

@@ -24,11 +24,12 @@ def empty_folder(where=None):
 
 
 @contextlib.contextmanager
-def made_folder(where=None):
-    """A new folder with the files of a new store."""
+def made_folder(where=None, height=0):
+    """A new folder with the files of a new store, whose base has this height."""
+    words = [*INIT[:2], str(height), *INIT[3:]]
     with empty_folder(where) as folder:
         how = {"stdin": subprocess.DEVNULL, "stdout": subprocess.PIPE, "stderr": subprocess.PIPE}
-        run = subprocess.run([PROGRAM, *INIT], cwd=folder, timeout=60, **how)
+        run = subprocess.run([PROGRAM, *words], cwd=folder, timeout=60, **how)
         if run.returncode or run.stdout or run.stderr:
             raise SystemExit(f"init ended with {run.returncode}: {run.stdout} {run.stderr}")
         yield folder
