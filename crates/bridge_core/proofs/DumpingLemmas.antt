@@ -1,8 +1,7 @@
 -- What a dump comes to, by what came of its report, or why its files weren't opened.
 use Rattle.std.proofs.Common.{◌≡◌, Bool, true, false, Ok, Err, Result, sym, subst, ◌∙◌}
 use Rattle.std.proofs.lemmas.Bool.{true≢false}
-use Rattle.std.specs.Prelude.{IsTrue}
-use Rattle.fault_counts.specs.Faults.{NeverFell, Rose}
+use Rattle.fault_counts.specs.Faults.{NeverFell}
 use Rattle.fault_counts.proofs.FaultLemmas.{NeverFell_refl}
 use Rattle.byte_io.specs.Sink.{SinkSeen}
 use Rattle.frame_loop.specs.Causes.{SinkCause, failing, stalling}
@@ -14,8 +13,7 @@ use Rattle.machine.specs.RunState.{RunState}
 use Rattle.name_store.specs.declared.faults.OpenFault.{OpenFault}
 use Rattle.name_store.specs.Stored.{Stored, StandsFor}
 use Rattle.bridge_core.specs.Opening.{status_of_fault, no_memory}
-use Rattle.bridge_core.specs.Dumping.{DumpSeen, reported_of, OfFiles, status_of_report, DumpEnds, done, cut_short, unbegun, NothingFailed, Dumps}
-use Rattle.bridge_core.specs.Outcome.{EndsWell}
+use Rattle.bridge_core.specs.Dumping.{DumpSeen, reported_of, OfFiles, status_of_report, done, cut_short, unbegun, NothingFailed, Dumps}
 use Rattle.bridge_core.specs.declared.status.Status.TheVariants.{NoMemory}
 use Rattle.bridge_core.proofs.OpeningLemmas.{Opened, first_of, Unbegun, cause_of, begins_well}
 

@@ -9,7 +9,7 @@ use Rattle.machine.specs.RunState.{RunState}
 use Rattle.name_store.specs.Stands.{Stands, EachStands, EachStandsForEither}
 use Rattle.name_store.specs.Stored.{Stored, IsOn}
 use Rattle.name_store.proofs.StoreLemmas.{stands_still}
-use Rattle.bridge_core.specs.Bridge.{AreFilesOf, OutlivesCrashes, accepted_by, fault_code}
+use Rattle.bridge_core.specs.Bridge.{AreFilesOf, OutlivesCrashes, accepted_by}
 
 module _ (store : Stored) (seen : DiskSeen) (on : IsOn store seen.moments.now) (run : RunState) (stands : Stands (bytes_in seen) run) where
   pub moments_of : EachMoment (EachStandsForEither run run) seen.moments seen.moments

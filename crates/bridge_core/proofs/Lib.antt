@@ -3,6 +3,7 @@ pub mod FileLemmas
 pub mod TurnLemmas
 pub mod KeptLemmas
 pub mod ReachedLemmas
+pub mod AnsweringLemmas
 pub mod OutcomeLemmas
 pub mod OpeningLemmas
 pub mod DumpingLemmas

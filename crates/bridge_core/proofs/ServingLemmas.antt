@@ -16,7 +16,7 @@ use Rattle.bridge_core.specs.Outcome.{EndsWell}
 use Rattle.bridge_core.specs.Reached.{Beginning, Reached, Broken}
 use Rattle.bridge_core.specs.Serving.{ServeSeen, ServesSo, ServeEnds, done, broken, unbound, unbegun, Serves, status_of_ending}
 use Rattle.bridge_core.specs.declared.bridge.Turned.{Turned}
-use Rattle.bridge_core.specs.declared.status.Status.TheVariants.{Done, PortFault}
+use Rattle.bridge_core.specs.declared.status.Status.TheVariants.{PortFault}
 use Rattle.bridge_core.specs.declared.words.Plan.{Plan}
 use Rattle.bridge_core.proofs.OpeningLemmas.{Unbegun, cause_of, begins_well}
 use Rattle.bridge_core.proofs.OutcomeLemmas.{reached_later}

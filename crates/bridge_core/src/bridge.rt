@@ -154,13 +154,11 @@ impl Bridge {
     }
 
     /// Answers a message of DNS from the names that the chain serves. It asks nothing of the disk.
-    fn query(self, alloc: Global, message: &[u8], reply: &mut ReplyBuf) -> Bridge
-        ensures same { result ≡ self }
-        ensures turns { Turns self (Ask message.now) reply.new (Turned.On self) }
+    pub(crate) fn query(&self, alloc: Global, message: &[u8], reply: &mut ReplyBuf)
+        ensures turns { Turns self.now (Ask message.now) reply.new (Turned.On self.now) }
         ensures no_fault { reply.new.code ≢ fault_code }
     {
         answer_query(alloc, &self.store, message, reply);
-        self
     }
 
     /// Gives the report of the chain to the sink: its tip, and each name with all that it was given. All memory is taken
@@ -208,7 +206,10 @@ impl Bridge {
         match event {
             Event::Connect(bytes) => self.connect(alloc, disk, bytes, reply, steps),
             Event::Disconnect(hash) => self.disconnect(alloc, disk, hash, reply, steps),
-            Event::Query(message) => Turned::On(self.query(alloc, message, reply)),
+            Event::Query(message) => {
+                self.query(alloc, message, reply);
+                Turned::On(self)
+            }
         }
     }
 }

@@ -45,9 +45,18 @@ fn replay_by<S: Source, K: Sink, D: Disk, L: Ledger>(
 {
     match Bridge::open(alloc, disk) {
         Ok(bridge) => {
-            let first = Turned::On(bridge);
-            let (ending, last) = follow(alloc, first, disk, buffers, source, sink, limit, steps);
-            let_go(last);
+            let mut turned = Turned::On(bridge);
+            let ending = follow(
+                alloc,
+                &mut turned,
+                disk,
+                buffers,
+                source,
+                sink,
+                limit,
+                steps,
+            );
+            let_go(turned);
             status_of(ending)
         }
         Err(fault) => unopened(fault),

@@ -34,18 +34,18 @@ fn serve_by<D: Disk, P: Port, L: Ledger>(
 ) -> Status
     ensures { Serves D.tells D.seen disk.new (serve_seen (P.seen port.old) (D.seen disk.old)) (serve_seen (P.seen port.new) (D.seen disk.new)) plan result }
 {
-    let first = match Bridge::open(alloc, disk) {
+    let mut turned = match Bridge::open(alloc, disk) {
         Ok(bridge) => Turned::On(bridge),
         Err(fault) => return unopened(fault),
     };
     match port.bind(plan.udp, plan.feed) {
         Ok(()) => {
-            let (ending, last) = attend(alloc, first, disk, buffers, port, plan.turns, steps);
-            let_go(last);
+            let ending = attend(alloc, &mut turned, disk, buffers, port, plan.turns, steps);
+            let_go(turned);
             status_of(ending)
         }
         Err(_) => {
-            let_go(first);
+            let_go(turned);
             Status::PortFault
         }
     }

@@ -207,30 +207,24 @@ broken_since Reached Broken a b c later second = record {
       record { more = g.more; took = g.took; then = failed_since a.sink b.sink c.sink later g.then };
 }
 
--- a sink, and the bytes that aren't answered
-pub record Beside : Type 0 where
-  pub sink : SinkSeen
-  pub feed : Feed
-
-pub finishes : {Start X : Type 0} (Ready : X → Type 0) (Reached Broken : Start → List Frame → List Reply → X → Type 0) (a b : Desk X) (end : Beside) (halted : Halted X)
-    → Continues Reached a b → AnswersAll Ready Reached Broken b end.sink end.feed halted → AnswersAll Ready Reached Broken a end.sink end.feed halted
-finishes Ready Reached Broken a b end (Partial now) first second = record {
-  continues = then_leads Reached (λ start. SoFar (Reached start)) a b (desk end.sink end.feed now) first second.continues;
+pub finishes : {Start X : Type 0} (Ready : X → Type 0) (Reached Broken : Start → List Frame → List Reply → X → Type 0) (a b c : Desk X) (halted : Halted)
+    → Continues Reached a b → AnswersAll Ready Reached Broken b c halted → AnswersAll Ready Reached Broken a c halted
+finishes Ready Reached Broken a b c Partial first second = record {
+  continues = then_leads Reached (λ start. SoFar (Reached start)) a b c first second.continues;
   ready = second.ready;
   partial = second.partial;
 }
-finishes Ready Reached Broken a b end (Bad now offset) first second = record {
-  continues = then_leads Reached (λ start. SoFar (Reached start)) a b (desk end.sink end.feed now) first second.continues;
+finishes Ready Reached Broken a b c (Bad offset) first second = record {
+  continues = then_leads Reached (λ start. SoFar (Reached start)) a b c first second.continues;
   bad = second.bad;
   offset_is = second.offset_is;
 }
-finishes Ready Reached Broken a b end (Undelivered now) first second = record {
-  leads = then_leads Reached (λ start. Interrupted (Reached start)) a b (desk end.sink end.feed now) first second.leads;
-  behind = advances_then_behind a.feed.left b.feed.left end.feed.left first.advances second.behind;
-  cause = since a.sink b.sink end.sink first.later second.cause;
+finishes Ready Reached Broken a b c Undelivered first second = record {
+  leads = then_leads Reached (λ start. Interrupted (Reached start)) a b c first second.leads;
+  behind = advances_then_behind a.feed.left b.feed.left c.feed.left first.advances second.behind;
+  cause = since a.sink b.sink c.sink first.later second.cause;
 }
-finishes Ready Reached Broken a b end (Ended now) first second = record {
-  leads = then_leads Reached (λ start. BrokenOff (SinkCause a.sink end.sink) (Broken start)) a b (desk end.sink end.feed now) first
-      (broken_since Reached Broken a b (desk end.sink end.feed now) first.later second.leads);
-  behind = advances_then_behind a.feed.left b.feed.left end.feed.left first.advances second.behind;
+finishes Ready Reached Broken a b c Ended first second = record {
+  leads = then_leads Reached (λ start. BrokenOff (SinkCause a.sink c.sink) (Broken start)) a b c first (broken_since Reached Broken a b c first.later second.leads);
+  behind = advances_then_behind a.feed.left b.feed.left c.feed.left first.advances second.behind;
 }

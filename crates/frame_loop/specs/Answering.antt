@@ -107,11 +107,11 @@ pub record EndsThere {Start X : Type 0} (Reached Broken : Start → List Frame �
   pub leads : Leads Reached (λ start. BrokenOff (SinkCause old.sink new.sink) (Broken start)) old new
   pub behind : IsBehind old.feed.left new.feed.left
 
-abbrev pub AnswersAll : {Start X : Type 0} (Ready : X → Type 0) (Reached Broken : Start → List Frame → List Reply → X → Type 0) (old : Desk X) (sink : SinkSeen) (feed : Feed) → Halted X → Type 0
-AnswersAll Ready Reached Broken old sink feed (Partial now) = HaltsAtPart Ready Reached old (desk sink feed now)
-AnswersAll Ready Reached Broken old sink feed (Bad now offset) = HaltsAtBad Reached old (desk sink feed now) offset
-AnswersAll Ready Reached Broken old sink feed (Undelivered now) = Breaks Reached old (desk sink feed now)
-AnswersAll Ready Reached Broken old sink feed (Ended now) = EndsThere Reached Broken old (desk sink feed now)
+abbrev pub AnswersAll : {Start X : Type 0} (Ready : X → Type 0) (Reached Broken : Start → List Frame → List Reply → X → Type 0) (old new : Desk X) → Halted → Type 0
+AnswersAll Ready Reached Broken old new Partial = HaltsAtPart Ready Reached old new
+AnswersAll Ready Reached Broken old new (Bad offset) = HaltsAtBad Reached old new offset
+AnswersAll Ready Reached Broken old new Undelivered = Breaks Reached old new
+AnswersAll Ready Reached Broken old new Ended = EndsThere Reached Broken old new
 
 -- one frame was answered, and its reply given to the sink
 pub record AnswersOne {Start X : Type 0} (Ready : X → Type 0) (Reached : Start → List Frame → List Reply → X → Type 0) (old new : Desk X) : Type 0 where
@@ -120,17 +120,6 @@ pub record AnswersOne {Start X : Type 0} (Ready : X → Type 0) (Reached : Start
   pub behind : IsBehind old.feed.left new.feed.left
   pub less : length new.feed.left < length old.feed.left
 
-abbrev pub Answers : {Start X : Type 0} (Ready : X → Type 0) (Reached Broken : Start → List Frame → List Reply → X → Type 0) (old : Desk X) (sink : SinkSeen) (feed : Feed) → Result X (Halted X) → Type 0
-Answers Ready Reached Broken old sink feed (Ok now) = AnswersOne Ready Reached old (desk sink feed now)
-Answers Ready Reached Broken old sink feed (Err halted) = AnswersAll Ready Reached Broken old sink feed halted
-
--- what answers, and the world beside it
-abbrev pub halted_beside : {X W : Type 0} → W → Halted X → Halted (X × W)
-halted_beside world (Partial now) = Partial (now, world)
-halted_beside world (Bad now offset) = Bad (now, world) offset
-halted_beside world (Undelivered now) = Undelivered (now, world)
-halted_beside world (Ended now) = Ended (now, world)
-
-abbrev pub next_beside : {X W : Type 0} → W → Result X (Halted X) → Result (X × W) (Halted (X × W))
-next_beside world (Ok now) = Ok (now, world)
-next_beside world (Err halted) = Err (halted_beside world halted)
+abbrev pub Answers : {Start X A : Type 0} (Ready : X → Type 0) (Reached Broken : Start → List Frame → List Reply → X → Type 0) (old new : Desk X) → Result A Halted → Type 0
+Answers Ready Reached Broken old new (Ok done) = AnswersOne Ready Reached old new
+Answers Ready Reached Broken old new (Err halted) = AnswersAll Ready Reached Broken old new halted

@@ -19,11 +19,6 @@ pub record GoesOut {Start X : Type 0} (Reached Broken : Start → List Frame →
   pub goes_out : (start : Start) (frames : List Frame) (replies : List Reply)
       → Reached start frames replies old → Broken start (frames ++ frame ∷ []) (replies ++ reply ∷ []) new
 
-abbrev pub Turns : {Start X : Type 0} (Ready : X → Type 0) (Reached Broken : Start → List Frame → List Reply → X → Type 0) (old : X) (frame : Frame) (reply : Reply) → Result X X → Type 0
-Turns Ready Reached Broken old frame reply (Ok new) = GoesOn Ready Reached old frame reply new
-Turns Ready Reached Broken old frame reply (Err new) = GoesOut Reached Broken old frame reply new
-
--- what answers, and the world beside it
-abbrev pub beside : {X W : Type 0} → W → Result X X → Result (X × W) (X × W)
-beside world (Ok now) = Ok (now, world)
-beside world (Err now) = Err (now, world)
+abbrev pub Turns : {Start X A E : Type 0} (Ready : X → Type 0) (Reached Broken : Start → List Frame → List Reply → X → Type 0) (old : X) (frame : Frame) (reply : Reply) (new : X) → Result A E → Type 0
+Turns Ready Reached Broken old frame reply new (Ok done) = GoesOn Ready Reached old frame reply new
+Turns Ready Reached Broken old frame reply new (Err over) = GoesOut Reached Broken old frame reply new

@@ -2,7 +2,7 @@ ghost use Rattle.std.specs.Prelude.{List};
 ghost use Rattle.feed_frames.specs.Frames.{Frame as Framed};
 ghost use Rattle.feed_frames.specs.Replies.{Reply};
 ghost use Rattle.feed_frames.specs.Front.{frame_of};
-ghost use Rattle.frame_loop.specs.Turns.{IsAskable, Turns, beside};
+ghost use Rattle.frame_loop.specs.Turns.{IsAskable, Turns};
 
 use crate::reply::ReplyBuf;
 use feed_frames::Frame;
@@ -12,6 +12,10 @@ use std::sync::ledger::Ledger;
 
 /// The kind of a query's frame.
 pub const QUERY: u8 = 3;
+
+/// What answers has ended the run: it answers no more frames.
+#[derive(Clone, Copy, PartialEq, Eq, Debug)]
+pub struct Over;
 
 /// What answers frames, one by one, by means of a world that it is lent: the disk with its files, or nothing.
 pub trait Answerer<W> {
@@ -30,14 +34,14 @@ pub trait Answerer<W> {
     /// Answers one frame: one that a stream may hold, or a message of any length. At Err the run has ended, and the
     /// frame has its reply all the same.
     fn turn<L: Ledger>(
-        self,
+        &mut self,
         alloc: Global,
         world: &mut W,
         frame: Frame<'_>,
         reply: &mut ReplyBuf,
         steps: &mut Steps<L>,
-    ) -> Result<Self, Self>
+    ) -> Result<(), Over>
         requires askable { IsAskable (frame_of frame) }
-        requires ready { ready (self, world.old) }
-        ensures { Turns ready reached broken (self, world.old) (frame_of frame.entry) reply.new (beside world.new result) };
+        requires ready { ready (self.old, world.old) }
+        ensures { Turns ready reached broken (self.old, world.old) (frame_of frame.entry) reply.new (self.new, world.new) result };
 }

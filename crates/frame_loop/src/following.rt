@@ -29,25 +29,24 @@ pub enum Ending {
     InputLimit,
 }
 
-/// Reads frames and answers each, up to the end, a fault or the limit, and gives back what answers.
+/// Reads frames and answers each, up to the end, a fault or the limit.
 ///
 /// The source is read in pieces of at most 65,536 bytes, each only where every whole frame before it was answered.
 /// It takes no memory of its own: the buffers have all of it.
 pub fn follow<W, T: Answerer<W>, S: Source, K: Sink, L: Ledger>(
     alloc: Global,
-    answerer: T,
+    answerer: &mut T,
     world: &mut W,
     buffers: &mut Buffers,
     source: &mut S,
     sink: &mut K,
     limit: u64,
     steps: &mut Steps<L>,
-) -> (Ending, T)
+) -> Ending
     requires limit { limit < 2 ^ 63 }
-    requires ready { T.ready (answerer, world.old) }
-    ensures { Follows T.reached T.broken (streams (S.seen source.old) (K.seen sink.old)) (streams (S.seen source.new) (K.seen sink.new)) limit (answerer, world.old) result.0 (result.1, world.new) }
+    requires ready { T.ready (answerer.old, world.old) }
+    ensures { Follows T.reached T.broken (streams (S.seen source.old) (K.seen sink.old)) (streams (S.seen source.new) (K.seen sink.new)) limit (answerer.old, world.old) result (answerer.new, world.new) }
 {
-    let mut answerer = answerer;
     let mut read: u64 = 0;
     buffers.frames.reset();
     'pieces: loop {
@@ -60,22 +59,22 @@ pub fn follow<W, T: Answerer<W>, S: Source, K: Sink, L: Ledger>(
             sink,
             steps,
         ) {
-            Halted::Partial(next) => answerer = next,
-            Halted::Bad(next, offset) => return (Ending::BadFrame { offset }, next),
-            Halted::Undelivered(next) => return (Ending::SinkFault, next),
-            Halted::Ended(last) => return (Ending::Ended, last),
+            Halted::Partial => {}
+            Halted::Bad(offset) => return Ending::BadFrame { offset },
+            Halted::Undelivered => return Ending::SinkFault,
+            Halted::Ended => return Ending::Ended,
         }
         if read >= limit {
-            return (Ending::InputLimit, answerer);
+            return Ending::InputLimit;
         }
         let most = (limit - read).min(PIECE as u64) as usize;
         match fill(&mut buffers.frames, &mut buffers.piece, source, most) {
-            Err(_) => return (Ending::SourceFault, answerer),
+            Err(_) => return Ending::SourceFault,
             Ok(count) => {
                 if count == 0 {
                     return match buffers.frames.cut_at() {
-                        None => (Ending::Done, answerer),
-                        Some(offset) => (Ending::CutFrame { offset }, answerer),
+                        None => Ending::Done,
+                        Some(offset) => Ending::CutFrame { offset },
                     };
                 }
                 read += count as u64;

@@ -9,7 +9,7 @@ mod following;
 mod law;
 mod reply;
 
-pub use answerer::{Answerer, QUERY};
+pub use answerer::{Answerer, Over, QUERY};
 pub use delivery::{Undelivered, deliver};
 pub use filling::Buffers;
 pub use following::{Ending, follow};

@@ -3,7 +3,6 @@ use Rattle.std.proofs.Common.{ℕ, ◌<◌, List, [], ◌∷◌, ◌++◌, lengt
 use Rattle.std.proofs.lemmas.List.{append-nil}
 use Rattle.std.proofs.lemmas.Grind.{flat_map-append}
 use Rattle.nmc_base.proofs.ListLemmas.{all-append}
-use Rattle.byte_io.specs.Port.{PortSeen}
 use Rattle.feed_frames.specs.Frames.{Frame, frame_text, frames_text, IsFramed, Splits}
 use Rattle.feed_frames.specs.Feed.{Feed, Takes, Waits, Sticks}
 use Rattle.feed_frames.specs.Replies.{Reply}
@@ -72,26 +71,13 @@ pub one_more : {Start X : Type 0} {Ready : X → Type 0} {Reached : Start → Li
     → Answered Reached Reached a b → AnswersOne Ready Reached b c → Answered Reached Reached a c
 one_more a b c first second = answered_then a b c first second.answered
 
--- a port, and the bytes that aren't answered
-pub record Beside : Type 0 where
-  pub port : PortSeen
-  pub feed : Feed
-
-pub finishes : {Start X : Type 0} (Ready : X → Type 0) (Reached Broken : Start → List Frame → List Reply → X → Type 0) (a b : Desk X) (end : Beside) (halted : Halted X)
-    → Answered Reached Reached a b → AnswersAll Ready Reached Broken b end.port end.feed halted → AnswersAll Ready Reached Broken a end.port end.feed halted
-finishes Ready Reached Broken a b end (Partial now) first second = record {
-  answered = answered_then a b (desk end.port end.feed now) first second.answered;
-  ready = second.ready;
-  partial = second.partial;
-}
-finishes Ready Reached Broken a b end (Bad now) first second = record {
-  answered = answered_then a b (desk end.port end.feed now) first second.answered;
-  ready = second.ready;
-  bad = second.bad;
-}
-finishes Ready Reached Broken a b end (Ended now) first second =
+pub finishes : {Start X : Type 0} (Ready : X → Type 0) (Reached Broken : Start → List Frame → List Reply → X → Type 0) (a b c : Desk X) (halted : Halted)
+    → Answered Reached Reached a b → AnswersAll Ready Reached Broken b c halted → AnswersAll Ready Reached Broken a c halted
+finishes Ready Reached Broken a b c Partial first second = record { answered = answered_then a b c first second.answered; ready = second.ready; partial = second.partial }
+finishes Ready Reached Broken a b c Bad first second = record { answered = answered_then a b c first second.answered; ready = second.ready; bad = second.bad }
+finishes Ready Reached Broken a b c Ended first second =
     let some : 0 < length (first.frames ++ second.answered.frames) = omega (arith, second.some, length-append first.frames second.answered.frames) in
-    record { answered = answered_then a b (desk end.port end.feed now) first second.answered; some = some }
+    record { answered = answered_then a b c first second.answered; some = some }
 
 -- ---- the frame at the front
 

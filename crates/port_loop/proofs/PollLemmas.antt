@@ -12,7 +12,7 @@ use Rattle.port_loop.specs.Sends.{to_client, none}
 use Rattle.port_loop.specs.Answering.{held, AnswersFrame, GoesOn, Answers, Desk, desk, fed_to, HaltsAtPart, HaltsAtBad, EndsThere}
 use Rattle.port_loop.specs.Attending.{GoesThrough, waits, closes, AnswersPiece, Deals, Breaks, AnswersPoll}
 use Rattle.port_loop.proofs.NoteLemmas.{Notes_append, replied_one}
-use Rattle.port_loop.proofs.DeskLemmas.{leads_nowhere, Beside}
+use Rattle.port_loop.proofs.DeskLemmas.{leads_nowhere}
 
 -- ---- what brings no frame
 
@@ -101,13 +101,18 @@ pub record Asked : Type 0 where
   pub client : ℕ
   pub message : List ℕ
 
-pub query_dealt : {Start X : Type 0} (Ready : X → Type 0) (Reached Broken : Start → List Frame → List Reply → X → Type 0) (old : Desk X) (asked : Asked) (port : PortSeen) (result : Result X X)
+pub query_dealt : {Start X A E : Type 0} (Ready : X → Type 0) (Reached Broken : Start → List Frame → List Reply → X → Type 0) (old : Desk X) (asked : Asked) (port : PortSeen) (now : X) (result : Result A E)
     → Notes old.port asked.port (polled (datagram asked.client asked.message) ∷ []) → IsPartialFrame old.feed.left
-    → Answers Ready Reached Broken (to_client asked.client) (query_of asked.message) (held asked.port old.now) port result → AnswersPoll Ready Reached Broken old port old.feed result
-query_dealt Ready Reached Broken old asked port (Ok now) noted partial goes = query_deals asked.client asked.message noted goes partial
-query_dealt Ready Reached Broken old asked port (Err now) noted partial answer = query_breaks asked.client asked.message noted answer
+    → Answers Ready Reached Broken (to_client asked.client) (query_of asked.message) (held asked.port old.now) (held port now) result → AnswersPoll Ready Reached Broken old (desk port old.feed now) result
+query_dealt Ready Reached Broken old asked port now (Ok done) noted partial goes = query_deals asked.client asked.message noted goes partial
+query_dealt Ready Reached Broken old asked port now (Err over) noted partial answer = query_breaks asked.client asked.message noted answer
 
 -- ---- a piece of the feed
+
+-- a port, and the bytes that aren't answered
+pub record Beside : Type 0 where
+  pub port : PortSeen
+  pub feed : Feed
 
 -- a poll brought a piece, which was fed
 pub record Feeds (old : Beside) (bytes : List ℕ) (mid : Beside) : Type 0 where
@@ -197,10 +202,9 @@ broken_off old mid bytes new noted e =
 abbrev beside : {X : Type 0} → Desk X → Beside
 beside old = record { port = old.port; feed = old.feed }
 
-pub piece_dealt : {Start X : Type 0} (Ready : X → Type 0) (Reached Broken : Start → List Frame → List Reply → X → Type 0) (old : Desk X) (bytes : List ℕ) (mid end : Beside) (result : Result X X)
-    → Feeds (beside old) bytes mid → AnswersPiece Ready Reached Broken (desk mid.port mid.feed old.now) end.port end.feed result → AnswersPoll Ready Reached Broken old end.port end.feed result
-piece_dealt Ready Reached Broken old bytes mid end (Ok now) f goes =
-    goes_through old mid.port bytes (desk end.port end.feed now) f.noted f.within
-    (subst (λ (q : Feed). GoesThrough Ready Reached (desk mid.port q old.now) (desk end.port end.feed now)) f.grown goes)
-piece_dealt Ready Reached Broken old bytes mid end (Err now) f e =
-    broken_off old mid.port bytes (desk end.port end.feed now) f.noted (subst (λ (q : Feed). EndsThere Reached Broken (desk mid.port q old.now) (desk end.port end.feed now)) f.grown e)
+pub piece_dealt : {Start X A E : Type 0} (Ready : X → Type 0) (Reached Broken : Start → List Frame → List Reply → X → Type 0) (old : Desk X) (bytes : List ℕ) (mid : Beside) (new : Desk X) (result : Result A E)
+    → Feeds (beside old) bytes mid → AnswersPiece Ready Reached Broken (desk mid.port mid.feed old.now) new result → AnswersPoll Ready Reached Broken old new result
+piece_dealt Ready Reached Broken old bytes mid new (Ok done) f goes =
+    goes_through old mid.port bytes new f.noted f.within (subst (λ (q : Feed). GoesThrough Ready Reached (desk mid.port q old.now) new) f.grown goes)
+piece_dealt Ready Reached Broken old bytes mid new (Err over) f e =
+    broken_off old mid.port bytes new f.noted (subst (λ (q : Feed). EndsThere Reached Broken (desk mid.port q old.now) new) f.grown e)

@@ -28,9 +28,9 @@ pub record GoesOn {Start X : Type 0} (Ready : X → Type 0) (Reached : Start →
   pub answered : AnswersFrame Reached Reached sends frame old new
   pub ready : Ready new.now
 
-abbrev pub Answers : {Start X : Type 0} (Ready : X → Type 0) (Reached Broken : Start → List Frame → List Reply → X → Type 0) (sends : Reply → Bool → List Note) (frame : Frame) (old : Held X) (port : PortSeen) → Result X X → Type 0
-Answers Ready Reached Broken sends frame old port (Ok now) = GoesOn Ready Reached sends frame old (held port now)
-Answers Ready Reached Broken sends frame old port (Err now) = AnswersFrame Reached Broken sends frame old (held port now)
+abbrev pub Answers : {Start X A E : Type 0} (Ready : X → Type 0) (Reached Broken : Start → List Frame → List Reply → X → Type 0) (sends : Reply → Bool → List Note) (frame : Frame) (old new : Held X) → Result A E → Type 0
+Answers Ready Reached Broken sends frame old new (Ok done) = GoesOn Ready Reached sends frame old new
+Answers Ready Reached Broken sends frame old new (Err over) = AnswersFrame Reached Broken sends frame old new
 
 -- where the answering of the feed stands: the port, the bytes of the feed that aren't answered, and what answers, with its world
 pub record Desk (X : Type 0) : Type 0 where
@@ -79,21 +79,11 @@ pub record EndsThere {Start X : Type 0} (Reached Broken : Start → List Frame �
   pub answered : Answered Reached Broken old new
   pub some : 0 < length answered.frames
 
-abbrev pub AnswersAll : {Start X : Type 0} (Ready : X → Type 0) (Reached Broken : Start → List Frame → List Reply → X → Type 0) (old : Desk X) (port : PortSeen) (feed : Feed) → Halted X → Type 0
-AnswersAll Ready Reached Broken old port feed (Partial now) = HaltsAtPart Ready Reached old (desk port feed now)
-AnswersAll Ready Reached Broken old port feed (Bad now) = HaltsAtBad Ready Reached old (desk port feed now)
-AnswersAll Ready Reached Broken old port feed (Ended now) = EndsThere Reached Broken old (desk port feed now)
+abbrev pub AnswersAll : {Start X : Type 0} (Ready : X → Type 0) (Reached Broken : Start → List Frame → List Reply → X → Type 0) (old new : Desk X) → Halted → Type 0
+AnswersAll Ready Reached Broken old new Partial = HaltsAtPart Ready Reached old new
+AnswersAll Ready Reached Broken old new Bad = HaltsAtBad Ready Reached old new
+AnswersAll Ready Reached Broken old new Ended = EndsThere Reached Broken old new
 
-abbrev pub AnswersNext : {Start X : Type 0} (Ready : X → Type 0) (Reached Broken : Start → List Frame → List Reply → X → Type 0) (old : Desk X) (port : PortSeen) (feed : Feed) → Result X (Halted X) → Type 0
-AnswersNext Ready Reached Broken old port feed (Ok now) = AnswersOne Ready Reached old (desk port feed now)
-AnswersNext Ready Reached Broken old port feed (Err halted) = AnswersAll Ready Reached Broken old port feed halted
-
--- what answers, and the world beside it
-abbrev pub halted_beside : {X W : Type 0} → W → Halted X → Halted (X × W)
-halted_beside world (Partial now) = Partial (now, world)
-halted_beside world (Bad now) = Bad (now, world)
-halted_beside world (Ended now) = Ended (now, world)
-
-abbrev pub next_beside : {X W : Type 0} → W → Result X (Halted X) → Result (X × W) (Halted (X × W))
-next_beside world (Ok now) = Ok (now, world)
-next_beside world (Err halted) = Err (halted_beside world halted)
+abbrev pub AnswersNext : {Start X A : Type 0} (Ready : X → Type 0) (Reached Broken : Start → List Frame → List Reply → X → Type 0) (old new : Desk X) → Result A Halted → Type 0
+AnswersNext Ready Reached Broken old new (Ok done) = AnswersOne Ready Reached old new
+AnswersNext Ready Reached Broken old new (Err halted) = AnswersAll Ready Reached Broken old new halted

@@ -13,9 +13,9 @@ pub data GoesThrough {Start X : Type 0} (Ready : X → Type 0) (Reached : Start 
   waits : HaltsAtPart Ready Reached old new → GoesThrough Ready Reached old new
   closes : (port : PortSeen) (feed : Feed) → HaltsAtBad Ready Reached old (desk port feed new.now) → Notes port new.port (closed ∷ []) → new.feed ≡ fresh_feed → GoesThrough Ready Reached old new
 
-abbrev pub AnswersPiece : {Start X : Type 0} (Ready : X → Type 0) (Reached Broken : Start → List Frame → List Reply → X → Type 0) (old : Desk X) (port : PortSeen) (feed : Feed) → Result X X → Type 0
-AnswersPiece Ready Reached Broken old port feed (Ok now) = GoesThrough Ready Reached old (desk port feed now)
-AnswersPiece Ready Reached Broken old port feed (Err now) = EndsThere Reached Broken old (desk port feed now)
+abbrev pub AnswersPiece : {Start X A E : Type 0} (Ready : X → Type 0) (Reached Broken : Start → List Frame → List Reply → X → Type 0) (old new : Desk X) → Result A E → Type 0
+AnswersPiece Ready Reached Broken old new (Ok done) = GoesThrough Ready Reached old new
+AnswersPiece Ready Reached Broken old new (Err over) = EndsThere Reached Broken old new
 
 -- one poll was made and dealt with, and the next may be made
 pub record Deals {Start X : Type 0} (Ready : X → Type 0) (Reached : Start → List Frame → List Reply → X → Type 0) (old new : Desk X) : Type 0 where
@@ -38,6 +38,6 @@ pub record Breaks {Start X : Type 0} (Reached Broken : Start → List Frame → 
   pub noted : Notes old.port new.port notes
   pub leads : LeadsTo Reached Broken old.now frames replies new.now
 
-abbrev pub AnswersPoll : {Start X : Type 0} (Ready : X → Type 0) (Reached Broken : Start → List Frame → List Reply → X → Type 0) (old : Desk X) (port : PortSeen) (feed : Feed) → Result X X → Type 0
-AnswersPoll Ready Reached Broken old port feed (Ok now) = Deals Ready Reached old (desk port feed now)
-AnswersPoll Ready Reached Broken old port feed (Err now) = Breaks Reached Broken old (desk port feed now)
+abbrev pub AnswersPoll : {Start X A E : Type 0} (Ready : X → Type 0) (Reached Broken : Start → List Frame → List Reply → X → Type 0) (old new : Desk X) → Result A E → Type 0
+AnswersPoll Ready Reached Broken old new (Ok done) = Deals Ready Reached old new
+AnswersPoll Ready Reached Broken old new (Err over) = Breaks Reached Broken old new

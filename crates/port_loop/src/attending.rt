@@ -3,7 +3,7 @@ ghost use Rattle.port_loop.specs.Transcript.{Attends};
 
 use crate::dealing::{PollBuffers, answer_poll};
 use byte_io::Port;
-use frame_loop::Answerer;
+use frame_loop::{Answerer, Over};
 use nmc_base::Steps;
 use std::alloc::Global;
 use std::sync::ledger::Ledger;
@@ -17,33 +17,32 @@ pub enum Ending {
     Ended,
 }
 
-/// Makes so many polls, each dealt with before the next, and gives back what answers.
+/// Makes so many polls, each dealt with before the next.
 ///
 /// A datagram is a query, whose reply goes to its client without code and length. A piece of the feed gives the frames
 /// that it completes, whose replies go to the feed, whole. For a bad frame the feed is closed. A poll or a send that
 /// failed is dealt with. It takes no memory of its own: the buffers have all of it.
 pub fn attend<W, T: Answerer<W>, P: Port, L: Ledger>(
     alloc: Global,
-    answerer: T,
+    answerer: &mut T,
     world: &mut W,
     buffers: &mut PollBuffers,
     port: &mut P,
     turns: u32,
     steps: &mut Steps<L>,
-) -> (Ending, T)
+) -> Ending
     requires bound { IsBound (P.seen port.old) }
-    requires ready { T.ready (answerer, world.old) }
-    ensures { Attends T.reached T.broken (P.seen port.old) (P.seen port.new) turns (answerer, world.old) result.0 (result.1, world.new) }
+    requires ready { T.ready (answerer.old, world.old) }
+    ensures { Attends T.reached T.broken (P.seen port.old) (P.seen port.new) turns (answerer.old, world.old) result (answerer.new, world.new) }
 {
-    let mut answerer = answerer;
     let mut polls: u32 = 0;
     buffers.frames.reset();
     while polls < turns {
         match answer_poll(alloc, answerer, world, buffers, port, steps) {
-            Ok(next) => answerer = next,
-            Err(last) => return (Ending::Ended, last),
+            Ok(()) => {}
+            Err(Over) => return Ending::Ended,
         }
         polls += 1;
     }
-    (Ending::Done, answerer)
+    Ending::Done
 }

@@ -2,7 +2,6 @@ ghost use Rattle.std.specs.Prelude.{◌<◌, ◌+◌, ◌^◌};
 ghost use Rattle.byte_io.specs.Port.{IsBound};
 ghost use Rattle.byte_io.specs.declared.port.TheConstants.{POLL_ROOM};
 ghost use Rattle.feed_frames.specs.Frames.{IsPartialFrame};
-ghost use Rattle.frame_loop.specs.Turns.{beside};
 ghost use Rattle.port_loop.specs.Answering.{desk, fed_to};
 ghost use Rattle.port_loop.specs.Attending.{AnswersPiece, AnswersPoll};
 
@@ -11,7 +10,7 @@ use crate::polling::{PollRoom, feed_front};
 use crate::sending::{Destination, drop_feed};
 use byte_io::{Polled, Port};
 use feed_frames::{Frame, Frames};
-use frame_loop::{Answerer, QUERY, ReplyBuf};
+use frame_loop::{Answerer, Over, QUERY, ReplyBuf};
 use nmc_base::{NoMemory, Steps};
 use std::alloc::Global;
 use std::sync::ledger::Ledger;
@@ -36,45 +35,43 @@ impl PollBuffers {
 }
 
 /// Answers all whole frames of the feed, and closes it where a bad one follows. At Err the last reply has ended the run.
-#[inline(never)]
 fn answer_piece<W, T: Answerer<W>, P: Port, L: Ledger>(
     alloc: Global,
-    answerer: T,
+    answerer: &mut T,
     world: &mut W,
     frames: &mut Frames,
     reply: &mut ReplyBuf,
     port: &mut P,
     steps: &mut Steps<L>,
-) -> Result<T, T>
+) -> Result<(), Over>
     requires bound { IsBound (P.seen port.old) }
-    requires ready { T.ready (answerer, world.old) }
-    ensures { AnswersPiece T.ready T.reached T.broken (desk (P.seen port.old) frames.old (answerer, world.old)) (P.seen port.new) frames.new (beside world.new result) }
+    requires ready { T.ready (answerer.old, world.old) }
+    ensures { AnswersPiece T.ready T.reached T.broken (desk (P.seen port.old) frames.old (answerer.old, world.old)) (desk (P.seen port.new) frames.new (answerer.new, world.new)) result }
 {
     match answer_all(alloc, answerer, world, frames, reply, port, steps) {
-        Halted::Partial(next) => Ok(next),
-        Halted::Bad(next) => {
+        Halted::Partial => Ok(()),
+        Halted::Bad => {
             drop_feed(frames, port);
-            Ok(next)
+            Ok(())
         }
-        Halted::Ended(last) => Err(last),
+        Halted::Ended => Err(Over),
     }
 }
 
 /// Makes one poll, and deals with it. At Err the last reply has ended the run.
-#[inline(never)]
 pub(crate) fn answer_poll<W, T: Answerer<W>, P: Port, L: Ledger>(
     alloc: Global,
-    answerer: T,
+    answerer: &mut T,
     world: &mut W,
     buffers: &mut PollBuffers,
     port: &mut P,
     steps: &mut Steps<L>,
-) -> Result<T, T>
+) -> Result<(), Over>
     requires bound { IsBound (P.seen port.old) }
-    requires ready { T.ready (answerer, world.old) }
+    requires ready { T.ready (answerer.old, world.old) }
     requires answered { IsPartialFrame buffers.old.frames.left }
     requires short { fed_to buffers.old.frames + POLL_ROOM < 2 ^ 63 }
-    ensures { AnswersPoll T.ready T.reached T.broken (desk (P.seen port.old) buffers.old.frames (answerer, world.old)) (P.seen port.new) buffers.new.frames (beside world.new result) }
+    ensures { AnswersPoll T.ready T.reached T.broken (desk (P.seen port.old) buffers.old.frames (answerer.old, world.old)) (desk (P.seen port.new) buffers.new.frames (answerer.new, world.new)) result }
 {
     let PollBuffers {
         frames,
@@ -105,9 +102,9 @@ pub(crate) fn answer_poll<W, T: Answerer<W>, P: Port, L: Ledger>(
         }
         Polled::FeedEnd => {
             frames.reset();
-            Ok(answerer)
+            Ok(())
         }
-        Polled::Nothing => Ok(answerer),
-        Polled::Failed => Ok(answerer),
+        Polled::Nothing => Ok(()),
+        Polled::Failed => Ok(()),
     }
 }

@@ -40,8 +40,8 @@ returns-in-Ok-bind g c =
       binds = c.in-Ok-bind.ensures;
       first = (On c.in-Ok.bridge, c.open.new.disk);
       reached = first_reached tells c.in-Ok.bridge before opened o;
-      how = c.attend-ending.result.0;
-      last = c.attend-ending.result.1;
+      how = c.attend-ending.result;
+      last = c.attend-ending.new.answerer;
       attends = c.attend-ending.ensures;
       now = refl;
     }))

@@ -1,10 +1,11 @@
 use Rattle.std.proofs.Common.{◌∙◌, sym, arith}
+use Rattle.frame_loop.specs.Answering.{desk}
 use Rattle.frame_loop.specs.Transcript.{streams}
 use Rattle.frame_loop.proofs.StreamLemmas.{begins, moves, reads_on, at_bad_frame, at_limit, at_sink, at_its_end, at_source, reads_nothing, at_done, in_frame}
 use Rattle.frame_loop.proofs.following.follow.Goals as goal
 
 pub pieces-init : goal.pieces-init
-pieces-init g c = (c.requires.ready, begins g.T.Answerer.reached (streams (g.S.Source.seen c.args.source.now) (g.K.Sink.seen c.args.sink.now)) c.args.limit (c.args.answerer, c.args.world.now) c.reset.new.self c.reset.ensures)
+pieces-init g c = (c.requires.ready, begins g.T.Answerer.reached (streams (g.S.Source.seen c.args.source.now) (g.K.Sink.seen c.args.sink.now)) c.args.limit (c.args.answerer.now, c.args.world.now) c.reset.new.self c.reset.ensures)
 
 pub returns-in-Bad : goal.returns-in-Bad
 returns-in-Bad g c = at_bad_frame c.pieces.invariant.1.at c.in-Bad.ensures
@@ -24,13 +25,13 @@ returns-in-Err g c =
 
 pub returns-in-None : goal.returns-in-None
 returns-in-None g c =
-    at_done (reads_nothing (moves c.pieces.invariant.1.at c.in-Partial.ensures.continues) c.in-Ok.ensures c.if-count-eq0.true (omega (arith, c.min-most.ensures)))
+    at_done (reads_nothing {first = (c.args.answerer.now, c.args.world.now)} {now = desk (g.K.Sink.seen c.answer_all.new.sink) c.answer_all.new.frames (c.answer_all.new.answerer, c.answer_all.new.world)} (moves c.pieces.invariant.1.at c.in-Partial.ensures.continues) c.in-Ok.ensures c.if-count-eq0.true (omega (arith, c.min-most.ensures)))
     (omega (arith, c.pieces.invariant.1.counted, c.in-Partial.ensures.continues.fed, c.if-read-limit.false)) c.in-Partial.ensures.partial c.in-None.ensures.found
 
 pub returns-in-Some : goal.returns-in-Some
 returns-in-Some g c =
     let there = c.in-Some.ensures.some in
-    in_frame (reads_nothing (moves c.pieces.invariant.1.at c.in-Partial.ensures.continues) c.in-Ok.ensures c.if-count-eq0.true (omega (arith, c.min-most.ensures)))
+    in_frame (reads_nothing {first = (c.args.answerer.now, c.args.world.now)} {now = desk (g.K.Sink.seen c.answer_all.new.sink) c.answer_all.new.frames (c.answer_all.new.answerer, c.answer_all.new.world)} (moves c.pieces.invariant.1.at c.in-Partial.ensures.continues) c.in-Ok.ensures c.if-count-eq0.true (omega (arith, c.min-most.ensures)))
     (omega (arith, c.pieces.invariant.1.counted, c.in-Partial.ensures.continues.fed, c.if-read-limit.false)) there.0 there.1 there.2
 
 pub pieces-preserved : goal.pieces-preserved

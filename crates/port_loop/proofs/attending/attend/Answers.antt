@@ -5,18 +5,18 @@ use Rattle.port_loop.proofs.attending.attend.Goals as goal
 
 pub loop-polls-init : goal.loop-polls-init
 loop-polls-init g c =
-    (omega arith, begins g.T.Answerer.ready g.T.Answerer.reached (g.P.Port.seen c.args.port.now) (c.args.answerer, c.args.world.now) c.reset.new.self c.requires.bound c.requires.ready c.reset.ensures)
+    (omega arith, begins g.T.Answerer.ready g.T.Answerer.reached (g.P.Port.seen c.args.port.now) (c.args.answerer.now, c.args.world.now) c.reset.new.self c.requires.bound c.requires.ready c.reset.ensures)
 
 pub returns-in-Err : goal.returns-in-Err
 returns-in-Err g c =
     has_ended (desk (g.P.Port.seen c.loop-polls.port) c.loop-polls.buffers.frames (c.loop-polls.answerer, c.loop-polls.world))
-    (desk (g.P.Port.seen c.answer_poll.new.port) c.answer_poll.new.buffers.frames (c.in-Err.last, c.answer_poll.new.world)) c.loop-polls.invariant.1 c.in-Err.ensures c.loop-polls-test.true
+    (desk (g.P.Port.seen c.answer_poll.new.port) c.answer_poll.new.buffers.frames (c.answer_poll.new.answerer, c.answer_poll.new.world)) c.loop-polls.invariant.1 c.in-Err.ensures c.loop-polls-test.true
 
 pub loop-polls-preserved : goal.loop-polls-preserved
 loop-polls-preserved g c = (
   omega (arith, c.loop-polls-test.true),
   goes_on (desk (g.P.Port.seen c.loop-polls.port) c.loop-polls.buffers.frames (c.loop-polls.answerer, c.loop-polls.world))
-      (desk (g.P.Port.seen c.answer_poll.new.port) c.answer_poll.new.buffers.frames (c.in-Ok.next, c.answer_poll.new.world)) c.loop-polls.invariant.1 c.in-Ok.ensures,
+      (desk (g.P.Port.seen c.answer_poll.new.port) c.answer_poll.new.buffers.frames (c.answer_poll.new.answerer, c.answer_poll.new.world)) c.loop-polls.invariant.1 c.in-Ok.ensures,
 )
 
 pub returns : goal.returns

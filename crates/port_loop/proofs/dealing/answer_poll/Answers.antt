@@ -1,6 +1,5 @@
 use Rattle.std.proofs.Common.{take}
 use Rattle.byte_io.specs.Port.{nothing, fault}
-use Rattle.frame_loop.specs.Turns.{beside}
 use Rattle.port_loop.specs.Polls.{at_nothing, at_fault}
 use Rattle.port_loop.specs.Answering.{desk}
 use Rattle.port_loop.proofs.PollLemmas.{brings_nothing, brings_end, query_dealt, piece_dealt}
@@ -8,28 +7,28 @@ use Rattle.port_loop.proofs.dealing.answer_poll.Goals as goal
 
 pub returns-in-Query : goal.returns-in-Query
 returns-in-Query g c =
-    query_dealt g.T.Answerer.ready g.T.Answerer.reached g.T.Answerer.broken (desk (g.P.Port.seen c.args.port.now) c.args.buffers.now.frames (c.args.answerer, c.args.world.now))
-    (record { port = g.P.Port.seen c.poll.new.port; client = c.in-Query.client; message = take c.in-Query.len c.poll.new.self }) (g.P.Port.seen c.answer.new.port) (beside c.answer.new.world c.answer.result)
+    query_dealt g.T.Answerer.ready g.T.Answerer.reached g.T.Answerer.broken (desk (g.P.Port.seen c.args.port.now) c.args.buffers.now.frames (c.args.answerer.now, c.args.world.now))
+    (record { port = g.P.Port.seen c.poll.new.port; client = c.in-Query.client; message = take c.in-Query.len c.poll.new.self }) (g.P.Port.seen c.answer.new.port) (c.answer.new.answerer, c.answer.new.world) c.answer.result
     c.in-Query.ensures.noted c.requires.answered (rw c.front.ensures.value at c.answer.ensures)
 
 pub returns-in-Feed : goal.returns-in-Feed
 returns-in-Feed g c =
-    piece_dealt g.T.Answerer.ready g.T.Answerer.reached g.T.Answerer.broken (desk (g.P.Port.seen c.args.port.now) c.args.buffers.now.frames (c.args.answerer, c.args.world.now))
+    piece_dealt g.T.Answerer.ready g.T.Answerer.reached g.T.Answerer.broken (desk (g.P.Port.seen c.args.port.now) c.args.buffers.now.frames (c.args.answerer.now, c.args.world.now))
     (take c.in-Feed.len c.poll.new.self) (record { port = g.P.Port.seen c.poll.new.port; feed = c.feed_front.new.frames })
-    (record { port = g.P.Port.seen c.answer_piece.new.port; feed = c.answer_piece.new.frames }) (beside c.answer_piece.new.world c.answer_piece.result)
+    (desk (g.P.Port.seen c.answer_piece.new.port) c.answer_piece.new.frames (c.answer_piece.new.answerer, c.answer_piece.new.world)) c.answer_piece.result
     (record { noted = c.in-Feed.ensures.noted; grown = c.feed_front.ensures.grown; within = c.feed_front.ensures.within }) c.answer_piece.ensures
 
 pub returns-in-FeedEnd : goal.returns-in-FeedEnd
 returns-in-FeedEnd g c =
-    brings_end g.T.Answerer.ready g.T.Answerer.reached (desk (g.P.Port.seen c.args.port.now) c.args.buffers.now.frames (c.args.answerer, c.args.world.now)) (g.P.Port.seen c.poll.new.port) c.reset.new.self
+    brings_end g.T.Answerer.ready g.T.Answerer.reached (desk (g.P.Port.seen c.args.port.now) c.args.buffers.now.frames (c.args.answerer.now, c.args.world.now)) (g.P.Port.seen c.poll.new.port) c.reset.new.self
     c.in-FeedEnd.ensures c.reset.ensures c.requires.ready
 
 pub returns-in-Nothing : goal.returns-in-Nothing
 returns-in-Nothing g c =
-    brings_nothing g.T.Answerer.ready g.T.Answerer.reached (desk (g.P.Port.seen c.args.port.now) c.args.buffers.now.frames (c.args.answerer, c.args.world.now)) (g.P.Port.seen c.poll.new.port) nothing
+    brings_nothing g.T.Answerer.ready g.T.Answerer.reached (desk (g.P.Port.seen c.args.port.now) c.args.buffers.now.frames (c.args.answerer.now, c.args.world.now)) (g.P.Port.seen c.poll.new.port) nothing
     at_nothing c.in-Nothing.ensures c.requires.ready c.requires.answered
 
 pub returns-in-Failed : goal.returns-in-Failed
 returns-in-Failed g c =
-    brings_nothing g.T.Answerer.ready g.T.Answerer.reached (desk (g.P.Port.seen c.args.port.now) c.args.buffers.now.frames (c.args.answerer, c.args.world.now)) (g.P.Port.seen c.poll.new.port) fault
+    brings_nothing g.T.Answerer.ready g.T.Answerer.reached (desk (g.P.Port.seen c.args.port.now) c.args.buffers.now.frames (c.args.answerer.now, c.args.world.now)) (g.P.Port.seen c.poll.new.port) fault
     at_fault c.in-Failed.ensures.noted c.requires.ready c.requires.answered
