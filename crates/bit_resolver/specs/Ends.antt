@@ -26,7 +26,7 @@ seen_place place_in.Apex = apex
 seen_place (place_in.Below b) = below (seen_below b)
 
 abbrev pub seen_node : NodeIn → Node
-seen_node n = record { own = n.own; top = n.top; of = map members n.of.held.items }
+seen_node n = record { own = n.own; top = n.top.now; of = map members n.of.held.items }
 
 -- how a walk down to a name ends
 abbrev pub Ends : Live → Below → Members → Walk → Type 0

@@ -93,7 +93,7 @@ fn is_asked(kind: u16, key: Key) -> bool
 }
 
 /// The records of these items that match a QTYPE.
-fn matching(alloc: Global, node: &Node, kind: u16, keys: &[Key]) -> Result<Resources, NoMemory>
+fn matching(alloc: Global, node: &Node<'_>, kind: u16, keys: &[Key]) -> Result<Resources, NoMemory>
     ensures { IfOk result (λ v. v.items ≡ matching_of (seen_node node.now) kind keys.now) }
 {
     let mut found = Resources::new(alloc);
@@ -106,7 +106,7 @@ fn matching(alloc: Global, node: &Node, kind: u16, keys: &[Key]) -> Result<Resou
 }
 
 /// The records of a node that match a QTYPE.
-fn matching_any(alloc: Global, node: &Node, kind: u16) -> Result<Resources, NoMemory>
+fn matching_any(alloc: Global, node: &Node<'_>, kind: u16) -> Result<Resources, NoMemory>
     ensures { IfOk result (λ v. v.items ≡ matching_of (seen_node node.now) kind record_items) }
 {
     let keys = [
@@ -135,7 +135,7 @@ fn by_cname(alloc: Global, kind: u16, own: &Name, target: Name) -> Result<Asked,
 }
 
 /// What the node of a name answers that is no cut.
-fn in_zone(alloc: Global, zone: &Zone, node: &Node, kind: u16) -> Result<Asked, NoMemory>
+fn in_zone(alloc: Global, zone: &Zone, node: &Node<'_>, kind: u16) -> Result<Asked, NoMemory>
     ensures { IfOk result (λ a. seen_asked a ≡ in_zone_of zone.now (seen_node node.now) kind) }
 {
     match node.target(alloc, Key::Alias)? {
@@ -148,7 +148,7 @@ fn in_zone(alloc: Global, zone: &Zone, node: &Node, kind: u16) -> Result<Asked, 
 }
 
 /// What a cut at the name itself answers: DS stands above the cut.
-fn at_cut(alloc: Global, zone: &Zone, node: &Node, kind: u16) -> Result<Sections, NoMemory>
+fn at_cut(alloc: Global, zone: &Zone, node: &Node<'_>, kind: u16) -> Result<Sections, NoMemory>
     ensures { IfOk result (λ s. seen_sections s ≡ at_cut_of zone.now (seen_node node.now) kind) }
 {
     if kind == rr_type::DS {
@@ -160,7 +160,7 @@ fn at_cut(alloc: Global, zone: &Zone, node: &Node, kind: u16) -> Result<Sections
 }
 
 /// What the node of a name answers.
-fn at_name(alloc: Global, zone: &Zone, node: &Node, kind: u16) -> Result<Asked, NoMemory>
+fn at_name(alloc: Global, zone: &Zone, node: &Node<'_>, kind: u16) -> Result<Asked, NoMemory>
     ensures { IfOk result (λ a. seen_asked a ≡ at_name_of zone.now (seen_node node.now) kind) }
 {
     if node.is_cut(alloc)? {
@@ -198,17 +198,17 @@ fn by_dname(
 fn moved(
     alloc: Global,
     name: &Below,
-    node: &Node,
+    node: &Node<'_>,
     left: usize,
     target: &Name,
 ) -> Result<Asked, NoMemory>
     requires name { IsBelow (seen_below name.now) }
-    requires top { node.now.top ≡ top_of (seen_below name.now) }
+    requires top { node.now.top.now ≡ top_of (seen_below name.now) }
     requires left { left ≤ length name.now.path.items }
     ensures { IfOk result (λ a. let b = seen_below name.now in
         seen_asked a ≡ by_dname_of (dname_of node.now.own target.now) (own_of b b.path) (replaced b (drop left b.path) target.now)) }
 {
-    let own = name.own_at(alloc, &node.top, 0)?;
+    let own = name.own_at(alloc, node.top, 0)?;
     let renamed = name_before(alloc, &name.path[..left], target)?;
     let dname = Resource::new(alloc, &node.own, rr_type::DNAME, target.wire())?;
     by_dname(alloc, dname, &own, renamed)
@@ -226,7 +226,8 @@ pub(crate) fn by_object<N: Names>(
     requires { IsBelow (seen_below name.now) }
     ensures { IfOk result (λ a. seen_asked a ≡ by_value (N.served names.now) zone.now (seen_below name.now) kind (Some (members object))) }
 {
-    match go_down(alloc, names, name, object)? {
+    let top = name.top();
+    match go_down(alloc, names, name, &top, object)? {
         Walk::Missing => Ok(Asked::Done(negative(alloc, zone, rcode::NXDOMAIN)?)),
         Walk::Cut(node, _) => {
             let servers = node.records(alloc, Key::Ns)?;

@@ -2,24 +2,28 @@
 
 ghost use Rattle.std.specs.Prelude.{◌≡◌, not, IfOk, OnOk, ◌++◌};
 ghost use Rattle.bit_resolver.specs.Nodes.{rdata_at, target_at, host_in as host_of, is_nil, type_of as type_number};
-ghost use Rattle.bit_resolver.specs.Answers.{records_at};
+ghost use Rattle.std.specs.List.{flat_map};
+ghost use Rattle.domain_text.specs.Host.{host_name as host_name_of};
+ghost use Rattle.ifa_value.specs.Elements.{alone};
+ghost use Rattle.bit_resolver.specs.Rdata.{rdata_of};
+ghost use Rattle.bit_resolver.specs.Answers.{records_of, records_at};
 ghost use Rattle.bit_resolver.specs.Ends.{seen_node};
 ghost use Rattle.ifa_value.specs.declared.item.Key.TheVariants.{Ns};
 
-use crate::rdata::{each, host_name};
-use crate::resource::{Resources, add_records};
+use crate::rdata::{host_name, rdata};
+use crate::resource::{Resource, Resources, add};
 use crate::rr_type;
 use domain_text::Name;
 use ifa_value::{Element, Key};
 use import_expand::Sources;
-use nmc_base::{Bytes, NoMemory};
+use nmc_base::NoMemory;
 use std::alloc::Global;
 
 /// A node: its domain name, that of the name right below `bit.`, and its sources.
 #[derive(Drop)]
-pub(crate) struct Node {
+pub(crate) struct Node<'a> {
     pub(crate) own: Name,
-    pub(crate) top: Name,
+    pub(crate) top: &'a Name,
     pub(crate) of: Sources,
 }
 
@@ -44,26 +48,13 @@ pub(crate) fn type_of(key: Key) -> u16
     }
 }
 
-impl Node {
-    /// RDATA of each element of an item that isn't skipped at the node.
-    pub(crate) fn rdata(&self, alloc: Global, key: Key) -> Result<Vec<Bytes>, NoMemory>
-        ensures { IfOk result (λ v. v.items ≡ rdata_at key (seen_node self.now)) }
-    {
-        match self.of.first_with(key) {
-            None => Ok(Vec::new(alloc)),
-            Some(object) => {
-                let elements = object.elements(alloc, key)?;
-                each(alloc, &self.own, &self.top, elements.as_slice())
-            }
-        }
-    }
-
+impl<'a> Node<'a> {
     /// The name of a host element.
     fn host_in(&self, element: &Element) -> Option<Name>
         ensures { result ≡ host_of (seen_node self.now) element.now }
     {
         match element {
-            Element::Host(text) => host_name(&self.own, &self.top, text.as_slice()),
+            Element::Host(text) => host_name(&self.own, self.top, text.as_slice()),
             _ => None,
         }
     }
@@ -84,12 +75,43 @@ impl Node {
         }
     }
 
-    /// Whether other servers have authority over the node.
-    pub(crate) fn is_cut(&self, alloc: Global) -> Result<bool, NoMemory>
-        ensures { IfOk result (λ b. b ≡ not (is_nil (rdata_at Ns (seen_node self.now)))) }
+    /// Adds the record of an element, unless the element is skipped at the node or gives none.
+    fn add_element(
+        &self,
+        alloc: Global,
+        kind: u16,
+        element: &Element,
+        into: &mut Resources,
+    ) -> Result<(), NoMemory>
+        ensures { OnOk result (into.new.items ≡ into.old.items ++ records_of self.now.own kind (alone (rdata_of (host_name_of self.now.own self.now.top.now) element.now))) }
     {
-        let servers = self.rdata(alloc, Key::Ns)?;
-        Ok(servers.len() > 0)
+        match rdata(alloc, &self.own, self.top, element)? {
+            None => Ok(()),
+            Some(rdata) => add(
+                into,
+                Resource {
+                    owner: self.own.copy(),
+                    kind,
+                    rdata,
+                },
+            ),
+        }
+    }
+
+    /// Adds the records of the elements.
+    fn add_elements(
+        &self,
+        alloc: Global,
+        kind: u16,
+        elements: &[Element],
+        into: &mut Resources,
+    ) -> Result<(), NoMemory>
+        ensures { OnOk result (into.new.items ≡ into.old.items ++ records_of self.now.own kind (flat_map (λ e. alone (rdata_of (host_name_of self.now.own self.now.top.now) e)) elements.now)) }
+    {
+        for element in elements {
+            self.add_element(alloc, kind, element, into)?;
+        }
+        Ok(())
     }
 
     /// Adds the records of an item.
@@ -101,8 +123,13 @@ impl Node {
     ) -> Result<(), NoMemory>
         ensures { OnOk result (into.new.items ≡ into.old.items ++ records_at key (seen_node self.now)) }
     {
-        let rdata = self.rdata(alloc, key)?;
-        add_records(alloc, &self.own, type_of(key), rdata.as_slice(), into)
+        match self.of.first_with(key) {
+            None => Ok(()),
+            Some(object) => {
+                let elements = object.elements(alloc, key)?;
+                self.add_elements(alloc, type_of(key), elements.as_slice(), into)
+            }
+        }
     }
 
     /// The records of an item.
@@ -112,5 +139,13 @@ impl Node {
         let mut found = Resources::new(alloc);
         self.add_item(alloc, key, &mut found)?;
         Ok(found)
+    }
+
+    /// Whether other servers have authority over the node.
+    pub(crate) fn is_cut(&self, alloc: Global) -> Result<bool, NoMemory>
+        ensures { IfOk result (λ b. b ≡ not (is_nil (rdata_at Ns (seen_node self.now)))) }
+    {
+        let servers = self.records(alloc, Key::Ns)?;
+        Ok(servers.len() > 0)
     }
 }

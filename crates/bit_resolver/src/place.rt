@@ -1,15 +1,21 @@
 //! Where a name stands in the tree of names.
 
-ghost use Rattle.std.specs.Prelude.{◌≡◌, ◌≤◌, ◌++◌, ◌∷◌, [], codes, drop, length, option_map, reverse, IfOk};
+ghost use Rattle.std.specs.Prelude.{◌≡◌, ◌↔◌, IsTrue, ◌≤◌, ◌++◌, ◌∷◌, codes, drop, length, option_map, reverse, take, ◌+◌, IfOk, OnOk};
 ghost use Rattle.std.specs.List.{AllByRecursion, list_all};
-ghost use Rattle.domain_text.specs.Names.{IsName, IsWireLabel, joined_to, if_fits};
-ghost use Rattle.bit_resolver.specs.Places.{next_of, labels_of, place_up, place_of, own_of, top_of, is_domain_label as is_domain_label_of, is_letter_digit_hyphen as is_letter_digit_hyphen_of, is_hyphen_first as is_hyphen_first_of, is_outside as is_outside_of, IsPlace, IsBelow};
+ghost use Rattle.domain_text.specs.Names.{IsName, IsWireLabel, joined_to, lower, if_fits};
+ghost use Rattle.bit_resolver.specs.Places.{apex_name as apex_wire, next_of, place_of, own_of, top_of, is_domain_label as is_domain_label_of, is_letter_digit_hyphen as is_letter_digit_hyphen_of, is_hyphen_first as is_hyphen_first_of, is_outside as is_outside_of, IsPlace, IsBelow};
 ghost use Rattle.bit_resolver.specs.Ends.{seen_place, seen_below};
+ghost use Rattle.bit_resolver.specs.declared.place.TheConstants.{ROOM};
 
-use crate::zone::apex_name;
 use domain_text::{LONGEST_WIRE, Name};
 use nmc_base::{Bytes, NoMemory};
 use std::alloc::Global;
+
+/// The name `bit.` on the wire.
+const APEX: &[u8] = b"\x03bit\0";
+
+/// Room for a label, its length and `bit.`, or for a label behind `d/`.
+const ROOM: usize = 69;
 
 /// A name below `bit.`, in lower case: the label right below `bit`, and the labels below that, the lowest first.
 #[derive(Drop)]
@@ -40,53 +46,51 @@ fn next_label(wire: &[u8]) -> Option<(&[u8], &[u8])>
     Some((&rest[..length], &rest[length..]))
 }
 
-/// The labels of a name, the lowest first.
-fn labels(alloc: Global, wire: &[u8]) -> Result<Vec<Bytes>, NoMemory>
-    ensures { IfOk result (λ v. v.items ≡ labels_of wire.now) }
+/// Whether the bytes are the name `bit.`, in any case.
+fn is_apex(wire: &[u8]) -> bool
+    ensures { IsTrue result ↔ (lower wire.now ≡ apex_wire) }
 {
-    let mut found = Vec::new(alloc);
-    let mut rest = wire;
-    let mut left = wire.len();
-    while left > 0 {
-        match next_label(rest) {
-            None => return Ok(found),
-            Some((label, more)) => {
-                found.push(Bytes::copy_of(alloc, label)?)?;
-                rest = more;
-            }
-        }
-        left -= 1;
-    }
+    wire.eq_ignore_ascii_case(APEX)
+}
+
+/// A label in lower case.
+fn lower_label(alloc: Global, label: &[u8]) -> Result<Bytes, NoMemory>
+    ensures { IfOk result (λ b. b ≡ lower label.now) }
+{
+    let mut found = Bytes::copy_of(alloc, label)?;
+    found.as_mut_slice().make_ascii_lowercase();
     Ok(found)
 }
 
-/// Where these labels lead, the lowest first.
-fn place_at(labels: Vec<Bytes>) -> Place
-    ensures { seen_place result ≡ place_up (reverse labels.items) }
+/// The place of a name, in one walk over its labels.
+fn place_in(alloc: Global, wire: &[u8]) -> Result<Place, NoMemory>
+    requires { IsName wire.now }
+    ensures { IfOk result (λ p. seen_place p ≡ place_of wire.now) }
 {
-    let mut path = labels;
-    match path.pop() {
-        None => Place::Outside,
-        Some(last) => {
-            if last.as_slice() != [b'b', b'i', b't'].as_slice() {
-                return Place::Outside;
-            }
-            match path.pop() {
-                None => Place::Apex,
-                Some(x) => Place::Below(Below { x, path }),
-            }
-        }
+    if is_apex(wire) {
+        return Ok(Place::Apex);
     }
+    let mut path = Vec::new(alloc);
+    let mut rest = wire;
+    while let Some((label, more)) = next_label(rest) {
+        let label = lower_label(alloc, label)?;
+        if is_apex(more) {
+            return Ok(Place::Below(Below { x: label, path }));
+        }
+        path.push(label)?;
+        rest = more;
+    }
+    Ok(Place::Outside)
 }
 
 /// The place of a name.
-pub(crate) fn find_place(alloc: Global, name: &Name) -> Result<Place, NoMemory>
-    ensures place { IfOk result (λ p. seen_place p ≡ place_of name.now) }
+pub(crate) fn find_place(alloc: Global, wire: &[u8]) -> Result<Place, NoMemory>
+    requires { IsName wire.now }
+    ensures place { IfOk result (λ p. seen_place p ≡ place_of wire.now) }
     ensures named { IfOk result (λ p. IsPlace (seen_place p)) }
 {
-    let lower = name.lower();
-    let labels = labels(alloc, lower.wire())?;
-    Ok(place_at(labels))
+    let place = place_in(alloc, wire)?;
+    Ok(place)
 }
 
 impl Place {
@@ -102,15 +106,13 @@ impl Place {
     }
 }
 
-/// A label before the name that it stands below.
-fn label_before(alloc: Global, label: &[u8], end: &[u8]) -> Result<Bytes, NoMemory>
+/// Appends a label behind its length.
+fn add_label(label: &[u8], into: &mut Bytes) -> Result<(), NoMemory>
     requires { IsWireLabel label.now }
-    ensures { IfOk result (λ b. b ≡ length label.now ∷ (label.now ++ end.now)) }
+    ensures { OnOk result (into.new ≡ into.old ++ length label.now ∷ label.now) }
 {
-    let mut found = Bytes::copy_of(alloc, &[label.len() as u8])?;
-    found.extend(label)?;
-    found.extend(end)?;
-    Ok(found)
+    into.extend(&[label.len() as u8])?;
+    into.extend(label)
 }
 
 /// Labels, the lowest first, before the name that they stand below.
@@ -118,12 +120,11 @@ fn joined(alloc: Global, labels: &[Bytes], end: &[u8]) -> Result<Bytes, NoMemory
     requires { AllByRecursion IsWireLabel labels.now }
     ensures { IfOk result (λ b. b ≡ joined_to labels.now end.now) }
 {
-    let mut found = Bytes::copy_of(alloc, end)?;
-    let mut left = labels.len();
-    while left > 0 {
-        left -= 1;
-        found = label_before(alloc, labels[left].as_slice(), found.as_slice())?;
+    let mut found = Bytes::new(alloc);
+    for label in labels {
+        add_label(label.as_slice(), &mut found)?;
     }
+    found.extend(end)?;
     Ok(found)
 }
 
@@ -147,16 +148,45 @@ pub(crate) fn name_before(
     }
 }
 
+/// The bytes, with a piece written over those behind the first so many.
+fn with_piece(bytes: [u8; ROOM], first: usize, piece: &[u8]) -> [u8; ROOM]
+    requires { first + length piece.now ≤ ROOM }
+    ensures { take (first + length piece.now) result ≡ take first bytes ++ piece.now }
+{
+    let mut bytes = bytes;
+    bytes[first..first + piece.len()].copy_from_slice(piece);
+    bytes
+}
+
+/// The name `d/` and this label, and more bytes behind it.
+pub(crate) fn value_name(label: &[u8]) -> [u8; ROOM]
+    requires { IsWireLabel label.now }
+    ensures { take (2 + length label.now) result ≡ codes "d/" ++ label.now }
+{
+    let name = with_piece([0; ROOM], 0, b"d/");
+    with_piece(name, 2, label)
+}
+
+/// The name of a label right below `bit.` on the wire, and more bytes behind it.
+fn top_wire(label: &[u8]) -> [u8; ROOM]
+    requires { IsWireLabel label.now }
+    ensures { take (1 + length label.now + 5) result ≡ length label.now ∷ (label.now ++ apex_wire) }
+{
+    let wire = [label.len() as u8; ROOM];
+    let wire = with_piece(wire, 1, label);
+    with_piece(wire, 1 + label.len(), APEX)
+}
+
 impl Below {
     /// The name right below `bit.` that this one ends with.
-    pub(crate) fn top(&self, alloc: Global) -> Result<Name, NoMemory>
+    pub(crate) fn top(&self) -> Name
         requires { IsBelow (seen_below self.now) }
-        ensures { IfOk result (λ n. n ≡ top_of (seen_below self.now)) }
+        ensures { result ≡ top_of (seen_below self.now) }
     {
-        let apex = apex_name();
-        let wire = label_before(alloc, self.x.as_slice(), apex.wire())?;
-        match Name::from_wire(wire.as_slice()) {
-            Some(name) => Ok(name),
+        let x = self.x.as_slice();
+        let wire = top_wire(x);
+        match Name::from_wire(&wire[..1 + x.len() + APEX.len()]) {
+            Some(name) => name,
             None => unreachable!(),
         }
     }

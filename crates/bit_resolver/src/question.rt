@@ -1,11 +1,11 @@
 //! Answers of questions.
 
-ghost use Rattle.std.specs.Prelude.{◌≡◌, IfOk};
+ghost use Rattle.std.specs.Prelude.{◌≡◌, ◌++◌, IfOk, OnOk};
 ghost use Rattle.std.specs.Option.{option_map};
-ghost use Rattle.domain_text.specs.Names.{IsName};
+ghost use Rattle.domain_text.specs.Names.{IsName, IsWireLabel};
 ghost use Rattle.dns_message.specs.Query.{query_of};
 ghost use Rattle.ifa_value.specs.Object.{members};
-ghost use Rattle.bit_resolver.specs.Places.{IsPlace};
+ghost use Rattle.bit_resolver.specs.Places.{IsPlace, place_of};
 ghost use Rattle.bit_resolver.specs.Answers.{value_of, asked_at, after_records as after_records_of, chase as chase_of, is_refused as is_refused_of, answer_at, answer_to};
 ghost use Rattle.bit_resolver.specs.Laws.{IsLawful};
 ghost use Rattle.bit_resolver.specs.Ends.{seen_place, seen_sections, seen_asked};
@@ -13,7 +13,7 @@ ghost use Rattle.bit_resolver.specs.declared.limits.TheConstants.{MOST_CNAMES as
 
 use crate::cases::{answered, apex_records, by_object, negative, or_no_data};
 use crate::limits::{CLASS_IN, MOST_CNAMES};
-use crate::place::{Place, find_place, is_domain_label};
+use crate::place::{Place, find_place, is_domain_label, value_name};
 use crate::resource::{Asked, Resources, Sections, add_all};
 use crate::rr_type;
 use crate::zone::Zone;
@@ -21,19 +21,19 @@ use dns_message::{Question, rcode};
 use domain_text::Name;
 use ifa_value::{IfaObject, read_value};
 use import_expand::Names;
-use nmc_base::{Bytes, NoMemory};
+use nmc_base::NoMemory;
 use std::alloc::Global;
 
 /// The object of the name `d/` and this label. None exactly where the label is no domain label, or the name isn't served.
 fn value<N: Names>(alloc: Global, names: &N, x: &[u8]) -> Result<Option<IfaObject>, NoMemory>
+    requires { IsWireLabel x.now }
     ensures { IfOk result (λ o. option_map members o ≡ value_of (N.served names.now) x.now) }
 {
     if !is_domain_label(x) {
         return Ok(None);
     }
-    let mut name = Bytes::copy_of(alloc, b"d/")?;
-    name.extend(x)?;
-    match names.live(name.as_slice()) {
+    let name = value_name(x);
+    match names.live(&name[..2 + x.len()]) {
         None => Ok(None),
         Some(value) => Ok(Some(read_value(alloc, value)?)),
     }
@@ -67,15 +67,32 @@ fn ask<N: Names>(
 fn after_records(alloc: Global, before: Resources, last: Sections) -> Result<Sections, NoMemory>
     ensures { IfOk result (λ s. seen_sections s ≡ after_records_of before.items (seen_sections last)) }
 {
+    if before.len() == 0 {
+        return Ok(last);
+    }
     let mut answer = before;
-    let some = answer.len() > 0;
     add_all(alloc, last.answer.as_slice(), &mut answer)?;
     Ok(Sections {
         answer,
         authority: last.authority,
         rcode: last.rcode,
-        aa: last.aa || some,
+        aa: true,
     })
+}
+
+/// Adds the records that were found.
+fn add_found(alloc: Global, found: Resources, into: &mut Resources) -> Result<(), NoMemory>
+    ensures { OnOk result (into.new.items ≡ into.old.items ++ found.items) }
+{
+    add_all(alloc, found.as_slice(), into)
+}
+
+/// The place of the name that is asked next.
+fn target_place(alloc: Global, target: Name) -> Result<Place, NoMemory>
+    ensures place { IfOk result (λ p. seen_place p ≡ place_of target) }
+    ensures named { IfOk result (λ p. IsPlace (seen_place p)) }
+{
+    find_place(alloc, target.wire())
 }
 
 /// Asks a name, and each name that it is renamed to.
@@ -96,8 +113,8 @@ fn chase<N: Names>(
         match ask(alloc, names, zone, kind, &place)? {
             Asked::Done(last) => return after_records(alloc, before, last),
             Asked::Renamed(found, target) => {
-                add_all(alloc, found.as_slice(), &mut before)?;
-                place = find_place(alloc, &target)?;
+                add_found(alloc, found, &mut before)?;
+                place = target_place(alloc, target)?;
             }
         }
         left -= 1;
@@ -145,13 +162,8 @@ fn answer_question<N: Names>(
     requires name { IsName asked.now.name.now }
     ensures { IfOk result (λ s. seen_sections s ≡ answer_to (N.served names.now) zone.now (query_of asked.now)) }
 {
-    match Name::from_wire(asked.name) {
-        Some(name) => {
-            let place = find_place(alloc, &name)?;
-            answer(alloc, names, zone, asked.kind, asked.class, place)
-        }
-        None => unreachable!(),
-    }
+    let place = find_place(alloc, asked.name)?;
+    answer(alloc, names, zone, asked.kind, asked.class, place)
 }
 
 /// The answer of a question (RFC 1034, 4.3.2): from the value of `d/x` for a name at or below `x.bit.`, from the zone

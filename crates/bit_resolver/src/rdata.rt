@@ -2,8 +2,6 @@
 
 ghost use Rattle.std.specs.Prelude.{◌≡◌, ◌++◌, ◌∷◌, [], option_map, IfOk, OnOk, Some};
 ghost use Rattle.domain_text.specs.Host.{host_name as host_name_of};
-ghost use Rattle.std.specs.List.{flat_map};
-ghost use Rattle.ifa_value.specs.Elements.{alone};
 ghost use Rattle.bit_resolver.specs.Rdata.{rdata_of, numbers16, numbers32};
 
 use domain_text::{Name, read_host};
@@ -136,58 +134,4 @@ pub(crate) fn rdata(
         }
         Element::Import { .. } => Ok(None),
     }
-}
-
-/// Adds what there is.
-fn keep(rdata: Option<Bytes>, found: &mut Vec<Bytes>) -> Result<(), NoMemory>
-    ensures { OnOk result (found.new.items ≡ found.old.items ++ alone rdata) }
-{
-    if let Some(rdata) = rdata {
-        found.push(rdata)?;
-    }
-    Ok(())
-}
-
-/// Adds RDATA of an element that isn't skipped.
-fn add_one(
-    alloc: Global,
-    own: &Name,
-    top: &Name,
-    element: &Element,
-    found: &mut Vec<Bytes>,
-) -> Result<(), NoMemory>
-    ensures { OnOk result (found.new.items ≡ found.old.items ++ alone (rdata_of (host_name_of own.now top.now) element.now)) }
-{
-    let rdata = rdata(alloc, own, top, element)?;
-    keep(rdata, found)
-}
-
-/// Adds RDATA of each of the elements that isn't skipped.
-fn add_each(
-    alloc: Global,
-    own: &Name,
-    top: &Name,
-    elements: &[Element],
-    found: &mut Vec<Bytes>,
-) -> Result<(), NoMemory>
-    ensures { OnOk result (found.new.items ≡ found.old.items ++ flat_map (λ e. alone (rdata_of (host_name_of own.now top.now) e)) elements.now) }
-{
-    for element in elements {
-        add_one(alloc, own, top, element, found)?;
-    }
-    Ok(())
-}
-
-/// RDATA of each of the elements that isn't skipped.
-pub(crate) fn each(
-    alloc: Global,
-    own: &Name,
-    top: &Name,
-    elements: &[Element],
-) -> Result<Vec<Bytes>, NoMemory>
-    ensures { IfOk result (λ v. v.items ≡ flat_map (λ e. alone (rdata_of (host_name_of own.now top.now) e)) elements.now) }
-{
-    let mut found = Vec::new(alloc);
-    add_each(alloc, own, top, elements, &mut found)?;
-    Ok(found)
 }

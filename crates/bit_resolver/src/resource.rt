@@ -1,7 +1,6 @@
 //! Records and answers.
 
 ghost use Rattle.std.specs.Prelude.{◌≡◌, ◌++◌, ◌∷◌, [], OnOk, IfOk};
-ghost use Rattle.bit_resolver.specs.Answers.{records_of};
 
 use domain_text::Name;
 use nmc_base::{Bytes, NoMemory, RoomyList};
@@ -66,23 +65,6 @@ pub(crate) fn add(into: &mut Resources, resource: Resource) -> Result<(), NoMemo
 {
     into.reserve(1)?;
     into.push(resource);
-    Ok(())
-}
-
-/// Adds a record of each RDATA.
-pub(crate) fn add_records(
-    alloc: Global,
-    owner: &Name,
-    kind: u16,
-    rdata: &[Bytes],
-    into: &mut Resources,
-) -> Result<(), NoMemory>
-    ensures { OnOk result (into.new.items ≡ into.old.items ++ records_of owner.now kind rdata.now) }
-{
-    for data in rdata {
-        let resource = Resource::new(alloc, owner, kind, data.as_slice())?;
-        add(into, resource)?;
-    }
     Ok(())
 }
 

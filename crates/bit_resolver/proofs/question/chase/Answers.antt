@@ -1,4 +1,4 @@
-use Rattle.std.proofs.Common.{arith, refl, sym, ap, ◌∙◌, ◌-◌, ◌++◌}
+use Rattle.std.proofs.Common.{refl, arith, sym, ap, ◌∙◌, ◌-◌}
 use Rattle.bit_resolver.specs.Ends.{seen_place, seen_asked}
 use Rattle.bit_resolver.proofs.ChaseLemmas.{hop, last, stop}
 use Rattle.bit_resolver.proofs.question.chase.Goals as goal
@@ -9,7 +9,7 @@ returns-in-Done g c =
 
 pub loop-left-preserved : goal.loop-left-preserved
 loop-left-preserved g c = (
-  hop (g.N.Names.served c.args.names.now) c.args.zone.now c.args.kind c.loop-left.left (c.loop-left.left - 1) c.loop-left.before.items c.in-Renamed.found.items _ (seen_place c.loop-left.place) _ c.in-Renamed.target _ _ (omega arith) (sym c.in_ok-last.ensures ∙ ap seen_asked c.in-Renamed.is) (c.in_ok-add_all-in-Renamed.ensures ∙ ap (λ r. c.loop-left.before.items ++ r) c.as_slice.ensures) c.in_ok-place-in-Renamed.ensures.place refl c.loop-left.invariant.0,
+  hop (g.N.Names.served c.args.names.now) c.args.zone.now c.args.kind c.loop-left.left (c.loop-left.left - 1) c.loop-left.before.items c.in-Renamed.found.items _ (seen_place c.loop-left.place) _ c.in-Renamed.target _ _ (omega arith) (sym c.in_ok-last.ensures ∙ ap seen_asked c.in-Renamed.is) c.in_ok-add_found-in-Renamed.ensures c.in_ok-place-in-Renamed.ensures.place refl c.loop-left.invariant.0,
   c.in_ok-place-in-Renamed.ensures.named,
 )
 
