@@ -4,7 +4,7 @@ use crate::comparing::same;
 use bit_answers::{Answered, answer};
 use chain_state::Chain;
 use domain_text::{Name, absolute_name};
-use nmc_base::{Base, Hash32, Profile};
+use nmc_base::{Base, Hash32, NoMemory, Profile};
 use std::alloc::Global;
 use std::process::Abort;
 
@@ -17,20 +17,38 @@ const QUERY: [u8; 23] = [
 const NAME_ERROR: &[u8] =
     b"\x12\x34\x85\x03\x00\x01\x00\x00\x00\x01\x00\x00\x01x\x03bit\x00\x00\x01\x00\x01\x03bit\x00\x00\x06\x00\x01\x00\x00\x02\x58\x00\x37\x02ns\x07example\x00\x0ahostmaster\x02ns\x07example\x00\x00\x00\x00\x28\x00\x00\x02\x58\x00\x00\x02\x58\x00\x00\x1c\x20\x00\x00\x02\x58";
 
-/// The reply to a message from a chain of the base alone, at the height 40. None has 0 bytes.
-fn reply_to(alloc: Global, host: &Name, message: &[u8], buffer: &mut [u8; 512]) -> usize
-    ensures { result ≤ 512 }
-{
+/// The chain of a base alone, at the height 40.
+fn empty_chain(alloc: Global) -> Result<Chain, NoMemory> {
     let base = Base {
         profile: Profile::Regtest,
         height: 40,
         hash: Hash32([0; 32]),
     };
-    match Chain::at_base(alloc, base) {
-        Ok(chain) => match answer(alloc, &chain, host, message, buffer) {
-            Answered::Dropped => 0,
-            Answered::Text(size) => size,
-        },
+    Chain::at_base(alloc, base)
+}
+
+/// The reply to a message from a chain, and its bytes. None has 0.
+fn reply_of(
+    alloc: Global,
+    chain: &Chain,
+    host: &Name,
+    message: &[u8],
+    buffer: &mut [u8; 512],
+) -> usize
+    ensures { result ≤ 512 }
+{
+    match answer(alloc, chain, host, message, buffer) {
+        Answered::Dropped => 0,
+        Answered::Text(size) => size,
+    }
+}
+
+/// The same from a chain of the base alone.
+fn reply_to(alloc: Global, host: &Name, message: &[u8], buffer: &mut [u8; 512]) -> usize
+    ensures { result ≤ 512 }
+{
+    match empty_chain(alloc) {
+        Ok(chain) => reply_of(alloc, &chain, host, message, buffer),
         Err(_) => 0,
     }
 }

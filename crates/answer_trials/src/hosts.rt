@@ -1,4 +1,4 @@
-use crate::comparing::{same, same_text};
+use crate::comparing::{same, same_text, text, word};
 use domain_text::{
     Form, Name, absolute_name, is_entry_label, is_label, read_host, read_ipv4, read_ipv6,
 };
@@ -15,7 +15,7 @@ static NODES: [&[u8]; 2] = [
     b"\x3faaaaaaaaaaaaaaaaaaaaaaaaaaaaaaaaaaaaaaaaaaaaaaaaaaaaaaaaaaaaaaa\x01x\x03bit\0",
 ];
 
-fn word(form: Form) -> &'static str {
+fn form_text(form: Form) -> &'static str {
     match form {
         Form::Absolute => "absolute",
         Form::AtTop => "top",
@@ -47,7 +47,7 @@ fn put_host(alloc: Global, out: &mut String, text: &[u8], own: &Name) -> Result<
         return Ok(out.push_str("none -")?);
     };
     let top = Name::from_wire(b"\x01x\x03bit\0").ok_or("no name")?;
-    out.push_str(word(host.form()))?;
+    out.push_str(form_text(host.form()))?;
     out.push(' ')?;
     put(alloc, out, wire_of(&host.at(own, &top)))?;
     Ok(())
@@ -65,18 +65,22 @@ fn host_is(rt: &impl Abort, alloc: Global, text: &str, own: &[u8], want: &str) -
 
 /// A text, a node, and what the text is there.
 fn host_line(rt: &impl Abort, alloc: Global, line: &str) -> Result<(), Fail> {
-    let (text, rest) = line.split_once(' ').ok_or("no text")?;
-    let (node, want) = rest.split_once(' ').ok_or("no node")?;
+    let (text, rest) = word(line, "no text")?;
+    let (node, want) = word(rest, "no node")?;
     let own = if node == "0" { NODES[0] } else { NODES[1] };
     host_is(rt, alloc, text, own, want)
 }
 
-#[test]
-fn host_texts(rt: HostRuntime) -> Result<(), Fail> {
-    for line in HOSTS.split('\n') {
-        host_line(&rt, rt.alloc(), line)?;
+fn host_lines(rt: &impl Abort, alloc: Global, table: &[u8]) -> Result<(), Fail> {
+    for line in text(table)?.split('\n') {
+        host_line(rt, alloc, line)?;
     }
     Ok(())
+}
+
+#[test]
+fn host_texts(rt: HostRuntime) -> Result<(), Fail> {
+    host_lines(&rt, rt.alloc(), HOSTS)
 }
 
 /// Adds what a text is as IPv4 and as IPv6.
@@ -92,22 +96,32 @@ fn put_addresses(alloc: Global, out: &mut String, text: &[u8]) -> Result<(), All
     }
 }
 
+/// The same of a text in hexadecimal.
+fn addresses_of(alloc: Global, text: &str) -> Result<String, Fail> {
+    let text = hex::decode(alloc, text)?;
+    let mut out = String::new(alloc);
+    put_addresses(alloc, &mut out, text.as_slice())?;
+    Ok(out)
+}
+
 /// A text, and what it is as IPv4 and as IPv6.
 fn address_line(rt: &impl Abort, alloc: Global, line: &str) -> Result<(), Fail> {
-    let (text, want) = line.split_once(' ').ok_or("no text")?;
-    let text = hex::decode(alloc, text)?;
-    let mut got = String::new(alloc);
-    put_addresses(alloc, &mut got, text.as_slice())?;
+    let (text, want) = word(line, "no text")?;
+    let got = addresses_of(alloc, text)?;
     same_text(rt, got.as_str(), want);
+    Ok(())
+}
+
+fn address_lines(rt: &impl Abort, alloc: Global, table: &[u8]) -> Result<(), Fail> {
+    for line in text(table)?.split('\n') {
+        address_line(rt, alloc, line)?;
+    }
     Ok(())
 }
 
 #[test]
 fn addresses(rt: HostRuntime) -> Result<(), Fail> {
-    for line in ADDRESSES.split('\n') {
-        address_line(&rt, rt.alloc(), line)?;
-    }
-    Ok(())
+    address_lines(&rt, rt.alloc(), ADDRESSES)
 }
 
 /// Whether bytes are a name.

@@ -23,8 +23,8 @@ impl Names for Index {
     ghost served = { λ s name. option_map (λ r. r.1.now) (find (λ r. bytes_eq r.0.now name) s.rows.now) };
 
     fn live(&self, name: &[u8]) -> Option<&[u8]> {
-        let row = self.rows.iter().find(|row| row.0.as_bytes() == name)?;
-        Some(row.1.as_bytes())
+        let row = self.rows.iter().find(|row| row.0 == name)?;
+        Some(row.1)
     }
 }
 
@@ -89,18 +89,21 @@ fn replies(rt: &impl Abort, alloc: Global, row: &Exchange, may_fail: bool) {
     same(rt, &buffer[..len], &want[..want_len]);
 }
 
+/// Each query of the table is answered by its reply, or, where that is allowed, by SERVFAIL.
+fn each_replies(rt: &impl Abort, alloc: Global, may_fail: bool) {
+    for row in &EXCHANGES {
+        replies(rt, alloc, row, may_fail);
+    }
+}
+
 // `checks/failing_trials_table` runs these two with allocations failing in turn: the first passes whichever it is, and the
 // second where there is none.
 #[test]
 fn a_query_without_memory_fails(rt: HostRuntime) {
-    for row in &EXCHANGES {
-        replies(&rt, rt.alloc(), row, true);
-    }
+    each_replies(&rt, rt.alloc(), true);
 }
 
 #[test]
 fn with_memory_each_query_is_answered(rt: HostRuntime) {
-    for row in &EXCHANGES {
-        replies(&rt, rt.alloc(), row, false);
-    }
+    each_replies(&rt, rt.alloc(), false);
 }

@@ -2,7 +2,7 @@ ghost use Rattle.std.specs.Prelude.{find};
 ghost use Rattle.std.specs.Option.{option_map};
 ghost use Rattle.std.specs.Str.{bytes_eq};
 
-use crate::comparing::same_text;
+use crate::comparing::{same_text, text, word};
 use bit_resolver::{Resource, Sections, Zone, resolve};
 use dns_message::Question;
 use domain_text::{Name, absolute_name};
@@ -37,13 +37,18 @@ impl<'a> Names for Index<'a> {
     }
 }
 
+/// Adds a label behind its length.
+fn put_label(out: &mut Bytes, label: &str) -> Result<(), Fail> {
+    let len = u8::try_from(label.len()).ok().ok_or("a long label")?;
+    out.extend(&[len])?;
+    Ok(out.extend(label.as_bytes())?)
+}
+
 /// A name's wire form, of labels that are joined and ended by dots.
 fn wire(alloc: Global, text: &str) -> Result<Bytes, Fail> {
     let mut found = Bytes::new(alloc);
     for label in text.split('.') {
-        let len = u8::try_from(label.len()).ok().ok_or("a long label")?;
-        found.extend(&[len])?;
-        found.extend(label.as_bytes())?;
+        put_label(&mut found, label)?;
     }
     Ok(found)
 }
@@ -122,21 +127,35 @@ fn resolved(
     Ok(resolve(alloc, index, zone, &asked)?)
 }
 
-/// The same of a name as a text, as text.
-fn answer(
-    alloc: Global,
-    index: &Index<'_>,
-    zone: &Zone,
-    name: &str,
+/// A name, a type, a class, and what the answer is.
+#[derive(Clone, Copy)]
+struct Case<'a> {
+    name: &'a str,
     kind: u16,
     class: u16,
-) -> Result<String, Fail> {
-    let wire = wire(alloc, name)?;
-    let sections = resolved(alloc, index, zone, wire.as_slice(), kind, class)?;
+    want: &'a str,
+}
+
+/// The case of a line, with a blank between its parts.
+fn read_case(line: &str) -> Result<Case<'_>, Fail> {
+    let (name, rest) = word(line, "no name")?;
+    let (kind, rest) = word(rest, "no type")?;
+    let (class, want) = word(rest, "no class")?;
+    Ok(Case {
+        name,
+        kind: number(kind)?,
+        class: number(class)?,
+        want,
+    })
+}
+
+/// The answer to a case's question, as text.
+fn answer(alloc: Global, index: &Index<'_>, zone: &Zone, of: Case<'_>) -> Result<String, Fail> {
+    let wire = wire(alloc, of.name)?;
+    let sections = resolved(alloc, index, zone, wire.as_slice(), of.kind, of.class)?;
     shown(alloc, &sections)
 }
 
-/// A name, a type, a class, and what the answer is.
 fn ask(
     rt: &impl Abort,
     alloc: Global,
@@ -144,17 +163,15 @@ fn ask(
     zone: &Zone,
     line: &str,
 ) -> Result<(), Fail> {
-    let (name, rest) = line.split_once(' ').ok_or("no name")?;
-    let (kind, rest) = rest.split_once(' ').ok_or("no type")?;
-    let (class, want) = rest.split_once(' ').ok_or("no class")?;
-    let got = answer(alloc, index, zone, name, number(kind)?, number(class)?)?;
-    same_text(rt, got.as_str(), want);
+    let case = read_case(line)?;
+    let got = answer(alloc, index, zone, case)?;
+    same_text(rt, got.as_str(), case.want);
     Ok(())
 }
 
 /// A host and a serial.
 fn zone(line: &str) -> Result<Zone, Fail> {
-    let (host, serial) = line.split_once(' ').ok_or("no serial")?;
+    let (host, serial) = word(line, "no serial")?;
     let host = absolute_name(host.as_bytes()).ok_or("no host")?;
     let serial = serial.parse::<u32>().ok().ok_or("no number")?;
     Ok(Zone { host, serial })
@@ -162,7 +179,7 @@ fn zone(line: &str) -> Result<Zone, Fail> {
 
 /// A name and its value, with a space between them.
 fn served(line: &str) -> Result<Row<'_>, Fail> {
-    let (name, value) = line.split_once(' ').ok_or("no value")?;
+    let (name, value) = word(line, "no value")?;
     Ok(Row {
         name: name.as_bytes(),
         value: value.as_bytes(),
@@ -197,8 +214,8 @@ fn lines<'a>(
 }
 
 /// Lines, the first of which is the zone's.
-fn table(rt: &impl Abort, alloc: Global, text: &str) -> Result<(), Fail> {
-    let (first, rest) = text.split_once('\n').ok_or("no line")?;
+fn table(rt: &impl Abort, alloc: Global, table: &[u8]) -> Result<(), Fail> {
+    let (first, rest) = text(table)?.split_once('\n').ok_or("no line")?;
     let zone = zone(first)?;
     let mut index = Index {
         rows: Vec::new(alloc),
@@ -221,8 +238,8 @@ fn chases(rt: HostRuntime) -> Result<(), Fail> {
 /// Answers of another program.
 #[test]
 fn answers_of_another_reading(rt: HostRuntime) -> Result<(), Fail> {
-    for text in VECTORS {
-        table(&rt, rt.alloc(), text)?;
+    for vectors in &VECTORS {
+        table(&rt, rt.alloc(), vectors)?;
     }
     Ok(())
 }

@@ -1,7 +1,7 @@
-use crate::comparing::same;
+use crate::comparing::{same, text, word};
 use ifa_value::{Element, IfaObject, Key, read_value};
 use nmc_base::Bytes;
-use rows::VALUES;
+use rows::{VALUES, VALUES_WITH_MAPS};
 use std::alloc::Global;
 use std::process::Abort;
 use std::test::Fail;
@@ -162,18 +162,27 @@ fn items(alloc: Global, digits: &str) -> Result<Bytes, Fail> {
 }
 
 fn line(rt: &impl Abort, alloc: Global, line: &str) -> Result<(), Fail> {
-    let (value, want) = line.split_once(' ').ok_or("no value")?;
+    let (value, want) = word(line, "no value")?;
     let got = items(alloc, value)?;
     same(rt, got.as_slice(), want.as_bytes());
     Ok(())
 }
 
-#[test]
-fn values(rt: HostRuntime) -> Result<(), Fail> {
-    for row in VALUES.split('\n') {
-        line(&rt, rt.alloc(), row)?;
+fn lines(rt: &impl Abort, alloc: Global, table: &[u8]) -> Result<(), Fail> {
+    for row in text(table)?.split('\n') {
+        line(rt, alloc, row)?;
     }
     Ok(())
+}
+
+#[test]
+fn values(rt: HostRuntime) -> Result<(), Fail> {
+    lines(&rt, rt.alloc(), VALUES)
+}
+
+#[test]
+fn values_with_maps(rt: HostRuntime) -> Result<(), Fail> {
+    lines(&rt, rt.alloc(), VALUES_WITH_MAPS)
 }
 
 static LABELS: [&[u8]; 6] = [b"", b"*", b"a", b"A", b"b", b"a.b"];

@@ -1,4 +1,4 @@
-ghost use Rattle.std.specs.Prelude.{◌≡◌, length, IfOk};
+ghost use Rattle.std.specs.Prelude.{◌≡◌, length, IfOk, OnOk};
 ghost use Rattle.byte_io.specs.declared.port.TheConstants.{POLL_ROOM};
 ghost use Rattle.byte_io.specs.Port.{IsBound};
 ghost use Rattle.byte_io.specs.MemoryPort.{memory_seen};
@@ -34,6 +34,33 @@ fn read_all<S: Source>(
     Ok(bytes)
 }
 
+/// So many reads of `size` bytes give this.
+fn reads_as<S: Source>(
+    rt: &impl Abort,
+    alloc: Global,
+    source: &mut S,
+    size: usize,
+    reads: usize,
+    want: &[u8],
+) -> Result<(), Fail> {
+    let read = read_all(alloc, source, size, reads)?;
+    same(rt, &read, want);
+    Ok(())
+}
+
+/// The same of a source in memory whose listed reads fail.
+fn memory_reads_as(
+    rt: &impl Abort,
+    alloc: Global,
+    fail: &[u64],
+    size: usize,
+    reads: usize,
+    want: &[u8],
+) -> Result<(), Fail> {
+    let mut source = MemorySource::new(alloc, BYTES, fail)?;
+    reads_as(rt, alloc, &mut source, size, reads, want)
+}
+
 /// How many bytes a sink takes of each of these pieces, where a failed write counts as none.
 fn write_each<K: Sink>(sink: &mut K, pieces: &[&[u8]; 4]) -> [u8; 4] {
     let mut counts = [0; 4];
@@ -46,11 +73,9 @@ fn write_each<K: Sink>(sink: &mut K, pieces: &[&[u8]; 4]) -> [u8; 4] {
 /// The bytes in pieces of this size, from both sources: so many reads give them all, and none fails.
 fn reads_alike(rt: &impl Abort, alloc: Global, size: usize, reads: usize) -> Result<(), Fail> {
     let want = [10, 20, 30, 40, 50, 0];
-    let mut memory = MemorySource::new(alloc, BYTES, &[])?;
-    same(rt, &read_all(alloc, &mut memory, size, reads)?, &want);
+    memory_reads_as(rt, alloc, &[], size, reads, &want)?;
     let mut steady = SteadySource::new(BYTES);
-    same(rt, &read_all(alloc, &mut steady, size, reads)?, &want);
-    Ok(())
+    reads_as(rt, alloc, &mut steady, size, reads, &want)
 }
 
 #[test]
@@ -64,9 +89,7 @@ fn reads_in_pieces_of_any_size(rt: HostRuntime) -> Result<(), Fail> {
 #[test]
 fn each_listed_read_fails_and_loses_nothing(rt: HostRuntime) -> Result<(), Fail> {
     for number in 1..=6u64 {
-        let mut source = MemorySource::new(rt.alloc(), BYTES, &[number])?;
-        let read = read_all(rt.alloc(), &mut source, 1, 6)?;
-        same(&rt, &read, &[10, 20, 30, 40, 50, 1]);
+        memory_reads_as(&rt, rt.alloc(), &[number], 1, 6, &[10, 20, 30, 40, 50, 1])?;
     }
     Ok(())
 }
@@ -133,14 +156,29 @@ fn poll_buffer(alloc: Global) -> Result<Vec<u8>, Fail>
     Ok(vec![in alloc; 0u8; POLL_ROOM]?)
 }
 
-/// A port with a query of client 7, nothing, a piece of the feed and the feed's end to come.
-fn port_with_polls(alloc: Global, fail: &[u64]) -> Result<MemoryPort, Fail> {
-    let mut port = MemoryPort::new(alloc, fail)?;
+/// Adds a query of client 7, nothing, a piece of the feed and the feed's end.
+fn add_polls(port: &mut MemoryPort) -> Result<(), Fail> {
     port.add(Polled::Query { client: 7, len: 2 }, &[10, 20])?;
     port.add(Polled::Nothing, &[])?;
     port.add(Polled::Feed { len: 3 }, &[30, 40, 50])?;
-    port.add(Polled::FeedEnd, &[])?;
+    Ok(port.add(Polled::FeedEnd, &[])?)
+}
+
+/// A port with these polls to come, whose listed calls fail.
+fn port_with_polls(alloc: Global, fail: &[u64]) -> Result<MemoryPort, Fail> {
+    let mut port = MemoryPort::new(alloc, fail)?;
+    add_polls(&mut port)?;
     Ok(port)
+}
+
+/// So many binds fail, and the next binds the port.
+fn binds_after(rt: &impl Abort, port: &mut MemoryPort, failures: usize) -> Result<(), Fail>
+    ensures { OnOk result (IsBound (memory_seen port.new)) }
+{
+    for _ in 0..failures {
+        assert!(rt; port.bind(53, 54).is_err());
+    }
+    Ok(port.bind(53, 54)?)
 }
 
 /// The next poll answers this, with these bytes at the front of the buffer.
@@ -155,57 +193,136 @@ fn polls(rt: &impl Abort, port: &mut MemoryPort, buffer: &mut [u8], want: Polled
     assert!(rt; buffer.starts_with(bytes));
 }
 
+/// A reply to this client is sent, or fails.
+fn replies(rt: &impl Abort, port: &mut MemoryPort, client: u64, bytes: &[u8], is_sent: bool)
+    requires { IsBound (memory_seen port.old) }
+    ensures { IsBound (memory_seen port.new) }
+{
+    assert!(rt; port.reply(client, bytes).is_ok() == is_sent);
+}
+
+/// A reply to the feed is sent.
+fn replies_to_feed(rt: &impl Abort, port: &mut MemoryPort, bytes: &[u8])
+    requires { IsBound (memory_seen port.old) }
+    ensures { IsBound (memory_seen port.new) }
+{
+    assert!(rt; port.feed_reply(bytes).is_ok());
+}
+
+/// A call of a bound port, and what comes of it.
+#[derive(Clone, Copy)]
+enum Call {
+    /// What it answers, and the bytes at the front of the buffer.
+    Poll(Polled, &'static [u8]),
+    /// The client, the bytes, and whether they are sent.
+    Reply(u64, &'static [u8], bool),
+    /// Bytes that are sent to the feed.
+    FeedReply(&'static [u8]),
+    CloseFeed,
+}
+
+fn makes(rt: &impl Abort, port: &mut MemoryPort, buffer: &mut [u8], call: Call)
+    requires bound { IsBound (memory_seen port.old) }
+    requires room { length buffer.old ≡ POLL_ROOM }
+    ensures bound { IsBound (memory_seen port.new) }
+    ensures room { length buffer.new ≡ POLL_ROOM }
+{
+    match call {
+        Call::Poll(want, bytes) => polls(rt, port, buffer, want, bytes),
+        Call::Reply(client, bytes, is_sent) => replies(rt, port, client, bytes, is_sent),
+        Call::FeedReply(bytes) => replies_to_feed(rt, port, bytes),
+        Call::CloseFeed => port.close_feed(),
+    }
+}
+
+fn makes_each(rt: &impl Abort, port: &mut MemoryPort, buffer: &mut [u8], calls: &[Call])
+    requires bound { IsBound (memory_seen port.old) }
+    requires room { length buffer.old ≡ POLL_ROOM }
+    ensures bound { IsBound (memory_seen port.new) }
+    ensures room { length buffer.new ≡ POLL_ROOM }
+{
+    for call in calls {
+        makes(rt, port, buffer, *call);
+    }
+}
+
+/// Binds the port after so many binds that fail, and makes the calls.
+fn bound_makes(
+    rt: &impl Abort,
+    alloc: Global,
+    port: &mut MemoryPort,
+    failures: usize,
+    calls: &[Call],
+) -> Result<(), Fail> {
+    let mut buffer = poll_buffer(alloc)?;
+    binds_after(rt, port, failures)?;
+    makes_each(rt, port, &mut buffer, calls);
+    Ok(())
+}
+
 /// The send or closing of this number.
 fn sent(rt: &impl Abort, port: &MemoryPort, number: usize, want: Option<Sent<'_>>) {
     assert_eq!(rt; port.sent(number), want);
 }
 
-#[test]
-fn polls_come_in_order_and_sends_are_kept(rt: HostRuntime) -> Result<(), Fail> {
-    let mut buffer = poll_buffer(rt.alloc())?;
-    let mut port = port_with_polls(rt.alloc(), &[])?;
-    port.bind(53, 54)?;
-    let query = Polled::Query { client: 7, len: 2 };
-    polls(&rt, &mut port, &mut buffer, query, &[10, 20]);
-    polls(&rt, &mut port, &mut buffer, Polled::Nothing, &[]);
-    port.reply(7, &[1, 2])?;
-    let piece = Polled::Feed { len: 3 };
-    polls(&rt, &mut port, &mut buffer, piece, &[30, 40, 50]);
-    port.feed_reply(&[3])?;
-    port.close_feed();
-    polls(&rt, &mut port, &mut buffer, Polled::FeedEnd, &[]);
-    polls(&rt, &mut port, &mut buffer, Polled::Nothing, &[]);
-    let reply = Sent::Reply {
+/// The sends and closings from the first.
+fn keeps(rt: &impl Abort, port: &MemoryPort, kept: &[Option<Sent<'static>>]) {
+    for (number, want) in kept.iter().enumerate() {
+        sent(rt, port, number, *want);
+    }
+}
+
+/// A query of client 7, as a poll brings it.
+const QUERY: Call = Call::Poll(Polled::Query { client: 7, len: 2 }, &[10, 20]);
+
+static CALLS: [Call; 8] = [
+    QUERY,
+    Call::Poll(Polled::Nothing, &[]),
+    Call::Reply(7, &[1, 2], true),
+    Call::Poll(Polled::Feed { len: 3 }, &[30, 40, 50]),
+    Call::FeedReply(&[3]),
+    Call::CloseFeed,
+    Call::Poll(Polled::FeedEnd, &[]),
+    Call::Poll(Polled::Nothing, &[]),
+];
+
+static SENT: [Option<Sent<'static>>; 4] = [
+    Some(Sent::Reply {
         client: 7,
         bytes: &[1, 2],
-    };
-    sent(&rt, &port, 0, Some(reply));
-    sent(&rt, &port, 1, Some(Sent::Feed { bytes: &[3] }));
-    sent(&rt, &port, 2, Some(Sent::Closed));
-    sent(&rt, &port, 3, None);
+    }),
+    Some(Sent::Feed { bytes: &[3] }),
+    Some(Sent::Closed),
+    None,
+];
+
+#[test]
+fn polls_come_in_order_and_sends_are_kept(rt: HostRuntime) -> Result<(), Fail> {
+    let mut port = port_with_polls(rt.alloc(), &[])?;
+    bound_makes(&rt, rt.alloc(), &mut port, 0, &CALLS)?;
+    keeps(&rt, &port, &SENT);
     Ok(())
 }
 
+static CALLS_WITH_FAULTS: [Call; 4] = [
+    Call::Poll(Polled::Failed, &[]),
+    QUERY,
+    Call::Reply(7, &[1], false),
+    Call::Reply(8, &[2], true),
+];
+
+static SENT_WITH_FAULTS: [Option<Sent<'static>>; 2] = [
+    Some(Sent::Reply {
+        client: 8,
+        bytes: &[2],
+    }),
+    None,
+];
+
 #[test]
 fn each_listed_call_of_a_port_fails_and_takes_no_poll(rt: HostRuntime) -> Result<(), Fail> {
-    let mut buffer = poll_buffer(rt.alloc())?;
     let mut port = port_with_polls(rt.alloc(), &[1, 3, 5])?;
-    assert!(&rt; port.bind(53, 54).is_err());
-    port.bind(53, 54)?;
-    polls(&rt, &mut port, &mut buffer, Polled::Failed, &[]);
-    let query = Polled::Query { client: 7, len: 2 };
-    polls(&rt, &mut port, &mut buffer, query, &[10, 20]);
-    assert!(&rt; port.reply(7, &[1]).is_err());
-    port.reply(8, &[2])?;
-    sent(
-        &rt,
-        &port,
-        0,
-        Some(Sent::Reply {
-            client: 8,
-            bytes: &[2],
-        }),
-    );
-    sent(&rt, &port, 1, None);
+    bound_makes(&rt, rt.alloc(), &mut port, 1, &CALLS_WITH_FAULTS)?;
+    keeps(&rt, &port, &SENT_WITH_FAULTS);
     Ok(())
 }

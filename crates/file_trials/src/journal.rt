@@ -5,7 +5,7 @@ ghost use Rattle.gate_journal.specs.Stand.{IsAtGate, IsReadable};
 use crate::comparing::{ends, is_right_or_unknown, same};
 use disk_model::{Choice, Disk, Failed, MemoryDisk};
 use gate_journal::{Journal, JournalFault, open_gate};
-use nmc_base::Bytes;
+use nmc_base::{Bytes, NoMemory};
 use std::alloc::Global;
 use std::process::Abort;
 use std::test::Fail;
@@ -118,9 +118,9 @@ fn is_either(
     choice: Choice,
     before: &[u8],
     after: &[u8],
-) -> Result<bool, Fail> {
+) -> Result<bool, JournalFault> {
     let mut image = disk.image(alloc, calls, choice)?;
-    Ok(reads_either(alloc, &mut image, before, after)?)
+    reads_either(alloc, &mut image, before, after)
 }
 
 /// The disk holds the records `before`, or `after`.
@@ -141,7 +141,7 @@ fn each_is_either(
     calls: usize,
     before: &[u8],
     after: &[u8],
-) -> Result<bool, Fail> {
+) -> Result<bool, JournalFault> {
     for byte in 0..=255 {
         if !is_either(alloc, disk, calls, Choice::Fill(byte), before, after)? {
             return Ok(false);
@@ -153,18 +153,23 @@ fn each_is_either(
     is_either(alloc, disk, calls, Choice::New, before, after)
 }
 
-/// The image has no record, or its first gate is missing or opens on no record: a journal is not begun.
+/// No record was read, or the first gate is missing or opens on no record: a journal is not begun.
+fn are_of_none(found: Result<Bytes, JournalFault>) -> bool {
+    match found {
+        Ok(found) => found.as_slice().is_empty(),
+        Err(fault) => matches!(fault, JournalFault::Damaged { at: 8 }),
+    }
+}
+
+/// The image has no journal.
 fn is_not_begun(
     alloc: Global,
     disk: &MemoryDisk,
     calls: usize,
     choice: Choice,
-) -> Result<bool, Fail> {
+) -> Result<bool, NoMemory> {
     let mut image = disk.image(alloc, calls, choice)?;
-    match records(alloc, &mut image, 64) {
-        Ok(found) => Ok(found.as_slice().is_empty()),
-        Err(fault) => Ok(matches!(fault, JournalFault::Damaged { at: 8 })),
-    }
+    Ok(are_of_none(records(alloc, &mut image, 64)))
 }
 
 /// So many records are acknowledged; None where the disk failed before.

@@ -20,6 +20,27 @@ fn empty_chain(alloc: Global) -> Result<Chain, Fail> {
     Ok(Chain::at_base(alloc, base)?)
 }
 
+/// What comes of the report of that chain for a sink.
+fn told(alloc: Global, sink: &mut MemorySink) -> Result<Result<(), ReportFault>, Fail> {
+    let chain = empty_chain(alloc)?;
+    Ok(report(alloc, &chain, sink))
+}
+
+fn is_told(
+    rt: &impl Abort,
+    alloc: Global,
+    sink: &mut MemorySink,
+    want: Result<(), ReportFault>,
+) -> Result<(), Fail> {
+    let got = told(alloc, sink)?;
+    assert!(rt; got == want);
+    Ok(())
+}
+
+fn has_taken(rt: &impl Abort, sink: &MemorySink, taken: &[u8]) {
+    assert_eq!(rt; sink.taken(), taken);
+}
+
 /// What a sink whose listed writes fail took of the report, and what came of it.
 fn reports(
     rt: &impl Abort,
@@ -28,11 +49,9 @@ fn reports(
     want: Result<(), ReportFault>,
     taken: &[u8],
 ) -> Result<(), Fail> {
-    let chain = empty_chain(alloc)?;
     let mut sink = MemorySink::new(alloc, fail)?;
-    let told = report(alloc, &chain, &mut sink);
-    assert!(rt; told == want);
-    assert_eq!(rt; sink.taken(), taken);
+    is_told(rt, alloc, &mut sink, want)?;
+    has_taken(rt, &sink, taken);
     Ok(())
 }
 

@@ -3,7 +3,7 @@
 ghost use Rattle.std.specs.Prelude.{◌≤◌, length};
 ghost use Rattle.byte_io.specs.Kept.{Fits};
 
-use crate::outside::{INIT, Outside, end_of, holds, is_told};
+use crate::outside::{INIT, Outside, Trial, each_is_right, end_of, is_told};
 use crate::texts::{bytes_of, field, number_or};
 use bridge_core::Status;
 use byte_io::{MemoryPort, POLL_ROOM, Polled, Sent};
@@ -130,34 +130,31 @@ fn sends_alone(alloc: Global, port: &MemoryPort, sends: &str) -> Result<bool, No
     Ok(sends.is_empty() || port.sent(count).is_none())
 }
 
-/// One row.
-fn serves(alloc: Global, outside: &mut Outside, row: &str) -> Result<bool, NoMemory> {
-    if end_of(alloc, outside, INIT) != Status::Done {
-        return Ok(false);
-    }
-    outside.port = MemoryPort::new(alloc, &[number_or(field(row, 1), 0)])?;
-    add_all(alloc, &mut outside.port, field(row, 2))?;
-    let status = end_of(alloc, outside, field(row, 0));
-    Ok(sends_alone(alloc, &outside.port, field(row, 3))? && is_told(alloc, status, field(row, 4))?)
-}
+struct Served;
 
-fn is_so(alloc: Global, row: &str) -> Result<bool, NoMemory> {
-    let mut outside = Outside::new(alloc)?;
-    serves(alloc, &mut outside, row)
+impl Trial for Served {
+    fn is_right(alloc: Global, outside: &mut Outside, row: &str) -> Result<bool, NoMemory> {
+        if end_of(alloc, outside, INIT) != Status::Done {
+            return Ok(false);
+        }
+        outside.port = MemoryPort::new(alloc, &[number_or(field(row, 1), 0)])?;
+        add_all(alloc, &mut outside.port, field(row, 2))?;
+        let status = end_of(alloc, outside, field(row, 0));
+        Ok(
+            sends_alone(alloc, &outside.port, field(row, 3))?
+                && is_told(alloc, status, field(row, 4))?,
+        )
+    }
 }
 
 #[test]
 fn answers_clients_and_the_feed(rt: HostRuntime) -> Result<(), Fail> {
-    for row in RUNS.lines() {
-        holds(&rt, is_so(rt.alloc(), row)?, row);
-    }
+    each_is_right::<Served>(&rt, rt.alloc(), RUNS)?;
     Ok(())
 }
 
 #[test]
 fn goes_on_behind_calls_that_fail(rt: HostRuntime) -> Result<(), Fail> {
-    for row in FAILING.lines() {
-        holds(&rt, is_so(rt.alloc(), row)?, row);
-    }
+    each_is_right::<Served>(&rt, rt.alloc(), FAILING)?;
     Ok(())
 }

@@ -1,7 +1,7 @@
 //! A name that a feed registers is asked for by two clients.
 
 use crate::feed::FEED;
-use crate::outside::{INIT, Outside, end_of, holds};
+use crate::outside::{INIT, Outside, Trial, each_is_right, end_of};
 use bridge_core::Status;
 use byte_io::{MemoryPort, Polled, Sent};
 use nmc_base::NoMemory;
@@ -60,10 +60,16 @@ fn is_answered(alloc: Global, outside: &mut Outside) -> Result<bool, NoMemory> {
     Ok(is_served && is_reply_to(outside.port.sent(0), 8) && outside.port.sent(1).is_none())
 }
 
+struct Registered;
+
+impl Trial for Registered {
+    fn is_right(alloc: Global, outside: &mut Outside, _row: &str) -> Result<bool, NoMemory> {
+        Ok(is_registered(alloc, outside)? && is_answered(alloc, outside)?)
+    }
+}
+
 #[test]
 fn a_reply_that_is_not_sent_leaves_the_next_client_its_own(rt: HostRuntime) -> Result<(), Fail> {
-    let mut outside = Outside::new(rt.alloc())?;
-    holds(&rt, is_registered(rt.alloc(), &mut outside)?, "the feed");
-    holds(&rt, is_answered(rt.alloc(), &mut outside)?, "the clients");
+    each_is_right::<Registered>(&rt, rt.alloc(), "the feed and the clients")?;
     Ok(())
 }

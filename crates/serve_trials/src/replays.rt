@@ -2,8 +2,7 @@
 
 ghost use Rattle.std.specs.Prelude.{◌≤◌, ◌^◌};
 
-use crate::outside::{INIT, Outside, end_of, holds, is_told};
-use crate::streams::{Given, Pace, Taken};
+use crate::outside::{INIT, Outside, Trial, each_is_right, end_of, is_told};
 use crate::texts::{bytes_of, field, number_or};
 use bridge_core::{Status, replay};
 use nmc_base::NoMemory;
@@ -65,38 +64,9 @@ whole | whole | 1 | 07 |  |  | bad frame at 0
 whole | whole | 1099511627776 | first | accepted |  | 
 ";
 
-/// The first word, and the number behind it or 0.
-fn word_and_number(text: &str) -> (&str, u64) {
-    let (word, number) = text.split_once(' ').unwrap_or((text, ""));
-    (word, number_or(number, 0))
-}
-
-fn pace_of(word: &str) -> Pace {
-    if word == "bytes" {
-        Pace::Byte
-    } else {
-        Pace::Whole
-    }
-}
-
-fn source_of(alloc: Global, how: &str, input: &str) -> Result<Given, NoMemory> {
-    let (word, number) = word_and_number(how);
-    let bytes = bytes_of(alloc, input)?;
-    Given::new(alloc, &bytes, pace_of(word), number)
-}
-
-fn sink_of(alloc: Global, how: &str) -> Result<Taken, NoMemory> {
-    let (word, number) = word_and_number(how);
-    if word == "room" {
-        return Taken::with_room(alloc, number as usize);
-    }
-    Taken::new(alloc, pace_of(word), number)
-}
-
 /// Replays by the row over new files.
 fn replay_by(alloc: Global, outside: &mut Outside, row: &str) -> Result<Status, NoMemory> {
-    outside.source = source_of(alloc, field(row, 0), field(row, 3))?;
-    outside.sink = sink_of(alloc, field(row, 1))?;
+    outside.begin(alloc, field(row, 0), field(row, 1), field(row, 3))?;
     Ok(replay_up_to(alloc, outside, number_or(field(row, 2), MOST)))
 }
 
@@ -117,40 +87,32 @@ fn is_taken(alloc: Global, outside: &Outside, row: &str) -> Result<bool, NoMemor
     Ok(output.get(..count as usize) == Some(outside.sink.bytes()))
 }
 
-/// One row.
-fn replays(alloc: Global, outside: &mut Outside, row: &str) -> Result<bool, NoMemory> {
-    if end_of(alloc, outside, INIT) != Status::Done {
-        return Ok(false);
-    }
-    let status = replay_by(alloc, outside, row)?;
-    Ok(is_taken(alloc, outside, row)? && is_told(alloc, status, field(row, 6))?)
-}
+struct Replayed;
 
-fn is_so(alloc: Global, row: &str) -> Result<bool, NoMemory> {
-    let mut outside = Outside::new(alloc)?;
-    replays(alloc, &mut outside, row)
+impl Trial for Replayed {
+    fn is_right(alloc: Global, outside: &mut Outside, row: &str) -> Result<bool, NoMemory> {
+        if end_of(alloc, outside, INIT) != Status::Done {
+            return Ok(false);
+        }
+        let status = replay_by(alloc, outside, row)?;
+        Ok(is_taken(alloc, outside, row)? && is_told(alloc, status, field(row, 6))?)
+    }
 }
 
 #[test]
 fn ends_at_the_call_that_fails(rt: HostRuntime) -> Result<(), Fail> {
-    for row in STREAMS.lines() {
-        holds(&rt, is_so(rt.alloc(), row)?, row);
-    }
+    each_is_right::<Replayed>(&rt, rt.alloc(), STREAMS)?;
     Ok(())
 }
 
 #[test]
 fn answers_whole_frames_before_the_read_that_fails(rt: HostRuntime) -> Result<(), Fail> {
-    for row in READS.lines() {
-        holds(&rt, is_so(rt.alloc(), row)?, row);
-    }
+    each_is_right::<Replayed>(&rt, rt.alloc(), READS)?;
     Ok(())
 }
 
 #[test]
 fn reads_no_further_than_the_limit(rt: HostRuntime) -> Result<(), Fail> {
-    for row in LIMITS.lines() {
-        holds(&rt, is_so(rt.alloc(), row)?, row);
-    }
+    each_is_right::<Replayed>(&rt, rt.alloc(), LIMITS)?;
     Ok(())
 }

@@ -2,13 +2,13 @@
 
 ghost use Rattle.std.specs.Prelude.{◌<◌};
 
-use crate::outside::{INIT, Outside, end_of, holds};
-use crate::streams::{Given, Pace, Taken};
+use crate::outside::{INIT, Outside, Trial, each_is_right, end_of};
 use crate::texts::bytes_of;
 use bridge_core::Status;
 use disk_model::{Choice, Disk, Failed, MemoryDisk};
 use nmc_base::NoMemory;
 use std::alloc::Global;
+use std::mem;
 use std::test::Fail;
 
 /// So many calls make the files: three for file 1, and a length, four, two and two for file 0.
@@ -46,9 +46,7 @@ fn told_by(status: Status, code: Option<u8>) -> Came {
 
 /// Replays the first block.
 fn replay_first(alloc: Global, outside: &mut Outside) -> Result<Came, NoMemory> {
-    let input = bytes_of(alloc, "first")?;
-    outside.source = Given::new(alloc, &input, Pace::Whole, 0)?;
-    outside.sink = Taken::new(alloc, Pace::Whole, 0)?;
+    outside.begin(alloc, "whole", "whole", "first")?;
     let status = end_of(alloc, outside, "replay");
     Ok(told_by(status, outside.sink.bytes().first().copied()))
 }
@@ -57,6 +55,11 @@ fn replay_first(alloc: Global, outside: &mut Outside) -> Result<Came, NoMemory> 
 fn make(alloc: Global, outside: &mut Outside, fail: u64) -> Result<Status, NoMemory> {
     outside.disk = MemoryDisk::new(alloc, &[fail])?;
     Ok(end_of(alloc, outside, INIT))
+}
+
+/// The same where none fails.
+fn is_made(alloc: Global, outside: &mut Outside) -> Result<bool, NoMemory> {
+    Ok(make(alloc, outside, 0)? == Status::Done && replay_first(alloc, outside)? == Came::Accepted)
 }
 
 // ---- stops
@@ -121,18 +124,23 @@ fn is_right_always(
     Ok(true)
 }
 
-fn opens_always(alloc: Global, outside: &mut Outside) -> Result<bool, NoMemory> {
-    if make(alloc, outside, 0)? != Status::Done || replay_first(alloc, outside)? != Came::Accepted {
-        return Ok(false);
+/// Each stop of the files that were made.
+fn opens_always(alloc: Global, after: &mut Outside) -> Result<bool, NoMemory> {
+    let made = mem::replace(&mut after.disk, MemoryDisk::new(alloc, &[])?);
+    is_right_always(alloc, &made, after)
+}
+
+struct EachStop;
+
+impl Trial for EachStop {
+    fn is_right(alloc: Global, outside: &mut Outside, _row: &str) -> Result<bool, NoMemory> {
+        Ok(is_made(alloc, outside)? && opens_always(alloc, outside)?)
     }
-    let mut after = Outside::new(alloc)?;
-    is_right_always(alloc, &outside.disk, &mut after)
 }
 
 #[test]
 fn opens_as_before_or_after_wherever_it_stops(rt: HostRuntime) -> Result<(), Fail> {
-    let mut outside = Outside::new(rt.alloc())?;
-    holds(&rt, opens_always(rt.alloc(), &mut outside)?, "each stop");
+    each_is_right::<EachStop>(&rt, rt.alloc(), "each stop")?;
     Ok(())
 }
 
@@ -168,25 +176,40 @@ fn failing(alloc: Global, outside: &mut Outside) -> Result<Option<(u8, u8)>, NoM
     Ok(Some((unopened, faulted)))
 }
 
+struct EachCall;
+
+impl Trial for EachCall {
+    fn is_right(alloc: Global, outside: &mut Outside, _row: &str) -> Result<bool, NoMemory> {
+        match failing(alloc, outside)? {
+            Some((unopened, faulted)) => Ok(unopened > 3 && faulted == 4),
+            None => Ok(false),
+        }
+    }
+}
+
 /// A command that is accepted makes two writes and two syncs, and only where one of these fails the reply is code FD.
 #[test]
 fn tells_the_call_that_fails(rt: HostRuntime) -> Result<(), Fail> {
-    let mut outside = Outside::new(rt.alloc())?;
-    let is_so = match failing(rt.alloc(), &mut outside)? {
-        Some((unopened, faulted)) => unopened > 3 && faulted == 4,
-        None => false,
-    };
-    holds(&rt, is_so, "each call");
+    each_is_right::<EachCall>(&rt, rt.alloc(), "each call")?;
     Ok(())
+}
+
+struct EachCallOfMaking;
+
+impl Trial for EachCallOfMaking {
+    fn is_right(alloc: Global, outside: &mut Outside, _row: &str) -> Result<bool, NoMemory> {
+        for call in 1..MAKING + 1 {
+            if make(alloc, outside, call as u64)? != Status::DiskFault {
+                return Ok(false);
+            }
+        }
+        Ok(true)
+    }
 }
 
 #[test]
 fn tells_the_call_of_making_that_fails(rt: HostRuntime) -> Result<(), Fail> {
-    let mut outside = Outside::new(rt.alloc())?;
-    for call in 1..MAKING + 1 {
-        let status = make(rt.alloc(), &mut outside, call as u64)?;
-        holds(&rt, status == Status::DiskFault, "a call");
-    }
+    each_is_right::<EachCallOfMaking>(&rt, rt.alloc(), "each call")?;
     Ok(())
 }
 
@@ -201,35 +224,37 @@ static FILES: [&str; 3] = [
 ];
 
 /// Whether the file has these bytes, and no more.
-fn has(disk: &mut MemoryDisk, file: u8, bytes: &[u8]) -> Result<bool, Failed>
+fn has(disk: &mut MemoryDisk, file: u8, bytes: &[u8]) -> bool
     requires { file < 3 }
 {
     let mut found = [0; 512];
-    let count = disk.read(file, 0, &mut found)?;
-    Ok(&found[..count] == bytes)
+    match disk.read(file, 0, &mut found) {
+        Ok(count) => &found[..count] == bytes,
+        Err(Failed) => false,
+    }
 }
 
 /// Whether the files are these.
-fn are_files(alloc: Global, disk: &mut MemoryDisk) -> Result<bool, Fail> {
+fn are_files(alloc: Global, disk: &mut MemoryDisk) -> Result<bool, NoMemory> {
     for file in 0..3u8 {
         let bytes = bytes_of(alloc, FILES[file as usize])?;
-        if !has(disk, file, &bytes)? {
+        if !has(disk, file, &bytes) {
             return Ok(false);
         }
     }
     Ok(true)
 }
 
+struct FilesOfOneBlock;
+
+impl Trial for FilesOfOneBlock {
+    fn is_right(alloc: Global, outside: &mut Outside, _row: &str) -> Result<bool, NoMemory> {
+        Ok(is_made(alloc, outside)? && are_files(alloc, &mut outside.disk)?)
+    }
+}
+
 #[test]
 fn keeps_the_first_block_in_its_files(rt: HostRuntime) -> Result<(), Fail> {
-    let mut outside = Outside::new(rt.alloc())?;
-    let status = make(rt.alloc(), &mut outside, 0)?;
-    let came = replay_first(rt.alloc(), &mut outside)?;
-    holds(
-        &rt,
-        status == Status::Done && came == Came::Accepted,
-        "made",
-    );
-    holds(&rt, are_files(rt.alloc(), &mut outside.disk)?, "bytes");
+    each_is_right::<FilesOfOneBlock>(&rt, rt.alloc(), "bytes")?;
     Ok(())
 }

@@ -37,24 +37,31 @@ fn digit(letter: u8) -> u8 {
     }
 }
 
-/// What a word stands for: bytes, and bytes behind them. None where the word is digits.
+/// The words that aren't digits, each with the bytes that it stands for, in two parts.
+static WORDS: [(&str, &[u8], &[u8]); 9] = [
+    ("block", &FIRST_BLOCK, &[]),
+    ("zeros", &[0; 32], &[]),
+    // the frame of the first block, and the reply that accepts it: code 0, a length of 36, and height 1
+    ("first", &[1, 0x1d, 1, 0, 0], &FIRST_BLOCK),
+    ("accepted", &[0, 36, 0, 0, 0, 1, 0, 0, 0], &FIRST_HASH),
+    // the reply to a block on the block before the first, where the first is the tip
+    ("not-on-tip", &[2, 32, 0, 0, 0], &FIRST_HASH),
+    // the frame of the disconnect of the first block, and its reply
+    ("back", &[2, 32, 0, 0, 0], &FIRST_HASH),
+    ("base", &[0, 36, 0, 0, 0, 0, 0, 0, 0], &[0; 32]),
+    // a message that asks nothing, and the reply to it
+    ("asked", &[0x12, 0x34, 1, 0], &[0; 8]),
+    ("told", &[0x12, 0x34, 0x81, 1], &[0; 8]),
+];
+
+/// What a word stands for. None where it is digits.
 fn pieces(word: &str) -> Option<(&'static [u8], &'static [u8])> {
-    match word.as_bytes() {
-        b"block" => Some((&FIRST_BLOCK, &[])),
-        b"zeros" => Some((&[0; 32], &[])),
-        // the frame of the first block, and the reply that accepts it: code 0, a length of 36, and height 1
-        b"first" => Some((&[1, 0x1d, 1, 0, 0], &FIRST_BLOCK)),
-        b"accepted" => Some((&[0, 36, 0, 0, 0, 1, 0, 0, 0], &FIRST_HASH)),
-        // the reply to a block on the block before the first, where the first is the tip
-        b"not-on-tip" => Some((&[2, 32, 0, 0, 0], &FIRST_HASH)),
-        // the frame of the disconnect of the first block, and its reply
-        b"back" => Some((&[2, 32, 0, 0, 0], &FIRST_HASH)),
-        b"base" => Some((&[0, 36, 0, 0, 0, 0, 0, 0, 0], &[0; 32])),
-        // a message that asks nothing, and the reply to it
-        b"asked" => Some((&[0x12, 0x34, 1, 0], &[0; 8])),
-        b"told" => Some((&[0x12, 0x34, 0x81, 1], &[0; 8])),
-        _ => None,
+    for (name, front, behind) in &WORDS {
+        if *name == word {
+            return Some((*front, *behind));
+        }
     }
+    None
 }
 
 /// A part of the first block, as `block:0-100`.

@@ -24,6 +24,14 @@ impl Model for Unsent {
     ghost invariant = { λ u. u.taken ≤ length u.bytes.items };
 }
 
+/// A writer that takes nothing of what isn't empty has failed.
+fn took_some(count: usize) -> io::Result<bool> {
+    if count == 0 {
+        return Err(ErrorKind::WriteZero.into());
+    }
+    Ok(true)
+}
+
 impl Unsent {
     pub(crate) fn new(alloc: Global) -> Unsent
         ensures { result ≡ [] }
@@ -58,22 +66,30 @@ impl Unsent {
         Ok(count)
     }
 
+    /// Gives what is left to the writer once, and says whether it may take more without a wait.
+    fn send_some<W: Write>(&mut self, writer: &mut W) -> io::Result<bool>
+        ensures { Moves (W.contents writer.old) (W.contents writer.new) self.old self.new }
+    {
+        if self.is_empty() {
+            self.clear();
+            return Ok(false);
+        }
+        match self.write_once(writer) {
+            Ok(count) => took_some(count),
+            Err(error) if error.kind() == ErrorKind::Interrupted => Ok(true),
+            Err(error) if error.kind() == ErrorKind::WouldBlock => Ok(false),
+            Err(error) => Err(error),
+        }
+    }
+
     /// Gives what is left to the writer, as far as it takes it without a wait.
     #[tactic(auto, using(crate::proofs::UnsentLemmas::Moves_append, crate::proofs::UnsentLemmas::Moves_nothing))]
     pub(crate) fn send_on<W: Write>(&mut self, writer: &mut W) -> io::Result<()>
         ensures { Moves (W.contents writer.old) (W.contents writer.new) self.old self.new }
     {
         for _ in 0..u64::MAX {
-            if self.is_empty() {
-                self.clear();
+            if !self.send_some(writer)? {
                 break;
-            }
-            match self.write_once(writer) {
-                Ok(0) => return Err(ErrorKind::WriteZero.into()),
-                Ok(_) => {}
-                Err(error) if error.kind() == ErrorKind::Interrupted => {}
-                Err(error) if error.kind() == ErrorKind::WouldBlock => break,
-                Err(error) => return Err(error),
             }
         }
         Ok(())

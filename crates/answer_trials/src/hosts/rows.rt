@@ -1,7 +1,7 @@
 //! Texts and what they are, from an independent reading of the rules.
 
 /// Host texts in hexadecimal, which node is asked, the form, and the name on the wire (`none` where it is too long).
-pub(super) const HOSTS: &str = " 0 top 01780362697400
+pub(super) const HOSTS: &[u8] = b" 0 top 01780362697400
 40 1 top 01780362697400
 2e 0 none -
 61 1 own 01613f61616161616161616161616161616161616161616161616161616161616161616161616161616161616161616161616161616161616161616161616161616101780362697400
@@ -109,7 +109,7 @@ pub(super) const HOSTS: &str = " 0 top 01780362697400
 6c6c6c6c6c6c6c6c6c6c6c6c6c6c6c6c6c6c6c6c6c6c6c6c6c6c6c6c6c6c6c6c6c6c6c6c6c6c6c6c6c6c6c6c6c6c6c6c6c6c2e6d6d6d6d6d6d6d6d6d6d6d6d6d6d6d6d6d6d6d6d6d6d6d6d6d6d6d6d6d6d6d6d6d6d6d6d6d6d6d6d6d6d6d6d6d6d6d6d6d6d6d6d6d6d6d6d6d6d6d6d6d6d6d2e6b6b6b6b6b6b6b6b6b6b6b6b6b6b6b6b6b6b6b6b6b6b6b6b6b6b6b6b6b6b6b6b6b6b6b6b6b6b6b6b6b6b6b6b6b6b6b6b6b6b6b6b6b6b6b6b6b6b6b6b6b6b6b2e 0 absolute 326c6c6c6c6c6c6c6c6c6c6c6c6c6c6c6c6c6c6c6c6c6c6c6c6c6c6c6c6c6c6c6c6c6c6c6c6c6c6c6c6c6c6c6c6c6c6c6c6c6c3f6d6d6d6d6d6d6d6d6d6d6d6d6d6d6d6d6d6d6d6d6d6d6d6d6d6d6d6d6d6d6d6d6d6d6d6d6d6d6d6d6d6d6d6d6d6d6d6d6d6d6d6d6d6d6d6d6d6d6d6d6d6d6d3f6b6b6b6b6b6b6b6b6b6b6b6b6b6b6b6b6b6b6b6b6b6b6b6b6b6b6b6b6b6b6b6b6b6b6b6b6b6b6b6b6b6b6b6b6b6b6b6b6b6b6b6b6b6b6b6b6b6b6b6b6b6b6b00";
 
 /// Texts in hexadecimal, and what they are as IPv4 and as IPv6.
-pub(super) const ADDRESSES: &str = " none none
+pub(super) const ADDRESSES: &[u8] = b" none none
 302e302e302e30 00000000 none
 30302e312e322e33 none none
 30312e322e332e34 none none

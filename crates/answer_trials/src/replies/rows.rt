@@ -1,7 +1,7 @@
 //! Names, their values, queries and replies in hexadecimal, as another reading of the standards has them.
 
 /// A name and its value.
-pub(super) type Row = (&'static str, &'static str);
+pub(super) type Row = (&'static [u8], &'static [u8]);
 
 /// The names that are served, a query, and the reply. No bytes stand for none.
 pub(super) struct Exchange {
@@ -11,43 +11,43 @@ pub(super) struct Exchange {
 }
 
 /// A name with one address.
-const PLAIN: &[Row] = &[("d/example", r#"{"ip":"1.2.3.4"}"#)];
+const PLAIN: &[Row] = &[(b"d/example", br#"{"ip":"1.2.3.4"}"#)];
 
 /// Two names that import each other.
 const RING: &[Row] = &[
-    ("d/a", r#"{"import":"d/b","ip":"192.0.2.1"}"#),
-    ("d/b", r#"{"import":"d/a","txt":"t"}"#),
+    (b"d/a", br#"{"import":"d/b","ip":"192.0.2.1"}"#),
+    (b"d/b", br#"{"import":"d/a","txt":"t"}"#),
 ];
 
 /// A name with the items of a usual host.
 const USUAL: &[Row] = &[(
-    "d/example",
-    r#"{"ip":["192.0.2.5","192.0.2.6"],"ip6":"2001:db8::5","mx":[[10,"mail"]],"txt":"v=spf1 mx -all","map":{"www":{"alias":"@"},"_tcp":{"map":{"_443":{"tls":[[3,1,1,"AQI="]]}}}}}"#,
+    b"d/example",
+    br#"{"ip":["192.0.2.5","192.0.2.6"],"ip6":"2001:db8::5","mx":[[10,"mail"]],"txt":"v=spf1 mx -all","map":{"www":{"alias":"@"},"_tcp":{"map":{"_443":{"tls":[[3,1,1,"AQI="]]}}}}}"#,
 )];
 
 /// Names that are cut, moved, long, their own alias, and one with imports.
 const MOVED: &[Row] = &[
     (
-        "d/cut",
-        r#"{"ns":"ns1.example.org.","ds":[[1,8,2,"AQI="]]}"#,
+        b"d/cut",
+        br#"{"ns":"ns1.example.org.","ds":[[1,8,2,"AQI="]]}"#,
     ),
-    ("d/x", r#"{"translate":"y.bit."}"#),
+    (b"d/x", br#"{"translate":"y.bit."}"#),
     (
-        "d/long",
-        r#"{"txt":"aaaaaaaaaaaaaaaaaaaaaaaaaaaaaaaaaaaaaaaaaaaaaaaaaaaaaaaaaaaaaaaaaaaaaaaaaaaaaaaaaaaaaaaaaaaaaaaaaaaaaaaaaaaaaaaaaaaaaaaaaaaaaaaaaaaaaaaaaaaaaaaaaaaaaaaaaaaaaaaaaaaaaaaaaaaaaaaaaaaaaaaaaaaaaaaaaaaaaaaaaaaaaaaaaaaaaaaaaaaaaaaaaaaaaaaaaaaaaaaaaaaaaaaaaaaaaaaaaaaaaaaaaaaaaaaaaaaaaaaaaaaaaaaaaaaaaaaaaaaaaaaaaaaaaaaaaaaaaaaaaaaaaaaaaaaaaaaaaaaaaaaaaaaaaaaaaaaaaaaaaaaaaaaaaaaaaaaaaaaaaaaaaaaaaaaaaaaaaaaaaaaaaaaaaaaaaaaaaaaaaaaaaaaaaaaaaaaaaaaaaaaaaaaaaaaaaaaaaaaaaaaaaaaaaaaaaaaaaaaaaaaaaaaaaaaaaaaaaaaaaaaaaaaaaaaaaaaaaaaaaaaaaaaaaaaaaaaaaaaaaaaaaaaaaaaaaaaaaaaaaaaaaaaaaaaaaaaaaaaaaaaaaaaaaaaaaaaaaaaa"}"#,
+        b"d/long",
+        br#"{"txt":"aaaaaaaaaaaaaaaaaaaaaaaaaaaaaaaaaaaaaaaaaaaaaaaaaaaaaaaaaaaaaaaaaaaaaaaaaaaaaaaaaaaaaaaaaaaaaaaaaaaaaaaaaaaaaaaaaaaaaaaaaaaaaaaaaaaaaaaaaaaaaaaaaaaaaaaaaaaaaaaaaaaaaaaaaaaaaaaaaaaaaaaaaaaaaaaaaaaaaaaaaaaaaaaaaaaaaaaaaaaaaaaaaaaaaaaaaaaaaaaaaaaaaaaaaaaaaaaaaaaaaaaaaaaaaaaaaaaaaaaaaaaaaaaaaaaaaaaaaaaaaaaaaaaaaaaaaaaaaaaaaaaaaaaaaaaaaaaaaaaaaaaaaaaaaaaaaaaaaaaaaaaaaaaaaaaaaaaaaaaaaaaaaaaaaaaaaaaaaaaaaaaaaaaaaaaaaaaaaaaaaaaaaaaaaaaaaaaaaaaaaaaaaaaaaaaaaaaaaaaaaaaaaaaaaaaaaaaaaaaaaaaaaaaaaaaaaaaaaaaaaaaaaaaaaaaaaaaaaaaaaaaaaaaaaaaaaaaaaaaaaaaaaaaaaaaaaaaaaaaaaaaaaaaaaaaaaaaaaaaaaaaaaaaaaaaaaaaaaaaa"}"#,
     ),
-    ("d/self", r#"{"alias":"@"}"#),
+    (b"d/self", br#"{"alias":"@"}"#),
     (
-        "d/all",
-        r#"{"ip":"192.0.2.7","ip6":"2001:db8::7","mx":[[10,"mail"]],"txt":["a",["b","c"]],"srv":[[1,2,443,"w"]],"translate":"y.bit.","import":[["d/more"],["d/deep","x.y"]]}"#,
-    ),
-    (
-        "d/more",
-        r#"{"ip":"9.9.9.9","sshfp":[[4,2,"AQI="]],"import":"d/all"}"#,
+        b"d/all",
+        br#"{"ip":"192.0.2.7","ip6":"2001:db8::7","mx":[[10,"mail"]],"txt":["a",["b","c"]],"srv":[[1,2,443,"w"]],"translate":"y.bit.","import":[["d/more"],["d/deep","x.y"]]}"#,
     ),
     (
-        "d/deep",
-        r#"{"map":{"y":{"map":{"x":{"map":{"":{"tls":[[3,1,1,"AQI="]]}}}}}}}"#,
+        b"d/more",
+        br#"{"ip":"9.9.9.9","sshfp":[[4,2,"AQI="]],"import":"d/all"}"#,
+    ),
+    (
+        b"d/deep",
+        br#"{"map":{"y":{"map":{"x":{"map":{"":{"tls":[[3,1,1,"AQI="]]}}}}}}}"#,
     ),
 ];
 

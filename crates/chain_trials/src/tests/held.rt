@@ -6,7 +6,7 @@ ghost use Rattle.nmc_base.specs.declared.limits.TheConstants.{HIGHEST_HEIGHT};
 use super::stop::Stop;
 use chain_state::{BackOutcome, Chain, Refusal, StageOutcome};
 use chain_steps::{stage_bytes, stage_hash};
-use nmc_base::{Base, LONGEST_BLOCK, Steps, Tip};
+use nmc_base::{Base, LONGEST_BLOCK, Steps};
 use std::alloc::Global;
 use std::sync::ledger::Ledger;
 
@@ -25,6 +25,9 @@ const AREA: (u64, u64) = (9, 1 << 42);
 pub struct Held {
     chain: Option<Chain>,
 }
+
+/// The one place where a chain is let go.
+pub fn let_go(_: Held) {}
 
 fn number_of(refusal: &Refusal) -> Answer {
     match refusal {
@@ -66,9 +69,10 @@ impl Held {
         }
     }
 
-    pub fn tip(&self) -> Result<Tip, Stop> {
+    /// The height of the tip.
+    pub fn height(&self) -> Result<u32, Stop> {
         match &self.chain {
-            Some(chain) => Ok(chain.tip()),
+            Some(chain) => Ok(chain.tip().height),
             None => Err(Stop::Wrong("a chain")),
         }
     }
@@ -81,7 +85,8 @@ impl Held {
     }
 
     fn put(&mut self, chain: Chain) {
-        self.chain = Some(chain);
+        let before = self.chain.replace(chain);
+        let_go(Held { chain: before });
     }
 
     /// Connects the bytes of a block, and tells the answer.

@@ -6,9 +6,3 @@ pub enum Stop {
     NoMemory,
     Wrong(&'static str),
 }
-
-impl From<&'static str> for Stop {
-    fn from(text: &'static str) -> Stop {
-        Stop::Wrong(text)
-    }
-}

@@ -3,7 +3,7 @@
 //! A line is a block: `ok`, or the number of its refusal and the index of the transaction, as `24:1`; and its bytes. Or it is
 //! `back`, the disconnect of the newest block; or a word on the block that stands below it, behind `#`.
 
-use super::held::{Answer, Held, NO_MEMORY};
+use super::held::{Answer, Held, NO_MEMORY, let_go};
 use super::stop::Stop;
 use nmc_base::{Base, Hash32, Profile, Steps};
 use std::alloc::Global;
@@ -26,14 +26,37 @@ const BASE: Base = Base {
     hash: Hash32([0; 32]),
 };
 
+fn holds(rt: &impl Abort, is_so: bool, what: &str, height: u32) {
+    assert!(rt; is_so, "{what} {height}");
+}
+
+fn number_of(number: &str, index: &str) -> Result<Answer, Stop> {
+    match (number.parse::<u8>(), index.parse::<u32>()) {
+        (Ok(number), Ok(index)) => Ok((number, index)),
+        _ => Err(Stop::Wrong("a number and an index")),
+    }
+}
+
 fn wanted_of(text: &str) -> Result<Answer, Stop> {
     match text.split_once(':') {
         None => Ok((0, 0)),
-        Some((number, index)) => Ok((
-            number.parse::<u8>().ok().ok_or("a number")?,
-            index.parse::<u32>().ok().ok_or("an index")?,
-        )),
+        Some((number, index)) => number_of(number, index),
     }
+}
+
+/// Connects a block, and tells the answer.
+fn connected<L: Ledger>(
+    alloc: Global,
+    held: &mut Held,
+    bytes: &[u8],
+    lacking: Lacking,
+    steps: &mut Steps<L>,
+) -> Result<Answer, Stop> {
+    let answer = held.connect(alloc, bytes, steps)?;
+    if answer == NO_MEMORY && lacking == Lacking::Again {
+        return held.connect(alloc, bytes, steps);
+    }
+    Ok(answer)
 }
 
 /// Connects a block, which gets the wanted answer.
@@ -46,35 +69,72 @@ fn gets<L: Ledger>(
     lacking: Lacking,
     steps: &mut Steps<L>,
 ) -> Result<(), Stop> {
-    let mut answer = held.connect(alloc, bytes, steps)?;
-    if answer == NO_MEMORY && lacking == Lacking::Again {
-        answer = held.connect(alloc, bytes, steps)?;
-    }
-    let height = held.tip()?.height;
-    assert!(rt; answer == wanted, "behind the block of height {height}");
+    let answer = connected(alloc, held, bytes, lacking, steps)?;
+    let height = held.height()?;
+    holds(rt, answer == wanted, "behind the block of height", height);
     Ok(())
+}
+
+/// The answer that the line wants, and the digits of its block.
+fn parts_of(line: &str) -> Result<(Answer, &str), Stop> {
+    match line.split_once(' ') {
+        None => Err(Stop::Wrong("an answer")),
+        Some((wanted, digits)) => Ok((wanted_of(wanted)?, digits)),
+    }
 }
 
 /// Reads a block into the buffer, and gives its bytes.
 fn read<'a>(digits: &str, buffer: &'a mut [u8]) -> Result<&'a [u8], Stop> {
-    let bytes = buffer.get_mut(..digits.len() / 2).ok_or("a long block")?;
-    hex::decode_to_slice(digits, bytes).ok().ok_or("no digits")?;
-    Ok(bytes)
+    let Some(bytes) = buffer.get_mut(..digits.len() / 2) else {
+        return Err(Stop::Wrong("a long block"));
+    };
+    match hex::decode_to_slice(digits, bytes) {
+        Ok(()) => Ok(bytes),
+        Err(_) => Err(Stop::Wrong("no digits")),
+    }
 }
 
-/// A block of the trial.
+/// A block of the trial, which is read into the buffer.
 fn block<L: Ledger>(
     rt: &impl Abort,
     alloc: Global,
     held: &mut Held,
     line: &str,
+    buffer: &mut [u8],
     lacking: Lacking,
     steps: &mut Steps<L>,
 ) -> Result<(), Stop> {
-    let (wanted, digits) = line.split_once(' ').ok_or("an answer")?;
-    let mut buffer = [0; 400];
-    let bytes = read(digits, &mut buffer)?;
-    gets(rt, alloc, held, bytes, wanted_of(wanted)?, lacking, steps)
+    let (wanted, digits) = parts_of(line)?;
+    let bytes = read(digits, buffer)?;
+    gets(rt, alloc, held, bytes, wanted, lacking, steps)
+}
+
+/// Disconnects the newest block, and tells whether there was memory for it.
+fn disconnected<L: Ledger>(
+    alloc: Global,
+    held: &mut Held,
+    lacking: Lacking,
+    steps: &mut Steps<L>,
+) -> Result<bool, Stop> {
+    let is_done = held.disconnect(alloc, steps)?;
+    if !is_done && lacking == Lacking::Again {
+        return held.disconnect(alloc, steps);
+    }
+    Ok(is_done)
+}
+
+/// The heights of the tip before the newest block is disconnected, and behind that.
+fn heights_of_back<L: Ledger>(
+    alloc: Global,
+    held: &mut Held,
+    lacking: Lacking,
+    steps: &mut Steps<L>,
+) -> Result<(u32, u32), Stop> {
+    let tip = held.height()?;
+    if !disconnected(alloc, held, lacking, steps)? {
+        return Err(Stop::NoMemory);
+    }
+    Ok((tip, held.height()?))
 }
 
 /// Disconnects the newest block.
@@ -85,14 +145,8 @@ fn back<L: Ledger>(
     lacking: Lacking,
     steps: &mut Steps<L>,
 ) -> Result<(), Stop> {
-    let tip = held.tip()?.height;
-    if !held.disconnect(alloc, steps)? {
-        if lacking == Lacking::Stops || !held.disconnect(alloc, steps)? {
-            return Err(Stop::NoMemory);
-        }
-    }
-    let below = held.tip()?.height;
-    assert!(rt; below == tip.saturating_sub(1), "back from {tip}");
+    let (tip, below) = heights_of_back(alloc, held, lacking, steps)?;
+    holds(rt, below == tip.saturating_sub(1), "back from", tip);
     Ok(())
 }
 
@@ -109,7 +163,7 @@ fn line<L: Ledger>(
     }
     match line {
         "back" => back(rt, alloc, held, lacking, steps),
-        _ => block(rt, alloc, held, line, lacking, steps),
+        _ => block(rt, alloc, held, line, &mut [0; 400], lacking, steps),
     }
 }
 
@@ -120,7 +174,7 @@ fn at_base(alloc: Global, lacking: Lacking) -> Result<Held, Stop> {
     }
 }
 
-/// The height of the tip behind all lines.
+/// Each line in turn.
 fn lines<L: Ledger>(
     rt: &impl Abort,
     alloc: Global,
@@ -128,11 +182,24 @@ fn lines<L: Ledger>(
     text: &str,
     lacking: Lacking,
     steps: &mut Steps<L>,
-) -> Result<u32, Stop> {
+) -> Result<(), Stop> {
     for row in text.lines() {
         line(rt, alloc, held, row, lacking, steps)?;
     }
-    Ok(held.tip()?.height)
+    Ok(())
+}
+
+/// The height of the tip behind all lines.
+fn height_behind<L: Ledger>(
+    rt: &impl Abort,
+    alloc: Global,
+    held: &mut Held,
+    text: &str,
+    lacking: Lacking,
+    steps: &mut Steps<L>,
+) -> Result<u32, Stop> {
+    lines(rt, alloc, held, text, lacking, steps)?;
+    held.height()
 }
 
 /// The height of the tip behind all lines of the trial.
@@ -144,5 +211,7 @@ pub fn run<L: Ledger>(
     steps: &mut Steps<L>,
 ) -> Result<u32, Stop> {
     let mut held = at_base(alloc, lacking)?;
-    lines(rt, alloc, &mut held, text, lacking, steps)
+    let height = height_behind(rt, alloc, &mut held, text, lacking, steps);
+    let_go(held);
+    height
 }

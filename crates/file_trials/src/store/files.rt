@@ -156,10 +156,15 @@ fn tells_host(rt: &impl Abort, alloc: Global, disk: &mut MemoryDisk) {
     assert!(rt; is_told == Ok(true), "{is_told:?}");
 }
 
+/// A disk with the files of the first block, and this last byte.
+fn disk_of_first(alloc: Global, last: u8) -> Result<MemoryDisk, Fail> {
+    let area = first_area(alloc, last)?;
+    disk_of(alloc, &HEADER, area.as_slice())
+}
+
 #[test]
 fn files_are_opened(rt: HostRuntime) -> Result<(), Fail> {
-    let area = first_area(rt.alloc(), 0)?;
-    let mut disk = disk_of(rt.alloc(), &HEADER, area.as_slice())?;
+    let mut disk = disk_of_first(rt.alloc(), 0)?;
     finds(&rt, rt.alloc(), &mut disk, Found::First);
     tells_host(&rt, rt.alloc(), &mut disk);
     Ok(())
@@ -167,8 +172,7 @@ fn files_are_opened(rt: HostRuntime) -> Result<(), Fail> {
 
 #[test]
 fn an_open_gate_at_the_end_is_damage(rt: HostRuntime) -> Result<(), Fail> {
-    let area = first_area(rt.alloc(), 1)?;
-    let mut disk = disk_of(rt.alloc(), &HEADER, area.as_slice())?;
+    let mut disk = disk_of_first(rt.alloc(), 1)?;
     let damaged = OpenFault::Damaged { file: 1, at: 299 };
     finds(&rt, rt.alloc(), &mut disk, Found::Not(damaged));
     Ok(())

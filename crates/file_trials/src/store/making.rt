@@ -49,13 +49,25 @@ fn answers(rt: &impl Abort, disk: &mut MemoryDisk, want: Result<(), CreateFault>
     assert!(rt; got == Some(want));
 }
 
+/// Files are made with this answer, and are those of the base then.
+fn leaves_base(
+    rt: &impl Abort,
+    disk: &mut MemoryDisk,
+    want: Result<(), CreateFault>,
+) -> Result<(), Fail> {
+    answers(rt, disk, want);
+    holds(rt, disk, &[0; 9])
+}
+
+fn makes_once(rt: &impl Abort, disk: &mut MemoryDisk) -> Result<(), Fail> {
+    leaves_base(rt, disk, Ok(()))?;
+    leaves_base(rt, disk, Err(CreateFault::Initialised))
+}
+
 #[test]
 fn files_are_made_once(rt: HostRuntime) -> Result<(), Fail> {
     let mut disk = MemoryDisk::new(rt.alloc(), &[])?;
-    answers(&rt, &mut disk, Ok(()));
-    holds(&rt, &mut disk, &[0; 9])?;
-    answers(&rt, &mut disk, Err(CreateFault::Initialised));
-    holds(&rt, &mut disk, &[0; 9])
+    makes_once(&rt, &mut disk)
 }
 
 /// This call of the disk fails.
