@@ -1,5 +1,6 @@
 """What a replay has to hash, and what it takes: the instructions of the program, counted by valgrind's callgrind."""
 import contextlib
+import os
 import pathlib
 import random
 import re
@@ -12,6 +13,9 @@ from blocks import Chain, transaction
 from stores import PROGRAM, made_folder
 
 COMPRESSION = "sha2::block256::compress"
+# Valgrind counts each byte that one `rep stosb` or `rep movsb` writes as an instruction. So the C library is told to write by
+# the instructions that it uses for shorter pieces.
+BY_STORES = "glibc.cpu.x86_rep_stosb_threshold=100000000:glibc.cpu.x86_rep_movsb_threshold=100000000"
 
 
 class Work(typing.NamedTuple):
@@ -81,7 +85,8 @@ def counted(path, function=re.escape(COMPRESSION), folder=None):
         trace, stream = stack.enter_context(tempfile.NamedTemporaryFile("r")), stack.enter_context(open(path, "rb"))
         folder = folder or stack.enter_context(made_folder())
         command = ["valgrind", "--tool=callgrind", f"--callgrind-out-file={trace.name}", PROGRAM, "replay"]
-        run = subprocess.run(command, cwd=folder, stdin=stream, stdout=subprocess.DEVNULL, stderr=subprocess.PIPE, text=True)
+        how = {"stdout": subprocess.DEVNULL, "stderr": subprocess.PIPE, "text": True, "env": os.environ | {"GLIBC_TUNABLES": BY_STORES}}
+        run = subprocess.run(command, cwd=folder, stdin=stream, **how)
         total = re.search(r"Collected : (\d+)", run.stderr)
         if run.returncode or not total:
             raise SystemExit(f"callgrind ended with {run.returncode}:\n{run.stderr}")
