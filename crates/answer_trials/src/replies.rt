@@ -3,8 +3,7 @@ ghost use Rattle.std.specs.Option.{option_map};
 ghost use Rattle.std.specs.Str.{bytes_eq};
 
 use crate::comparing::same;
-use bit_replies::{Answered, answer};
-use bit_resolver::Zone;
+use bit_resolver::{Answered, Zone, answer};
 use domain_text::absolute_name;
 use import_expand::Names;
 use rows::{EXCHANGES, Exchange, Row};

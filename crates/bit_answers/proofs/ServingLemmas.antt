@@ -6,9 +6,9 @@ use Rattle.chain_names.specs.Coins.{Maps}
 use Rattle.chain_names.specs.Index.{served_value}
 use Rattle.chain_names.specs.Tables.{names_in}
 use Rattle.chain_state.specs.Chain.{Indexed}
-use Rattle.chain_laws.specs.Standing.{StandsForChain, chain_maps}
+use Rattle.chain_state.specs.Standing.{StandsForChain, chain_maps}
 use Rattle.dns_message.specs.declared.numbers.TheConstants.{LEAST_LIMIT}
-use Rattle.bit_replies.specs.Replies.{MayReply}
+use Rattle.bit_resolver.specs.Replies.{MayReply}
 use Rattle.bit_answers.specs.Serving.{served_by, served_on, zone_at, MayReplyBy, MayReplyOn}
 
 module _ (base : Base) (start : Log) (blocks : List (List ℕ)) (c : Indexed) (s : StandsForChain base start blocks c) where

@@ -9,7 +9,7 @@ use Rattle.chain_state.specs.Chain.{Indexed}
 use Rattle.import_expand.specs.Sources.{Live}
 use Rattle.dns_message.specs.declared.numbers.TheConstants.{LEAST_LIMIT}
 use Rattle.bit_resolver.specs.declared.zone.Zone.{Zone}
-use Rattle.bit_replies.specs.Replies.{MayReply}
+use Rattle.bit_resolver.specs.Replies.{MayReply}
 
 -- the values that an index serves at its tip
 abbrev pub served_by : Indexed → Live

@@ -1,14 +1,13 @@
 ghost use Rattle.std.specs.Prelude.{ℕ, ◌≤◌, List, length};
 ghost use Rattle.nmc_base.specs.declared.chain_ends.Base.{Base};
 ghost use Rattle.chain_names.specs.Log.{Log};
-ghost use Rattle.chain_laws.specs.Standing.{StandsForChain};
+ghost use Rattle.chain_state.specs.Standing.{StandsForChain};
 ghost use Rattle.dns_message.specs.declared.numbers.TheConstants.{LEAST_LIMIT as limit};
-ghost use Rattle.bit_replies.specs.Replies.{told, IsWithin};
+ghost use Rattle.bit_resolver.specs.Replies.{told, IsWithin};
 ghost use Rattle.bit_answers.specs.Serving.{MayReplyBy, MayReplyOn};
 
 use crate::served::Served;
-use bit_replies::Answered;
-use bit_resolver::Zone;
+use bit_resolver::{Answered, Zone};
 use chain_state::Chain;
 use dns_message::LEAST_LIMIT;
 use domain_text::Name;
@@ -35,7 +34,7 @@ pub fn answer(
         host: host.copy(),
         serial: chain.tip().height,
     };
-    bit_replies::answer(
+    bit_resolver::answer(
         alloc,
         &Served::of(chain),
         &zone,

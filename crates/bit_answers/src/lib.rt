@@ -5,5 +5,5 @@ mod answering;
 mod served;
 
 pub use answering::answer;
-pub use bit_replies::Answered;
+pub use bit_resolver::Answered;
 pub use served::Served;

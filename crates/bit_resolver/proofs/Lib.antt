@@ -2,3 +2,5 @@ pub mod PlaceLemmas
 pub mod WayLemmas
 pub mod ChaseLemmas
 pub mod AnswerLaws
+pub mod WritingLemmas
+pub mod ReplyLaws

@@ -5,3 +5,5 @@ pub mod Nodes
 pub mod Places
 pub mod Rdata
 pub mod Way
+pub mod Replies
+pub mod ReplyLaws

@@ -4,7 +4,7 @@ use Rattle.std.specs.Int.{w32, to_le_bytes}
 use Rattle.feed_frames.specs.Replies.{Reply}
 use Rattle.chain_state.specs.declared.stage.Refusal.{Refusal}
 use Rattle.chain_state.specs.declared.back.BackRefusal.{BackRefusal}
-use Rattle.chain_steps.specs.Views.{refusal_of, back_refusal_of}
+use Rattle.machine.specs.Views.{refusal_of, back_refusal_of}
 use Rattle.nmc_base.specs.declared.chain_ends.Tip.{Tip}
 use Rattle.machine.specs.Chain.{Chain, height_of}
 use Rattle.machine.specs.Event.{Connect, Disconnect, Do}

@@ -3,7 +3,7 @@ use Rattle.std.specs.Prelude.{◌≡◌, ◌≢◌, ℕ, []}
 use Rattle.feed_frames.specs.Replies.{Reply}
 use Rattle.disk_model.specs.Moments.{Files, EachMoment}
 use Rattle.disk_model.specs.DiskSeen.{DiskSeen, bytes_in}
-use Rattle.chain_steps.specs.Costs.{IsCheap}
+use Rattle.machine.specs.Costs.{IsCheap}
 use Rattle.machine.specs.Event.{Event, Connect, Disconnect, Do, Ask}
 use Rattle.machine.specs.RunState.{RunState, chain_of, IsFull, accepted}
 use Rattle.machine.specs.Connecting.{IsValid}

@@ -1,4 +1,3 @@
-ghost use Rattle.std.specs.Prelude.{◌≡◌};
 ghost use Rattle.frame_loop.specs.Turns as loops;
 ghost use Rattle.machine.specs.Event.{frame_of};
 ghost use Rattle.bridge_core.specs.Reached.{Ready, Reached, Broken};

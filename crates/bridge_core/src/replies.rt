@@ -5,7 +5,7 @@ ghost use Rattle.std.specs.Int.{w32, to_le_bytes};
 ghost use Rattle.machine.specs.Reply.{no_memory_reply};
 ghost use Rattle.machine.specs.Connecting.{refusal_reply};
 ghost use Rattle.machine.specs.Disconnecting.{back_reply};
-ghost use Rattle.chain_steps.specs.Views.{refusal_of, back_refusal_of};
+ghost use Rattle.machine.specs.Views.{refusal_of, back_refusal_of};
 ghost use Rattle.bridge_core.specs.Bridge.{fault_reply};
 
 use chain_state::{BackRefusal, Refusal};

@@ -2,9 +2,4 @@ pub use Rattle.fault_counts.specs.Faults
 pub use Rattle.fault_counts.specs.Counts
 pub mod Source
 pub mod Sink
-pub mod MemorySource
-pub mod MemorySink
-pub mod RoomSink
 pub mod Port
-pub mod Kept
-pub mod MemoryPort

@@ -9,3 +9,9 @@ pub mod Index
 pub mod Start
 pub mod Tables
 pub mod Undo
+pub mod Expired
+pub mod UndoOf
+pub mod State
+pub mod Fits
+pub mod Limits
+pub mod Sound

@@ -14,14 +14,14 @@ use Rattle.std.proofs.lemmas.List.{map-append, reverse-append}
 use Rattle.nmc_base.specs.Roomy.{Roomy}
 use Rattle.nmc_base.specs.declared.chain_ends.Tip.{Tip}
 use Rattle.chain_names.specs.declared.undo.UndoOp.{UndoOp}
-use Rattle.undo_laws.specs.Expired.{IsDue}
+use Rattle.chain_names.specs.Expired.{IsDue}
 use Rattle.block_grammar.specs.Block.{count_outputs, Block}
-use Rattle.undo_laws.specs.Sound.{IsSound}
-use Rattle.undo_laws.specs.State.{IsState, IsUpTo}
-use Rattle.undo_laws.proofs.SoundLemmas.{block_sound, sound_state}
-use Rattle.undo_laws.proofs.StartLemmas.{base_sound}
+use Rattle.chain_names.specs.Sound.{IsSound}
+use Rattle.chain_names.specs.State.{IsState, IsUpTo}
+use Rattle.chain_names.proofs.SoundLemmas.{block_sound, sound_state}
+use Rattle.chain_names.proofs.StartLemmas.{base_sound}
 use Rattle.undo_records.specs.Writable.{IsWritable}
-use Rattle.undo_laws.specs.Fits.{AreUndoable}
+use Rattle.chain_names.specs.Fits.{AreUndoable}
 use Rattle.chain_state.specs.Measure.{AreMeasured}
 use Rattle.chain_state.proofs.MeasureLemmas.{block_measured, block_writable, was_there}
 use Rattle.undo_records.specs.Seen.{seen_undo}

@@ -24,7 +24,7 @@ use Rattle.name_tables.specs.Places.{spends_at}
 use Rattle.chain_state.specs.Work.{may_be_empty_at}
 use Rattle.chain_state.specs.Block.{IsReady}
 use Rattle.name_tables.specs.Expiring.{Expires}
-use Rattle.undo_laws.specs.Expired.{is_held_at, points_of}
+use Rattle.chain_names.specs.Expired.{is_held_at, points_of}
 use Rattle.block_grammar.specs.Block.{Block}
 use Rattle.chain_names.specs.Log.{behind_coinbase}
 use Rattle.chain_state.specs.Cost.{touched_by}

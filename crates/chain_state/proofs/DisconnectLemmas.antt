@@ -19,10 +19,10 @@ use Rattle.chain_names.specs.Points.{same_point}
 use Rattle.chain_names.specs.Tables.{coins_in, queued_in, queue_of, is_named_at}
 use Rattle.chain_names.specs.Undo.{UndoRecord}
 use Rattle.chain_names.proofs.Changed.{bytes_eq-self, bytes_eq-true, same_point-self}
-use Rattle.undo_laws.specs.Expired.{is_held_at}
-use Rattle.undo_laws.specs.Fits.{IsJustExpired, AreUndoable, with_restored}
-use Rattle.undo_laws.specs.Sound.{IsSound}
-use Rattle.undo_laws.proofs.UndoableLemmas.{fit_allows, expired-row, expired-none}
+use Rattle.chain_names.specs.Expired.{is_held_at}
+use Rattle.chain_names.specs.Fits.{IsJustExpired, AreUndoable, with_restored}
+use Rattle.chain_names.specs.Sound.{IsSound}
+use Rattle.chain_names.proofs.UndoableLemmas.{fit_allows, expired-row, expired-none}
 use Rattle.undo_records.specs.Seen.{seen_undo}
 use Rattle.undo_records.specs.declared.undo.Undo.{Undo}
 use Rattle.name_tables.specs.Tables.{HoldSame, AreFilled}

@@ -12,7 +12,7 @@ use Rattle.chain_names.specs.Points.{same_point, changed}
 use Rattle.chain_names.specs.Coins.{entry_of}
 use Rattle.chain_names.specs.Tables.{coins_in, coin_places, queued_in, queue_places, queue_of, FilledBut}
 use Rattle.chain_names.proofs.Shown.{true_is_not_false}
-use Rattle.undo_laws.specs.Fits.{AreUndoable}
+use Rattle.chain_names.specs.Fits.{AreUndoable}
 use Rattle.name_tables.specs.Tables.{HoldSame}
 use Rattle.name_tables.specs.Moving.{MayHavePlaces}
 use Rattle.chain_state.specs.Tables.{maps_by}

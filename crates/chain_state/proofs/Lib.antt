@@ -15,3 +15,7 @@ pub mod MeasureLemmas
 pub mod WorkedLemmas
 pub mod ChainLemmas
 pub mod DisconnectLemmas
+pub mod StandingLemmas
+pub mod RefusalLemmas
+pub mod UndoLemmas
+pub mod SoundLemmas

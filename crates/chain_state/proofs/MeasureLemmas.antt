@@ -29,9 +29,9 @@ use Rattle.chain_names.specs.Changes.{with_spent, without_entry, moved, moved_ba
 use Rattle.chain_names.specs.Undo.{UndoRecord}
 use Rattle.chain_names.proofs.Meanings.{verdict_means}
 use Rattle.chain_names.proofs.Points.{same_point-Decides}
-use Rattle.undo_laws.specs.Expired.{points_of, IsSortedByPoint, IsGone, IsDue}
-use Rattle.undo_laws.specs.Limits.{IsWithinLimitsOp, IsShortBefore, HoldsName, IsWithinLimits}
-use Rattle.undo_laws.proofs.HistoryLemmas.{entry_has}
+use Rattle.chain_names.specs.Expired.{points_of, IsSortedByPoint, IsGone, IsDue}
+use Rattle.chain_names.specs.Limits.{IsWithinLimitsOp, IsShortBefore, HoldsName, IsWithinLimits}
+use Rattle.chain_names.proofs.RestoredHistoryLemmas.{entry_has}
 use Rattle.undo_records.specs.Writable.{FitsPoint, FitsNewCoin, FitsNamedCoin, FitsBefore, FitsOp, FitsHeld, AreAscending, IsWritable}
 use Rattle.chain_state.specs.Block.{HasFewOutputs}
 use Rattle.chain_state.specs.Measure.{IsMeasuredCoin, IsMeasuredItem, AreMeasured}

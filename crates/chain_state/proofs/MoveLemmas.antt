@@ -21,7 +21,7 @@ use Rattle.chain_names.proofs.HistoryLemmas.{entry_of-more}
 use Rattle.chain_names.proofs.Filled.{filled-weaker, filled-taken}
 use Rattle.chain_names.proofs.Shown.{true_is_not_false}
 use Rattle.chain_names.proofs.UndoLemmas.{moved_and_back}
-use Rattle.undo_laws.specs.Fits.{IsMadeNamed, IsUndoable, AreUndoable}
+use Rattle.chain_names.specs.Fits.{IsMadeNamed, IsUndoable, AreUndoable}
 use Rattle.chain_state.specs.Tables.{maps_by}
 use Rattle.name_tables.specs.Places.{spends, spends_at}
 use Rattle.chain_state.specs.Work.{HasSpentPlace, HasSpentRow, may_be_empty, may_be_empty_at, IsWork, Advances}

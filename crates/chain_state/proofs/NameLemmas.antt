@@ -12,7 +12,7 @@ use Rattle.chain_names.specs.Points.{same_point}
 use Rattle.chain_names.specs.Coins.{Maps, entry_of}
 use Rattle.chain_names.specs.Changes.{moved, moved_back, back_op, with_spent}
 use Rattle.chain_names.specs.Tables.{coins_in, names_in, is_named_at}
-use Rattle.undo_laws.specs.Fits.{IsMadeNamed, IsUndoable}
+use Rattle.chain_names.specs.Fits.{IsMadeNamed, IsUndoable}
 use Rattle.chain_state.specs.Tables.{maps_by}
 use Rattle.name_tables.specs.Places.{spends, spends_at}
 use Rattle.chain_state.specs.Work.{IsWork, Advances, ShiftsOnly, undo_of_opening, undo_of_update}

@@ -19,13 +19,13 @@ use Rattle.chain_names.specs.Tables.{coins_in, coin_places, names_in, queued_in,
 use Rattle.chain_names.proofs.Points.{same_point-Decides}
 use Rattle.chain_names.proofs.DueLemmas.{unless_expired-row, unless_expired-none}
 use Rattle.chain_names.proofs.Shown.{true_is_not_false}
-use Rattle.undo_laws.specs.Fits.{AreUndoable}
+use Rattle.chain_names.specs.Fits.{AreUndoable}
 use Rattle.chain_state.specs.Tables.{maps_by}
 use Rattle.chain_state.specs.Block.{IsReady}
 use Rattle.name_tables.specs.Places.{spends, spends_at, is_queued_at}
 use Rattle.chain_state.specs.Work.{may_be_empty, may_be_empty_at, IsWork}
 use Rattle.name_tables.specs.Expiring.{IsDueCoin, Expires, CanReturn, Restores}
-use Rattle.undo_laws.specs.Expired.{is_held_at, IsGone, IsSortedByPoint}
+use Rattle.chain_names.specs.Expired.{is_held_at, IsGone, IsSortedByPoint}
 use Rattle.chain_state.specs.Whole.{maps_returned, IsWhole, Finishes}
 use Rattle.name_tables.specs.declared.tables.Tables.{Tables}
 use Rattle.chain_state.specs.declared.work.Work.{Work}

@@ -8,7 +8,7 @@ use Rattle.nmc_base.specs.declared.hashes.OutPoint.{OutPoint}
 use Rattle.chain_names.specs.declared.coin.HeldCoin.{HeldCoin}
 use Rattle.chain_names.specs.declared.undo.UndoOp.{UndoOp}
 use Rattle.chain_names.specs.Undo.{UndoRecord}
-use Rattle.undo_laws.specs.Sound.{IsSound}
+use Rattle.chain_names.specs.Sound.{IsSound}
 use Rattle.undo_records.specs.declared.undo.Undo.{Undo}
 use Rattle.undo_records.specs.Writable.{IsWritable}
 use Rattle.chain_state.specs.Measure.{AreMeasured}

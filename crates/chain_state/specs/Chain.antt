@@ -14,8 +14,8 @@ use Rattle.chain_names.specs.Changes.{Refused, first_refused, after_all, after_b
 use Rattle.chain_names.specs.Tables.{coins_in, queued_in, queue_of}
 use Rattle.chain_names.specs.Undo.{UndoRecord}
 use Rattle.std.specs.List.{AllByRecursion}
-use Rattle.undo_laws.specs.Expired.{IsDue, IsSortedByPoint}
-use Rattle.undo_laws.specs.Sound.{IsSound}
+use Rattle.chain_names.specs.Expired.{IsDue, IsSortedByPoint}
+use Rattle.chain_names.specs.Sound.{IsSound}
 use Rattle.undo_records.specs.Seen.{seen_undo}
 use Rattle.undo_records.specs.declared.parts.Parts.{Parts}
 use Rattle.undo_records.specs.declared.undo.Undo.{Undo}

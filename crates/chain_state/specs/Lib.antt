@@ -9,3 +9,5 @@ pub mod Chain
 pub mod Stage
 pub mod Back
 pub mod StageBack
+pub mod Standing
+pub mod Refusals

@@ -12,7 +12,7 @@ use Rattle.chain_names.specs.Points.{same_point, changed}
 use Rattle.chain_names.specs.Coins.{Maps, entry_of}
 use Rattle.chain_names.specs.Changes.{back_op, back_ops, with_spent, moved_back}
 use Rattle.chain_names.specs.Tables.{coins_in, coin_places, queued_in, queue_places, queue_of, is_named_at, FilledBut, AreNamesFilled}
-use Rattle.undo_laws.specs.Fits.{IsMadeNamed, IsUndoable, AreUndoable}
+use Rattle.chain_names.specs.Fits.{IsMadeNamed, IsUndoable, AreUndoable}
 use Rattle.name_tables.specs.Places.{spends, spends_at}
 use Rattle.name_tables.specs.declared.tables.Tables.{Tables}
 use Rattle.name_tables.specs.declared.moving.Shift.{Shift}

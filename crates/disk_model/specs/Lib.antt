@@ -3,11 +3,3 @@ pub mod Moments
 pub mod Changes
 pub mod Reads
 pub mod DiskSeen
-pub mod Calls
-pub mod Touched
-pub mod MemoryLog
-pub mod Sound
-pub mod Kept
-pub mod Stored
-pub mod Chosen
-pub mod Replays

@@ -1,5 +1,6 @@
 use crate::comparing::{ends, is_right_or_unknown};
-use disk_model::{Choice, Disk, Failed, MemoryDisk};
+use disk_model::{Disk, Failed};
+use memory_disk::{Choice, MemoryDisk};
 use std::alloc::Global;
 
 /// Writes `hello` to file 1, syncs it, writes `XY` over its end and past it, and cuts the file to 3 bytes. The number of the

@@ -3,8 +3,9 @@ ghost use Rattle.disk_model.specs.DiskSeen.{file_in};
 ghost use Rattle.gate_journal.specs.Stand.{IsAtGate, IsReadable};
 
 use crate::comparing::{ends, is_right_or_unknown, same};
-use disk_model::{Choice, Disk, Failed, MemoryDisk};
+use disk_model::{Disk, Failed};
 use gate_journal::{Journal, JournalFault, open_gate};
+use memory_disk::{Choice, MemoryDisk};
 use nmc_base::{Bytes, NoMemory};
 use std::alloc::Global;
 use std::process::Abort;

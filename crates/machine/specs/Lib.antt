@@ -8,3 +8,9 @@ pub mod Disconnecting
 pub mod Querying
 pub mod Step
 pub mod Surviving
+pub mod Views
+pub mod Standing
+pub mod Stages
+pub mod GivenUp
+pub mod StagesBack
+pub mod Costs

@@ -7,7 +7,7 @@ use Rattle.domain_text.specs.Host.{IsAbsoluteHost}
 use Rattle.import_expand.specs.Sources.{Live}
 use Rattle.dns_message.specs.declared.numbers.TheConstants.{LEAST_LIMIT}
 use Rattle.bit_resolver.specs.declared.zone.Zone.{Zone}
-use Rattle.bit_replies.specs.Replies.{MayReply}
+use Rattle.bit_resolver.specs.Replies.{MayReply}
 use Rattle.feed_frames.specs.Replies.{Reply}
 use Rattle.machine.specs.Chain.{Chain, height_of}
 use Rattle.machine.specs.RunState.{RunState, chain_of}

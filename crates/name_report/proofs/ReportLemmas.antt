@@ -10,7 +10,7 @@ use Rattle.chain_names.specs.Log.{Log}
 use Rattle.chain_names.specs.Tables.{NameSlots, names_in, AreNamesFilled}
 use Rattle.chain_state.specs.Chain.{Indexed}
 use Rattle.chain_state.specs.Tables.{maps_by}
-use Rattle.chain_laws.specs.Standing.{hash_of, StandsForChain}
+use Rattle.chain_state.specs.Standing.{hash_of, StandsForChain}
 use Rattle.name_report.specs.Order.{has_name, Orders}
 use Rattle.name_report.specs.Text.{Reported, report_text}
 use Rattle.name_report.specs.Report.{IsReport, Reports, reported_by, reported_on}

@@ -9,7 +9,7 @@ use Rattle.chain_names.specs.Coins.{entry_of, history_of}
 use Rattle.chain_names.specs.Log.{Log, log_of}
 use Rattle.chain_names.specs.Tables.{names_in}
 use Rattle.chain_state.specs.Chain.{Indexed}
-use Rattle.chain_laws.specs.Standing.{hash_of}
+use Rattle.chain_state.specs.Standing.{hash_of}
 use Rattle.name_report.specs.Order.{has_name, AreAscending}
 use Rattle.name_report.specs.Text.{Reported, report_text}
 use Rattle.name_report.specs.declared.reporting.ReportFault.{ReportFault}

@@ -9,6 +9,3 @@ mod reporting;
 
 pub use laws::one_report;
 pub use reporting::{ReportFault, report};
-
-#[cfg(test)]
-mod tests;

@@ -3,7 +3,7 @@ ghost use Rattle.frame_loop.specs.Delivery.{Delivers};
 ghost use Rattle.nmc_base.specs.declared.chain_ends.Base.{Base};
 ghost use Rattle.chain_names.specs.Log.{Log};
 ghost use Rattle.chain_names.specs.Tables.{names_in};
-ghost use Rattle.chain_laws.specs.Standing.{StandsForChain};
+ghost use Rattle.chain_state.specs.Standing.{StandsForChain};
 ghost use Rattle.name_report.specs.Order.{bytes_of};
 ghost use Rattle.name_report.specs.Page.{Puts, outgoing};
 ghost use Rattle.name_report.specs.Report.{Reports, reported_by, reported_on};

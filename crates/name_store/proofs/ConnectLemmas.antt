@@ -7,9 +7,9 @@ use Rattle.disk_model.specs.DiskSeen.{DiskSeen}
 use Rattle.disk_model.specs.declared.disk.Failed.{Failed}
 use Rattle.chain_state.specs.Chain.{StagedIndex, IsConnected}
 use Rattle.chain_state.specs.declared.stage.Refusal.{Refusal}
-use Rattle.chain_steps.specs.Standing as chains
-use Rattle.chain_steps.specs.Stages.{IsFullFor, IsStagedFor, IsRefusedFor, LacksMemoryFor}
-use Rattle.chain_steps.specs.Views.{refusal_of}
+use Rattle.machine.specs.Standing as chains
+use Rattle.machine.specs.Stages.{IsFullFor, IsStagedFor, IsRefusedFor, LacksMemoryFor}
+use Rattle.machine.specs.Views.{refusal_of}
 use Rattle.machine.specs.Chain.{Chain}
 use Rattle.machine.specs.Event.{Connect}
 use Rattle.machine.specs.RunState.{RunState, chain_of, area_of, record_length, accepted, longest_area}

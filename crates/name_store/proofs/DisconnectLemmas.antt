@@ -7,9 +7,9 @@ use Rattle.disk_model.specs.declared.disk.Failed.{Failed}
 use Rattle.chain_state.specs.Chain.{Indexed}
 use Rattle.chain_state.specs.StageBack.{IsDisconnected}
 use Rattle.chain_state.specs.declared.back.BackRefusal.{BackRefusal}
-use Rattle.chain_steps.specs.Standing as chains
-use Rattle.chain_steps.specs.StagesBack.{IsFullBack, IsStagedBackFor, IsRefusedBackFor, LacksMemoryBackFor}
-use Rattle.chain_steps.specs.Views.{back_refusal_of}
+use Rattle.machine.specs.Standing as chains
+use Rattle.machine.specs.StagesBack.{IsFullBack, IsStagedBackFor, IsRefusedBackFor, LacksMemoryBackFor}
+use Rattle.machine.specs.Views.{back_refusal_of}
 use Rattle.machine.specs.Chain.{Chain}
 use Rattle.machine.specs.Event.{Disconnect}
 use Rattle.machine.specs.RunState.{RunState, chain_of, area_of, record_length, accepted, longest_area}

@@ -11,7 +11,7 @@ use Rattle.disk_model.specs.Moments.{Files, Moments, IsImage, EachMoment}
 use Rattle.disk_model.specs.Changes.{Changes, AfterSync, Unchanged}
 use Rattle.disk_model.proofs.MomentLemmas.{weaken, join, last_moment}
 use Rattle.chain_state.specs.Chain.{Indexed}
-use Rattle.chain_steps.specs.Standing as chains
+use Rattle.machine.specs.Standing as chains
 use Rattle.gate_journal.specs.Gate.{ClosedAfter, IsClosed}
 use Rattle.gate_journal.specs.Records.{IsArea, Fits}
 use Rattle.gate_journal.proofs.RecordLemmas.{pushed_fit}

@@ -13,8 +13,8 @@ use Rattle.gate_journal.specs.Gate.{ClosedAfter, record_text}
 use Rattle.gate_journal.specs.Records.{IsArea, records_text, image_front}
 use Rattle.gate_journal.proofs.RecordLemmas.{front-push}
 use Rattle.chain_state.specs.Chain.{Indexed}
-use Rattle.chain_steps.specs.Standing as chains
-use Rattle.chain_steps.proofs.ChainTips.{index_tip}
+use Rattle.machine.specs.Standing as chains
+use Rattle.machine.proofs.ChainTips.{index_tip}
 use Rattle.machine.specs.Chain.{Chain}
 use Rattle.machine.specs.Event.{Command}
 use Rattle.machine.specs.RunState.{RunState, chain_of, area_of, accepted}

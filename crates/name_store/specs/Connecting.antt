@@ -2,8 +2,8 @@
 use Rattle.std.specs.Prelude.{ℕ, ◌+◌, ◌<◌, List}
 use Rattle.disk_model.specs.Moments.{Files, EachMoment}
 use Rattle.disk_model.specs.DiskSeen.{DiskSeen, bytes_in}
-use Rattle.chain_steps.specs.Costs.{IsCheapConnect}
-use Rattle.chain_steps.specs.Views.{refusal_of}
+use Rattle.machine.specs.Costs.{IsCheapConnect}
+use Rattle.machine.specs.Views.{refusal_of}
 use Rattle.nmc_base.specs.declared.chain_ends.Tip.{Tip}
 use Rattle.machine.specs.Event.{Command, Connect}
 use Rattle.machine.specs.RunState.{RunState, chain_of, area_of, record_length, accepted}

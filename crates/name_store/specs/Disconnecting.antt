@@ -3,8 +3,8 @@ use Rattle.std.specs.Prelude.{ℕ, List}
 use Rattle.disk_model.specs.Moments.{Files, EachMoment}
 use Rattle.disk_model.specs.DiskSeen.{DiskSeen, bytes_in}
 use Rattle.chain_state.specs.Chain.{Indexed}
-use Rattle.chain_steps.specs.Costs.{IsCheapDisconnect}
-use Rattle.chain_steps.specs.Views.{back_refusal_of}
+use Rattle.machine.specs.Costs.{IsCheapDisconnect}
+use Rattle.machine.specs.Views.{back_refusal_of}
 use Rattle.machine.specs.Event.{Disconnect}
 use Rattle.machine.specs.RunState.{RunState, chain_of, accepted}
 use Rattle.machine.specs.Disconnecting.{IsValidBack, RefusesBack, TakesMemoryBack}

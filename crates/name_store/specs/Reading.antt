@@ -3,7 +3,7 @@ use Rattle.std.specs.Prelude.{◌≡◌, ◌⊎◌, ℕ, ◌+◌, ◌-◌, ◌�
 use Rattle.std.specs.Int.{w32, to_le_bytes}
 use Rattle.nmc_base.specs.declared.chain_ends.Base.{Base}
 use Rattle.chain_state.specs.Chain.{Indexed}
-use Rattle.chain_steps.specs.Standing as chains
+use Rattle.machine.specs.Standing as chains
 use Rattle.gate_journal.specs.Stand.{Stand}
 use Rattle.machine.specs.Chain.{Chain}
 use Rattle.machine.specs.Event.{Command}

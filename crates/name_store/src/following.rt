@@ -3,7 +3,7 @@ ghost use Rattle.std.specs.Prelude.{◌≡◌, ◌∷◌, length, Err};
 ghost use Rattle.name_store.specs.Reading.{FollowsRecord};
 
 use chain_state::{BackOutcome, Chain, StageOutcome};
-use chain_steps::{stage_bytes, stage_hash};
+use machine::{stage_bytes, stage_hash};
 use nmc_base::{Hash32, LONGEST_BLOCK, Steps};
 use std::alloc::Global;
 use std::sync::ledger::Ledger;

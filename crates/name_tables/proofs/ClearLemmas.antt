@@ -15,7 +15,7 @@ use Rattle.chain_names.specs.Points.{same_point, changed}
 use Rattle.chain_names.specs.Tables.{CoinSlots, QueueSlots, coins_in, coin_places, names_in, queued_in, queue_places, is_named_at, FilledBut, AreNamesFilled}
 use Rattle.chain_names.proofs.Points.{same_point-Decides}
 use Rattle.chain_names.proofs.Shown.{true_is_not_false}
-use Rattle.undo_laws.specs.Expired.{is_held_at}
+use Rattle.chain_names.specs.Expired.{is_held_at}
 use Rattle.name_tables.specs.Tables.{HoldSame, AreFilled}
 use Rattle.name_tables.specs.Places.{spends, spends_at, is_queued_at, AreFilledBut}
 use Rattle.name_tables.specs.Clearing.{is_row_of, GivesUp, GivesUpOp}

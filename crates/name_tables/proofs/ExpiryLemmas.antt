@@ -19,7 +19,7 @@ use Rattle.chain_names.specs.Points.{same_point, changed}
 use Rattle.chain_names.specs.Tables.{QueueSlots, row_at, row_points, coins_in, coin_places, queued_in, queue_places, queue_of, is_named_at}
 use Rattle.chain_names.specs.declared.coin.Coin.{Coin}
 use Rattle.chain_names.specs.declared.coin.HeldCoin.{HeldCoin}
-use Rattle.undo_laws.specs.Expired.{is_held_at, points_of}
+use Rattle.chain_names.specs.Expired.{is_held_at, points_of}
 use Rattle.name_tables.proofs.OrderLemmas.{rising_but}
 use Rattle.name_tables.proofs.PlaceLemmas.{queued-placed}
 use Rattle.name_tables.specs.Expiring.{IsDueCoin, Expires}

@@ -16,7 +16,7 @@ use Rattle.chain_names.specs.declared.coin.HeldCoin.{HeldCoin}
 use Rattle.chain_names.specs.declared.coin.Item.{Item}
 use Rattle.chain_names.specs.declared.undo.UndoOp.{UndoOp}
 use Rattle.chain_names.specs.declared.undo.UndoOp.TheVariants.{New as undo_new, First as undo_first, Update as undo_update}
-use Rattle.undo_laws.specs.Expired.{is_held_at}
+use Rattle.chain_names.specs.Expired.{is_held_at}
 use Rattle.name_tables.proofs.ListLemmas.{or_left, or_right, or_both}
 use Rattle.name_tables.proofs.PlaceLemmas.{place-kept, row_changed}
 use Rattle.name_tables.specs.Places.{spends, spends_at, is_queued_at, AreFilledBut}

@@ -6,7 +6,7 @@ use Rattle.chain_names.specs.declared.coin.Coin.{Coin}
 use Rattle.chain_names.specs.declared.coin.HeldCoin.{HeldCoin}
 use Rattle.chain_names.specs.Changes.{unless_named_at, restored}
 use Rattle.chain_names.specs.Tables.{coins_in, coin_places, queued_in, queue_places, queue_of, is_named_at}
-use Rattle.undo_laws.specs.Expired.{is_held_at, IsSortedByPoint}
+use Rattle.chain_names.specs.Expired.{is_held_at, IsSortedByPoint}
 use Rattle.name_tables.specs.declared.tables.Tables.{Tables}
 
 -- the coin was there, and is one of the row's

@@ -8,7 +8,7 @@ use Rattle.chain_names.specs.declared.undo.UndoOp.{UndoOp}
 use Rattle.chain_names.specs.declared.undo.UndoOp.TheVariants.{New as undo_new, First as undo_first, Update as undo_update}
 use Rattle.chain_names.specs.Points.{same_point}
 use Rattle.chain_names.specs.Tables.{coins_in, coin_places, queued_in, queue_places, is_named_at, FilledBut, AreNamesFilled}
-use Rattle.undo_laws.specs.Expired.{is_held_at}
+use Rattle.chain_names.specs.Expired.{is_held_at}
 use Rattle.name_tables.specs.declared.tables.Tables.{Tables}
 
 -- the operation spent the outpoint

@@ -6,7 +6,7 @@ use Rattle.nmc_base.specs.Roomy.{Roomy}
 use Rattle.chain_names.specs.declared.coin.HeldCoin.{HeldCoin}
 use Rattle.chain_names.specs.declared.undo.UndoOp.{UndoOp}
 use Rattle.chain_names.specs.Tables.{coin_places, queue_places}
-use Rattle.undo_laws.specs.Expired.{is_held_at}
+use Rattle.chain_names.specs.Expired.{is_held_at}
 use Rattle.name_tables.specs.Tables.{HoldSame}
 use Rattle.name_tables.specs.Places.{spends, spends_at, is_queued_at, AreFilledBut}
 use Rattle.name_tables.specs.declared.tables.Tables.{Tables}

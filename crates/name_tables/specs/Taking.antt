@@ -5,7 +5,7 @@ use Rattle.nmc_base.specs.declared.hashes.OutPoint.{OutPoint}
 use Rattle.chain_names.specs.declared.coin.HeldCoin.{HeldCoin}
 use Rattle.chain_names.specs.Changes.{cleared, restored}
 use Rattle.chain_names.specs.Tables.{coins_in, coin_places, queued_in, queue_places, queue_of}
-use Rattle.undo_laws.specs.Expired.{IsSortedByPoint}
+use Rattle.chain_names.specs.Expired.{IsSortedByPoint}
 use Rattle.name_tables.specs.Expiring.{IsDueCoin}
 use Rattle.name_tables.specs.declared.tables.Tables.{Tables}
 

@@ -1,6 +1,6 @@
 ghost use Rattle.std.specs.Prelude.{◌+◌, ◌*◌, ◌≤◌, ◌∷◌, [], length, IfOk, OnOk, OnErr};
 ghost use Rattle.std.specs.List.{AllByRecursion};
-ghost use Rattle.undo_laws.specs.Expired.{is_held_at};
+ghost use Rattle.chain_names.specs.Expired.{is_held_at};
 ghost use Rattle.chain_names.specs.declared.coin.HeldCoin.{HeldCoin};
 ghost use Rattle.name_tables.specs.Placing.{PlacesOnly};
 ghost use Rattle.name_tables.specs.Places.{spends, spends_at, is_queued_at, AreFilledBut};

@@ -1,5 +1,5 @@
 //! Trials of the program's words over streams, files and a port in memory: each of their calls fails in turn, each stop of the disk,
-//! and a name that a feed registers.
+//! a name that a feed registers, and reports for a sink whose writes fail.
 #![tactic(auto)]
 
 #[cfg(test)]
@@ -14,6 +14,8 @@ mod polls;
 mod registering;
 #[cfg(test)]
 mod replays;
+#[cfg(test)]
+mod reports;
 #[cfg(test)]
 mod statuses;
 #[cfg(test)]

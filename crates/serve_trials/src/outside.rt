@@ -3,8 +3,8 @@
 use crate::streams::{Given, Pace, Taken};
 use crate::texts::{bytes_of, number_or};
 use bridge_core::{Status, run};
-use byte_io::MemoryPort;
-use disk_model::MemoryDisk;
+use memory_disk::MemoryDisk;
+use memory_io::MemoryPort;
 use nmc_base::{Bytes, NoMemory, Words};
 use std::alloc::Global;
 use std::process::Abort;

@@ -1,12 +1,13 @@
 //! Runs of `serve` over a port in memory.
 
 ghost use Rattle.std.specs.Prelude.{◌≤◌, length};
-ghost use Rattle.byte_io.specs.Kept.{Fits};
+ghost use Rattle.memory_io.specs.Kept.{Fits};
 
 use crate::outside::{INIT, Outside, Trial, each_is_right, end_of, is_told};
 use crate::texts::{bytes_of, field, number_or};
 use bridge_core::Status;
-use byte_io::{MemoryPort, POLL_ROOM, Polled, Sent};
+use byte_io::{POLL_ROOM, Polled, Sent};
+use memory_io::MemoryPort;
 use nmc_base::NoMemory;
 use std::alloc::Global;
 use std::test::Fail;

@@ -3,7 +3,8 @@
 use crate::feed::FEED;
 use crate::outside::{INIT, Outside, Trial, each_is_right, end_of};
 use bridge_core::Status;
-use byte_io::{MemoryPort, Polled, Sent};
+use byte_io::{Polled, Sent};
+use memory_io::MemoryPort;
 use nmc_base::NoMemory;
 use std::alloc::Global;
 use std::test::Fail;

@@ -1,6 +1,7 @@
 //! A source and a sink that fail, deal with one byte at a time, or stand still.
 
-use byte_io::{Failed, MemorySink, MemorySource, RoomSink, Sink, Source};
+use byte_io::{Failed, Sink, Source};
+use memory_io::{MemorySink, MemorySource, RoomSink};
 use nmc_base::NoMemory;
 use std::alloc::Global;
 
@@ -34,7 +35,7 @@ impl Given {
 }
 
 impl Source for Given {
-    ghost use Rattle.byte_io.specs.MemorySource.{memory_seen};
+    ghost use Rattle.memory_io.specs.MemorySource.{memory_seen};
 
     ghost seen = { λ s. memory_seen s.whole };
 
@@ -92,8 +93,8 @@ impl Taken {
 
 impl Sink for Taken {
     ghost use Rattle.std.specs.Prelude.{if◌then◌else◌};
-    ghost use Rattle.byte_io.specs.MemorySink.{memory_seen};
-    ghost use Rattle.byte_io.specs.RoomSink.{room_seen};
+    ghost use Rattle.memory_io.specs.MemorySink.{memory_seen};
+    ghost use Rattle.memory_io.specs.RoomSink.{room_seen};
 
     ghost seen = { λ s. if s.is_room then room_seen s.room else memory_seen s.whole };
 

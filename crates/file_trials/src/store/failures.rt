@@ -1,7 +1,7 @@
 //! The life of a store, where each call of the disk fails in turn.
 
 use super::life::{Answer, BASE_TIP, Found, leaves_either, lives, look_at};
-use disk_model::MemoryDisk;
+use memory_disk::MemoryDisk;
 use name_store::{CreateFault, OpenFault};
 use std::alloc::Global;
 use std::process::Abort;

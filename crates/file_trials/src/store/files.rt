@@ -8,7 +8,8 @@ use super::life::{
 };
 use super::making::{HEADER, made};
 use chain_state::{BackRefusal, Refusal};
-use disk_model::{Disk, Failed, MemoryDisk};
+use disk_model::{Disk, Failed};
+use memory_disk::MemoryDisk;
 use name_store::{CreateFault, OpenFault, Store};
 use nmc_base::{Bytes, HIGHEST_HEIGHT, Hash32, NoMemory};
 use std::alloc::Global;

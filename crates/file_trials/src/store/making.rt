@@ -3,8 +3,9 @@ ghost use Rattle.nmc_base.specs.declared.limits.TheConstants.{HIGHEST_HEIGHT};
 ghost use Rattle.name_store.specs.Host.{IsHostOf};
 
 use super::files::holds;
-use disk_model::{Disk, MemoryDisk};
+use disk_model::Disk;
 use domain_text::{Name, absolute_name};
+use memory_disk::MemoryDisk;
 use name_store::{CreateFault, create};
 use nmc_base::{Base, Hash32, Profile};
 use std::alloc::Global;

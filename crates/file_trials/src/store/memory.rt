@@ -10,7 +10,8 @@ use super::life::{
     let_go, look_at, make,
 };
 use crate::comparing::{ends, is_right_or_unknown};
-use disk_model::{Choice, Disk, MemoryDisk};
+use disk_model::Disk;
+use memory_disk::{Choice, MemoryDisk};
 use name_store::{BackOutcome, CreateFault, OpenFault, Outcome, Store};
 use nmc_base::{Hash32, Steps};
 use std::alloc::Global;

@@ -1,7 +1,7 @@
 //! The life of a store, stopped after each call of the disk.
 
 use super::life::{Answer, BASE_TIP, Found, leaves_either, lives};
-use disk_model::MemoryDisk;
+use memory_disk::MemoryDisk;
 use name_store::OpenFault;
 use std::alloc::Global;
 use std::process::Abort;

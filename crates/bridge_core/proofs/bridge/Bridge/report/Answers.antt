@@ -1,6 +1,6 @@
 use Rattle.std.proofs.Common.{sym, subst}
 use Rattle.chain_state.specs.Chain.{Indexed}
-use Rattle.chain_steps.specs.Standing as chains
+use Rattle.machine.specs.Standing as chains
 use Rattle.machine.specs.RunState.{chain_of}
 use Rattle.name_store.specs.Stored.{Stored, StandsFor}
 use Rattle.bridge_core.proofs.bridge.Bridge.report.Goals as goal

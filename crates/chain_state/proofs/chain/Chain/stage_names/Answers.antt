@@ -4,7 +4,7 @@ use Rattle.nmc_base.specs.Heights.{highest}
 use Rattle.block_grammar.specs.Block.{count_outputs}
 use Rattle.block_grammar.specs.Header.{header_hash}
 use Rattle.chain_names.specs.Log.{behind_coinbase}
-use Rattle.undo_laws.proofs.OutputLemmas.{fewer_behind}
+use Rattle.chain_names.proofs.OutputLemmas.{fewer_behind}
 use Rattle.undo_records.specs.declared.undo.Undo.{Undo}
 use Rattle.chain_state.specs.Chain.{rule_refused, Indexed, SameIndex, indexed_of, staged_of, newest_first}
 use Rattle.chain_state.specs.Stage.{StagesWell}

@@ -1,4 +1,4 @@
-use Rattle.undo_laws.specs.Expired.{is_held_at}
+use Rattle.chain_names.specs.Expired.{is_held_at}
 use Rattle.name_tables.specs.Places.{is_queued_at}
 use Rattle.name_tables.proofs.RoomLemmas.{places-none, placed_same, placed_filled, spent_stay}
 use Rattle.name_tables.proofs.tables.Tables.place_all.Goals as goal

@@ -1,5 +1,5 @@
 use Rattle.std.proofs.Common.{arith}
-use Rattle.undo_laws.specs.Expired.{is_held_at}
+use Rattle.chain_names.specs.Expired.{is_held_at}
 use Rattle.name_tables.specs.Places.{is_queued_at}
 use Rattle.name_tables.proofs.ListLemmas.{front_item, shorter_of, nothing_of}
 use Rattle.name_tables.proofs.RoomLemmas.{begins_placing, went_placing, stopped_placing, ended_placing, all_placed}

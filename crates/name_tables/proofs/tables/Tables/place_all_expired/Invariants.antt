@@ -1,5 +1,5 @@
 use Rattle.std.proofs.Common.{◌+◌, ◌*◌, ◌≤◌, length}
-use Rattle.undo_laws.specs.Expired.{is_held_at}
+use Rattle.chain_names.specs.Expired.{is_held_at}
 use Rattle.name_tables.specs.Places.{is_queued_at}
 use Rattle.name_tables.proofs.RoomLemmas.{IsPlacing}
 use Rattle.name_tables.proofs.tables.Tables.place_all_expired.Given as goal

@@ -1,7 +1,7 @@
 use Rattle.std.proofs.Common.{◌∷◌, [], sym, subst}
 use Rattle.chain_names.specs.declared.coin.HeldCoin.{HeldCoin}
 use Rattle.chain_names.specs.Tables.{QueueSlots}
-use Rattle.undo_laws.specs.Expired.{is_held_at}
+use Rattle.chain_names.specs.Expired.{is_held_at}
 use Rattle.name_tables.specs.Placing.{PlacesOnly}
 use Rattle.name_tables.specs.Places.{is_queued_at}
 use Rattle.name_tables.proofs.RoomLemmas.{coin_placed, commitment_placed, name_placed, name_row_placed, unnamed_coin}

@@ -1,8 +1,0 @@
-use Rattle.std.proofs.Common.{◌≡◌, length}
-use Rattle.byte_io.specs.declared.port.TheConstants.{POLL_ROOM}
-use Rattle.byte_io.specs.Port.{IsBound}
-use Rattle.byte_io.specs.MemoryPort.{memory_seen}
-use Rattle.byte_io.proofs.tests.makes_each.Given as goal
-
-abbrev pub invariant-loop-call : goal.invariant-loop-call
-invariant-loop-call g l = IsBound (memory_seen l.port) × (length l.buffer ≡ POLL_ROOM)

@@ -1,4 +1,0 @@
-pub mod StandingLemmas
-pub mod RefusalLemmas
-pub mod UndoLemmas
-pub mod SoundLemmas

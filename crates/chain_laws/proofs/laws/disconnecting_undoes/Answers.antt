@@ -1,5 +1,0 @@
-use Rattle.chain_laws.proofs.UndoLemmas.{forth_and_back}
-use Rattle.chain_laws.proofs.laws.disconnecting_undoes.Goals as goal
-
-pub returns : goal.returns
-returns c = forth_and_back

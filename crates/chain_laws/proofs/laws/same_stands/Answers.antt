@@ -1,5 +1,0 @@
-use Rattle.chain_laws.proofs.StandingLemmas.{same_stands}
-use Rattle.chain_laws.proofs.laws.same_stands.Goals as goal
-
-pub returns : goal.returns
-returns c = same_stands

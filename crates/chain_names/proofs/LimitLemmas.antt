@@ -1,0 +1,147 @@
+-- The record of a block can be written.
+use Rattle.std.proofs.Common.{◌≡◌, ℕ, suc, ◌+◌, ◌-◌, ◌<◌, ◌≤◌, ◌^◌, Bool, true, false, nat_lt, cond, List, [], ◌∷◌, length, refl, sym, ap, subst, ◌∙◌, arith, lt_of_le_of_lt}
+use Rattle.std.specs.Prelude.{Option, Some, None}
+use Rattle.std.specs.List.{AllByRecursion, list_any}
+use Rattle.std.proofs.lemmas.Bool.Decides.{nat_tests}
+use Rattle.block_grammar.specs.Transaction.{Transaction, txid_of}
+use Rattle.nmc_base.specs.declared.hashes.OutPoint.{OutPoint}
+use Rattle.nmc_base.specs.declared.chain_ends.Profile.{Profile}
+use Rattle.nmc_base.specs.Expiry.{expiry_depth}
+use Rattle.nmc_base.proofs.ListLemmas.{all-weaker, all-append}
+use Rattle.chain_names.specs.declared.coin.Coin.{Coin}
+use Rattle.chain_names.specs.declared.coin.Coin.TheVariants.{New, Named}
+use Rattle.chain_names.specs.declared.coin.HeldCoin.{HeldCoin}
+use Rattle.chain_names.specs.declared.coin.Item.{Item}
+use Rattle.chain_names.specs.declared.undo.UndoOp.{UndoOp}
+use Rattle.chain_names.specs.declared.undo.UndoOp.TheVariants.{First as undo_first, Update as undo_update}
+use Rattle.chain_names.specs.Points.{same_point, point_at}
+use Rattle.chain_names.specs.Coins.{Maps, entry_of, unless_expired}
+use Rattle.chain_names.specs.Meaning.{Means}
+use Rattle.chain_names.specs.Tables.{is_named_at}
+use Rattle.chain_names.specs.Verdict.{Verdict, plain, commits, opens, updates, refused, verdict}
+use Rattle.chain_names.specs.Changes.{after_transaction, after_all, after_block, unless_named_at, with_spent, undo_of_verdict, undo_ops}
+use Rattle.chain_names.specs.Undo.{UndoRecord}
+use Rattle.chain_names.proofs.DueLemmas.{unless_expired-row, unless_expired-none}
+use Rattle.chain_names.proofs.Meanings.{verdict_means}
+use Rattle.chain_names.specs.Expired.{IsSortedByPoint, IsGone, IsDue}
+use Rattle.chain_names.specs.State.{FitsItem, HasFewNames}
+use Rattle.block_grammar.specs.Block.{count_outputs}
+use Rattle.chain_names.specs.Limits.{IsShortBefore, IsWithinLimitsOp, HoldsName, IsNameCoin, IsWithinLimits}
+use Rattle.chain_names.proofs.PointLemmas.{all-points}
+use Rattle.chain_names.proofs.RestoredHistoryLemmas.{entry_has}
+use Rattle.chain_names.proofs.StandLemmas.{Stands}
+use Rattle.chain_names.proofs.UndoneBlockLemmas.{verdict_stands}
+use Rattle.chain_names.proofs.CountLemmas.{few_operations}
+use Rattle.chain_names.proofs.FitLemmas.{standing_live}
+use Rattle.chain_names.proofs.OrderLemmas.{sorted_few}
+
+-- ---- operations
+
+entry_limits : (name : List ℕ) (items : List Item) (entry : Option Item) → AllByRecursion (FitsItem name) items → entry_of items ≡ entry → IsShortBefore entry
+entry_limits name items None fits e = tt
+entry_limits name items (Some item) fits e = (entry_has (FitsItem name) items item fits e).value_length
+
+with_spent_limits : (undo : Coin → UndoOp) (spent : Option Coin) (coin : Coin) → spent ≡ Some coin → IsWithinLimitsOp (undo coin)
+    → AllByRecursion IsWithinLimitsOp (with_spent undo spent)
+with_spent_limits undo spent coin held within = subst (λ s. AllByRecursion IsWithinLimitsOp (with_spent undo s)) (sym held) (within, tt)
+
+verdict_limits : (profile : Profile) (height : ℕ) (maps : Maps) (t : Transaction) (v : Verdict) → Means profile maps height t v → Stands profile height height maps
+    → AllByRecursion IsWithinLimitsOp (undo_of_verdict maps (txid_of t) v)
+verdict_limits profile height maps t plain means stands = tt
+verdict_limits profile height maps t (refused refusal) means stands = tt
+verdict_limits profile height maps t (commits hash place) means stands = (tt, tt)
+verdict_limits profile height maps t (opens name value place spent) means stands =
+    with_spent_limits (λ (coin : Coin). undo_first (point_at (txid_of t) place) spent coin name (entry_of (maps.names name))) (maps.coins spent)
+    (New means.hash means.made) means.input.held
+    (tt, means.fits.name_length, entry_limits name (maps.names name) (entry_of (maps.names name)) (stands.lengths name) refl)
+verdict_limits profile height maps t (updates name value place spent) means stands =
+    with_spent_limits (λ (coin : Coin). undo_update (point_at (txid_of t) place) spent coin name (entry_of (maps.names name))) (maps.coins spent)
+    (Named name means.made) means.input.held
+    (means.fits.name_length, means.fits.name_length, entry_limits name (maps.names name) (entry_of (maps.names name)) (stands.lengths name) refl)
+
+pub all_limits : (profile : Profile) (height : ℕ) (ts : List Transaction) (maps : Maps) → Stands profile height height maps
+    → AllByRecursion IsWithinLimitsOp (undo_ops profile height ts maps)
+all_limits profile height [] maps stands = tt
+all_limits profile height (t ∷ ts) maps stands =
+    let v = verdict profile maps height t in
+    let means = verdict_means profile maps height t in
+    let next = after_transaction profile height t maps in
+    all-append IsWithinLimitsOp (undo_of_verdict maps (txid_of t) v) (undo_ops profile height ts next) (verdict_limits profile height maps t v means stands)
+    (all_limits profile height ts next (verdict_stands profile height maps t v means stands))
+
+-- ---- expired coins
+
+-- the coins of the next block
+abbrev next_coins : Profile → ℕ → Maps → OutPoint → Option Coin
+next_coins profile height after = λ point. unless_expired profile (suc height) (after.coins point)
+
+gone_is : (profile : Profile) (height : ℕ) (after : Maps) (held : HeldCoin) → IsGone after.coins (next_coins profile height after) held
+    → unless_expired profile (suc height) (Some held.coin) ≡ None
+gone_is profile height after held gone = ap (unless_expired profile (suc height)) (sym gone.now_is) ∙ gone.next_is
+
+name_gone : (profile : Profile) (height : ℕ) (after : Maps) (point : OutPoint) (coin : Coin) → Stands profile height height after → after.coins point ≡ Some coin
+    → unless_expired profile (suc height) (Some coin) ≡ None → IsNameCoin coin
+name_gone profile height after point (New hash made) stands held gone = absurd cc
+name_gone profile height after point (Named name made) stands held gone =
+    let standing = stands.named_coins point name made held in
+    (entry_has (FitsItem name) (after.names name) _ (stands.lengths name) standing.is_last.last).name_length
+
+-- a live coin that is gone is one of the row
+pub row_gone : (row : ℕ) (coin : Option Coin) (c : Coin) → coin ≡ Some c → unless_named_at row coin ≡ None → is_named_at row coin ≡ true
+row_gone row coin c held gone = by (is_named_at row coin) refl
+  where
+    by : (b : Bool) → is_named_at row coin ≡ b → b ≡ true
+    by true is = refl
+    by false is =
+        let kept : coin ≡ None = sym (ap (λ b'. cond b' None coin) is) ∙ gone in
+        let bad : Some c ≡ None = sym held ∙ kept in
+        absurd cc
+
+no_more : (profile : Profile) (height : ℕ) (after : Maps) (expired : List HeldCoin) → suc height < expiry_depth profile (suc height)
+    → AllByRecursion (IsGone after.coins (next_coins profile height after)) expired → expired ≡ []
+no_more profile height after [] high all = refl
+no_more profile height after (held ∷ expired) high all =
+    let bad : Some held.coin ≡ None = sym (unless_expired-none profile height (Some held.coin) high) ∙ gone_is profile height after held all.0 in
+    absurd cc
+
+-- they are of one height, so fewer than 2^32
+pub few_expired : (profile : Profile) (height : ℕ) (after : Maps) (expired : List HeldCoin) → Stands profile height height after
+    → ((row : ℕ) → HasFewNames after.coins row) → AllByRecursion (IsGone after.coins (next_coins profile height after)) expired → IsSortedByPoint expired
+    → length expired < 2 ^ 32
+few_expired profile height after expired stands few all sorted = by (nat_lt (suc height) (expiry_depth profile (suc height))) refl
+  where
+    by : (b : Bool) → nat_lt (suc height) (expiry_depth profile (suc height)) ≡ b → length expired < 2 ^ 32
+    by true is =
+        let high : suc height < expiry_depth profile (suc height) = grind (arith, nat_tests) in
+        subst (λ (es : List HeldCoin). length es < 2 ^ 32) (sym (no_more profile height after expired high all)) (omega arith)
+    by false is =
+        let low : expiry_depth profile (suc height) ≤ suc height = grind (arith, nat_tests) in
+        let row = suc height - expiry_depth profile (suc height) in
+        let due : row + expiry_depth profile (suc height) ≡ suc height = omega arith in
+        let listed = (few row).points in
+        let each = λ (held : HeldCoin) (gone : IsGone after.coins (next_coins profile height after) held).
+        (few row).all held.at
+        (row_gone row (after.coins held.at) held.coin gone.now_is
+        (sym (unless_expired-row profile height row (after.coins held.at) due
+        (ap (unless_expired profile height) gone.now_is ∙ standing_live profile height after held.at held.coin stands gone.now_is ∙ sym gone.now_is))
+        ∙ gone.next_is)) in
+        lt_of_le_of_lt
+        (sorted_few expired listed sorted
+        (all-points (λ point. list_any (same_point point) listed ≡ true) expired
+        (all-weaker (IsGone after.coins (next_coins profile height after)) (λ held. list_any (same_point held.at) listed ≡ true) expired each all)))
+        (few row).few
+
+pub block_limits : (profile : Profile) (height : ℕ) (ts : List Transaction) (maps : Maps) (u : UndoRecord)
+    → Stands profile height height maps → Stands profile height height (after_all profile height ts maps)
+    → ((row : ℕ) → HasFewNames (after_all profile height ts maps).coins row) → count_outputs ts < 2 ^ 32 → u.ops ≡ undo_ops profile height ts maps
+    → IsDue (after_all profile height ts maps).coins (after_block profile height ts maps).coins u.expired → IsSortedByPoint u.expired → IsWithinLimits u
+block_limits profile height ts maps u before stands few short ops due sorted =
+    let after = after_all profile height ts maps in
+    record {
+      few_ops = subst (λ (os : List UndoOp). length os < 2 ^ 32) (sym ops) (few_operations profile height ts maps short);
+      few_expired = few_expired profile height after u.expired stands few due.each sorted;
+      ops = subst (AllByRecursion IsWithinLimitsOp) (sym ops) (all_limits profile height ts maps before);
+      expired = all-weaker (IsGone after.coins (next_coins profile height after)) HoldsName u.expired
+          (λ held gone. name_gone profile height after held.at held.coin stands gone.now_is (gone_is profile height after held gone)) due.each;
+      sorted = sorted;
+    }

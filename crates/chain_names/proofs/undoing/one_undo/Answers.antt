@@ -1,0 +1,8 @@
+use Rattle.chain_names.proofs.OneRecordLemmas.{one_undo-block, one_undo-chain}
+use Rattle.chain_names.proofs.undoing.one_undo.Goals as goal
+
+pub returns-clause-block : goal.returns-clause-block
+returns-clause-block c = one_undo-block
+
+pub returns-clause-chain : goal.returns-clause-chain
+returns-clause-chain c = one_undo-chain

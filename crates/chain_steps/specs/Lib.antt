@@ -1,6 +1,0 @@
-pub mod Views
-pub mod Standing
-pub mod Stages
-pub mod GivenUp
-pub mod StagesBack
-pub mod Costs

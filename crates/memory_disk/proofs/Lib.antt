@@ -1,0 +1,5 @@
+pub mod CallLemmas
+pub mod KeptLemmas
+pub mod TouchedLemmas
+pub mod StoredLemmas
+pub mod ReplayLemmas

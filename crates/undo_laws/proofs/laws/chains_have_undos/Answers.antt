@@ -1,5 +1,0 @@
-use Rattle.undo_laws.proofs.RecordLemmas.{chain_has_undos}
-use Rattle.undo_laws.proofs.laws.chains_have_undos.Goals as goal
-
-pub returns : goal.returns
-returns c = λ profile start base blocks accepted. ((chain_has_undos profile start base blocks accepted).undos, (chain_has_undos profile start base blocks accepted).are_undos)

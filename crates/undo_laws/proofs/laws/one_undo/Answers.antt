@@ -1,8 +1,0 @@
-use Rattle.undo_laws.proofs.OneRecordLemmas.{one_undo-block, one_undo-chain}
-use Rattle.undo_laws.proofs.laws.one_undo.Goals as goal
-
-pub returns-clause-block : goal.returns-clause-block
-returns-clause-block c = one_undo-block
-
-pub returns-clause-chain : goal.returns-clause-chain
-returns-clause-chain c = one_undo-chain
