@@ -1,9 +1,9 @@
 ghost use Rattle.std.specs.Prelude.{◌≤◌};
 
 use crate::comparing::same;
-use bit_answers::{Answered, answer};
 use chain_state::Chain;
 use domain_text::{Name, absolute_name};
+use machine::{Answered, answer};
 use nmc_base::{Base, Hash32, NoMemory, Profile};
 use std::alloc::Global;
 use std::process::Abort;

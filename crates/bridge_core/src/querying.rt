@@ -4,9 +4,9 @@ ghost use Rattle.machine.specs.Querying.{Queries};
 ghost use Rattle.name_store.specs.Stored.{StandsFor};
 ghost use Rattle.bridge_core.specs.Bridge.{fault_code};
 
-use bit_answers::{Answered, answer};
 use dns_message::LEAST_LIMIT;
 use frame_loop::ReplyBuf;
+use machine::{Answered, answer};
 use name_store::Store;
 use port_loop::DROPPED;
 use std::alloc::Global;

@@ -9,6 +9,8 @@ pub mod Index
 pub mod Start
 pub mod Tables
 pub mod Undo
+pub mod Seen
+pub mod Writable
 pub mod Expired
 pub mod UndoOf
 pub mod State

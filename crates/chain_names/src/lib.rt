@@ -13,7 +13,7 @@ pub use laws::{
     undoing_restores, verdict_meaning,
 };
 pub use refusal::RuleRefusal;
-pub use undo::UndoOp;
+pub use undo::{Undo, UndoOp};
 pub use undoing::{
     begins_sound, block_keeps_soundness, block_keeps_state, chains_have_undos, fit_allows_undoing,
     index_goes_back, index_is_sound, one_undo, restored_are_due, undo_agrees, undo_of_index,

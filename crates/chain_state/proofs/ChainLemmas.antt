@@ -20,12 +20,12 @@ use Rattle.chain_names.specs.Sound.{IsSound}
 use Rattle.chain_names.specs.State.{IsState, IsUpTo}
 use Rattle.chain_names.proofs.SoundLemmas.{block_sound, sound_state}
 use Rattle.chain_names.proofs.StartLemmas.{base_sound}
-use Rattle.undo_records.specs.Writable.{IsWritable}
+use Rattle.chain_names.specs.Writable.{IsWritable}
 use Rattle.chain_names.specs.Fits.{AreUndoable}
 use Rattle.chain_state.specs.Measure.{AreMeasured}
 use Rattle.chain_state.proofs.MeasureLemmas.{block_measured, block_writable, was_there}
-use Rattle.undo_records.specs.Seen.{seen_undo}
-use Rattle.undo_records.specs.declared.undo.Undo.{Undo}
+use Rattle.chain_names.specs.Seen.{seen_undo}
+use Rattle.chain_names.specs.declared.undo.Undo.{Undo}
 use Rattle.chain_names.specs.Coins.{Maps, maps_of, unless_expired}
 use Rattle.block_grammar.specs.Transaction.{Transaction}
 use Rattle.block_grammar.specs.Merkle.{block_root}

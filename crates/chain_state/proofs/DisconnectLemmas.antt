@@ -23,8 +23,8 @@ use Rattle.chain_names.specs.Expired.{is_held_at}
 use Rattle.chain_names.specs.Fits.{IsJustExpired, AreUndoable, with_restored}
 use Rattle.chain_names.specs.Sound.{IsSound}
 use Rattle.chain_names.proofs.UndoableLemmas.{fit_allows, expired-row, expired-none}
-use Rattle.undo_records.specs.Seen.{seen_undo}
-use Rattle.undo_records.specs.declared.undo.Undo.{Undo}
+use Rattle.chain_names.specs.Seen.{seen_undo}
+use Rattle.chain_names.specs.declared.undo.Undo.{Undo}
 use Rattle.name_tables.specs.Tables.{HoldSame, AreFilled}
 use Rattle.chain_state.specs.Tables.{maps_by}
 use Rattle.name_tables.specs.Places.{spends, spends_at, is_queued_at}
@@ -33,7 +33,7 @@ use Rattle.chain_state.specs.Whole.{IsWhole, maps_before_block}
 use Rattle.name_tables.specs.Expiring.{CanReturn}
 use Rattle.name_tables.specs.Room.{IsPlaced, HasRoom}
 use Rattle.chain_state.specs.Chain.{Indexed, IsIndexed, SameIndex, index_of, newest_first, newest_hash}
-use Rattle.undo_records.specs.Writable.{IsWritable}
+use Rattle.chain_names.specs.Writable.{IsWritable}
 use Rattle.chain_state.specs.Measure.{AreMeasured}
 use Rattle.chain_state.proofs.MeasureLemmas.{undone_measured}
 use Rattle.chain_state.specs.Back.{block_work, IsStagedBack}

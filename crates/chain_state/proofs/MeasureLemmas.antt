@@ -32,7 +32,7 @@ use Rattle.chain_names.proofs.Points.{same_point-Decides}
 use Rattle.chain_names.specs.Expired.{points_of, IsSortedByPoint, IsGone, IsDue}
 use Rattle.chain_names.specs.Limits.{IsWithinLimitsOp, IsShortBefore, HoldsName, IsWithinLimits}
 use Rattle.chain_names.proofs.RestoredHistoryLemmas.{entry_has}
-use Rattle.undo_records.specs.Writable.{FitsPoint, FitsNewCoin, FitsNamedCoin, FitsBefore, FitsOp, FitsHeld, AreAscending, IsWritable}
+use Rattle.chain_names.specs.Writable.{FitsPoint, FitsNewCoin, FitsNamedCoin, FitsBefore, FitsOp, FitsHeld, AreAscending, IsWritable}
 use Rattle.chain_state.specs.Block.{HasFewOutputs}
 use Rattle.chain_state.specs.Measure.{IsMeasuredCoin, IsMeasuredItem, AreMeasured}
 

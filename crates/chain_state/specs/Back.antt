@@ -9,8 +9,8 @@ use Rattle.chain_names.specs.declared.coin.HeldCoin.{HeldCoin}
 use Rattle.chain_names.specs.declared.undo.UndoOp.{UndoOp}
 use Rattle.chain_names.specs.Undo.{UndoRecord}
 use Rattle.chain_names.specs.Sound.{IsSound}
-use Rattle.undo_records.specs.declared.undo.Undo.{Undo}
-use Rattle.undo_records.specs.Writable.{IsWritable}
+use Rattle.chain_names.specs.declared.undo.Undo.{Undo}
+use Rattle.chain_names.specs.Writable.{IsWritable}
 use Rattle.chain_state.specs.Measure.{AreMeasured}
 use Rattle.chain_state.specs.Tables.{maps_by}
 use Rattle.chain_state.specs.Whole.{IsWhole}

@@ -16,10 +16,10 @@ use Rattle.chain_names.specs.Undo.{UndoRecord}
 use Rattle.std.specs.List.{AllByRecursion}
 use Rattle.chain_names.specs.Expired.{IsDue, IsSortedByPoint}
 use Rattle.chain_names.specs.Sound.{IsSound}
-use Rattle.undo_records.specs.Seen.{seen_undo}
-use Rattle.undo_records.specs.declared.parts.Parts.{Parts}
-use Rattle.undo_records.specs.declared.undo.Undo.{Undo}
-use Rattle.undo_records.specs.Writable.{IsWritable}
+use Rattle.chain_names.specs.Seen.{seen_undo}
+use Rattle.chain_state.specs.declared.parts.Parts.{Parts}
+use Rattle.chain_names.specs.declared.undo.Undo.{Undo}
+use Rattle.chain_names.specs.Writable.{IsWritable}
 use Rattle.chain_state.specs.Measure.{AreMeasured}
 use Rattle.name_tables.specs.Tables.{AreFilled}
 use Rattle.chain_state.specs.Tables.{maps_by}

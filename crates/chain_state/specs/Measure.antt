@@ -7,7 +7,7 @@ use Rattle.chain_names.specs.declared.coin.Coin.TheVariants.{New, Named}
 use Rattle.chain_names.specs.declared.coin.Item.{Item}
 use Rattle.chain_names.specs.Coins.{Maps}
 use Rattle.chain_names.specs.Verdict.{made_at}
-use Rattle.undo_records.specs.Writable.{FitsPoint}
+use Rattle.chain_names.specs.Writable.{FitsPoint}
 
 abbrev pub IsMeasuredHash : Coin → Type 0
 IsMeasuredHash (New hash height) = length hash.0 ≡ 20

@@ -7,12 +7,12 @@ use crate::chain::Chain;
 use crate::stage::split;
 use crate::whole::Whole;
 use crate::work::Work;
+use chain_names::Undo;
 use name_tables::Tables;
 use nmc_base::{Base, Hash32, OutPoint, RoomyList, Steps, Tip};
 use std::alloc::Global;
 use std::marker::Model;
 use std::sync::ledger::Ledger;
-use undo_records::Undo;
 
 /// The disconnect of a chain's newest block, staged: every place that it needs is there.
 ///

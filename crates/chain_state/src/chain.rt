@@ -4,13 +4,14 @@ ghost use Rattle.name_tables.specs.Tables.{AreFilled};
 ghost use Rattle.chain_state.specs.Chain.{IsAtBase, IsIndexed, IsConnected, IsAbandoned, ArePartsOf, index_of, tables_of};
 ghost use Rattle.chain_state.specs.Stage.{commit_steps};
 
+use crate::parts::Parts;
 use crate::whole::Whole;
+use chain_names::Undo;
 use name_tables::Tables;
 use nmc_base::{Base, Hash32, NoMemory, RoomyList, Steps, Tip};
 use std::alloc::Global;
 use std::marker::Model;
 use std::sync::ledger::Ledger;
-use undo_records::{Parts, Undo};
 
 /// The index of a chain: which coins and names its blocks left, and what undoes each of them.
 #[derive(Drop)]

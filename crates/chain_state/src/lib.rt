@@ -6,6 +6,7 @@ mod block;
 mod chain;
 mod laws;
 mod live;
+mod parts;
 mod stage;
 mod view;
 mod whole;
@@ -19,4 +20,5 @@ pub use laws::{
     disconnecting_undoes, disconnects_follow, disconnects_stand, one_index, same_stands,
 };
 pub use name_tables::Tables;
+pub use parts::Parts;
 pub use stage::{Refusal, StageOutcome};

@@ -7,15 +7,16 @@ ghost use Rattle.chain_state.specs.Stage.{Begins, HasIdsAndRoot, StagesNames, St
 
 use crate::block::{behind_coinbase, ids_behind};
 use crate::chain::{Chain, StagedChain};
+use crate::parts::Parts;
 use crate::work::Work;
 use crate::worked::Worked;
 use block_reader::{Block, root_of, txids};
+use chain_names::Undo;
 use name_rules::RuleRefusal;
 use name_tables::Tables;
 use nmc_base::{HIGHEST_HEIGHT, Hash32, NoMemory, RoomyList, Steps};
 use std::alloc::Global;
 use std::sync::ledger::Ledger;
-use undo_records::{Parts, Undo};
 
 /// Why a block isn't connected.
 #[derive(Clone, Copy, PartialEq, Eq, Debug)]

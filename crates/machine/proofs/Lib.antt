@@ -7,3 +7,4 @@ pub mod ChainTips
 mod StageLemmas
 mod BackLemmas
 pub mod CostLemmas
+mod ServingLemmas

@@ -14,3 +14,4 @@ pub mod Stages
 pub mod GivenUp
 pub mod StagesBack
 pub mod Costs
+pub mod Serving

@@ -13,7 +13,7 @@ use Rattle.block_grammar.proofs.ReaderLaws.{ok_is, ok_err, pair_text, PairFits, 
 use Rattle.undo_records.specs.declared.fault.FaultKind.TheVariants.{Unsorted}
 use Rattle.undo_records.specs.Reading.{Reads, point_from, named_coin_from, is_less, is_after, later_point_from, held_from, coins_from}
 use Rattle.undo_records.specs.Text.{point_text, coin_text, held_text}
-use Rattle.undo_records.specs.Writable.{FitsPoint, FitsNamedCoin, FitsHeld, IsAfter, AreAscending}
+use Rattle.chain_names.specs.Writable.{FitsPoint, FitsNamedCoin, FitsHeld, IsAfter, AreAscending}
 use Rattle.undo_records.specs.Faults.{last_point}
 use Rattle.undo_records.proofs.Laws.{Spot, Flaw, NoFlaw, Core, Ends, PairFlaw, in_first, in_second, then_core, then_ends, map_core, map_ends, said_core, TagFlaw, ManyFlaw, many_core, many_ends}
 use Rattle.undo_records.proofs.Choices.{CheckFlaw, Passes, checked_core}

@@ -13,7 +13,7 @@ use Rattle.block_grammar.proofs.FieldLaws.{itself, HasLength, IsBelow, zeros, le
 use Rattle.undo_records.specs.declared.fault.FaultKind.TheVariants.{BadTag}
 use Rattle.undo_records.specs.Reading.{Reads, number_from, piece_from, tagged_from, byte_from, name_from, checked_from, value_length_from, value_from, point_from}
 use Rattle.undo_records.specs.Text.{point_text, name_text}
-use Rattle.undo_records.specs.Writable.{FitsPoint, FitsName}
+use Rattle.chain_names.specs.Writable.{FitsPoint, FitsName}
 use Rattle.undo_records.specs.Faults.{IsProperFront, IsOther, IsLongLength}
 use Rattle.undo_records.proofs.Laws.{Spot, ended, Flaw, NoFlaw, Core, Ends, PairFlaw, in_first, in_second, then_core, then_ends, map_core, map_ends, said_core, said_ends, flaw_core, TagFlaw}
 use Rattle.undo_records.proofs.Choices.{no_cut, choice_from, ChoiceFlaw, unknown, behind_tag, choice_core, choice_ends, CheckFlaw, Passes, checked_core}

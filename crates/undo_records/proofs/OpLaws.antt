@@ -10,8 +10,8 @@ use Rattle.block_grammar.specs.Combinators.{then_from, map_from}
 use Rattle.block_grammar.proofs.ReaderLaws.{pair_text, PairFits}
 use Rattle.undo_records.specs.declared.fault.FaultKind.TheVariants.{BadTag}
 use Rattle.undo_records.specs.Reading.{Reads, name_from, point_from, new_coin_from, named_coin_from, before_from, change_from, first_of, update_of, op_from}
-use Rattle.undo_records.specs.Text.{Change, change_of, point_text, name_text, coin_text, before_text, change_text, op_text}
-use Rattle.undo_records.specs.Writable.{FitsPoint, FitsName, FitsNewCoin, FitsNamedCoin, FitsBefore, FitsChange, FitsOp}
+use Rattle.chain_names.specs.Writable.{Change, change_of, FitsPoint, FitsName, FitsNewCoin, FitsNamedCoin, FitsBefore, FitsChange, FitsOp}
+use Rattle.undo_records.specs.Text.{point_text, name_text, coin_text, before_text, change_text, op_text}
 use Rattle.undo_records.specs.Faults.{IsOther, IsBadBefore, IsBadChange, other_coin, bad_before, IsBadOperation, other_tag, in_first as in_first_op, in_update}
 use Rattle.undo_records.proofs.Laws.{Spot, Flaw, NoFlaw, Core, Ends, PairFlaw, in_first, in_second, then_core, then_ends, map_core, map_ends, said_core, said_ends, flaw_core, TagFlaw}
 use Rattle.undo_records.proofs.Choices.{choice_from, ChoiceFlaw, unknown, behind_tag, FitsAt, tagged_text, choice_core, choice_ends}

@@ -14,7 +14,7 @@ use Rattle.block_grammar.proofs.FieldLaws.{itself, HasLength, IsBelow}
 use Rattle.undo_records.specs.declared.fault.FaultKind.TheVariants.{BadTag}
 use Rattle.undo_records.specs.Reading.{Reads, number_from, piece_from, name_from, value_from, point_from, new_coin_from, named_coin_from, item_from, before_from}
 use Rattle.undo_records.specs.Text.{point_text, name_text, coin_text, item_text, before_text}
-use Rattle.undo_records.specs.Writable.{FitsPoint, FitsName, FitsNewCoin, FitsNamedCoin, FitsItem, FitsBefore}
+use Rattle.chain_names.specs.Writable.{FitsPoint, FitsName, FitsNewCoin, FitsNamedCoin, FitsItem, FitsBefore}
 use Rattle.undo_records.specs.Faults.{IsLongLength, IsBadBefore, no_flag, long_value}
 use Rattle.undo_records.proofs.Laws.{Spot, Flaw, NoFlaw, Core, Ends, PairFlaw, in_first, in_second, then_core, then_ends, map_core, map_ends, said_core, said_ends, flaw_core, TagFlaw}
 use Rattle.undo_records.proofs.Choices.{choice_from, ChoiceFlaw, unknown, behind_tag, FitsAt, tagged_text, choice_core, choice_ends}

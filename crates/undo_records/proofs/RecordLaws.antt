@@ -16,7 +16,7 @@ use Rattle.undo_records.specs.declared.fault.FaultKind.{FaultKind}
 use Rattle.undo_records.specs.declared.fault.FaultKind.TheVariants.{Cut, BadTag, Unsorted}
 use Rattle.undo_records.specs.Reading.{Reads, number_from, piece_from, op_from, ops_from, is_after, coins_from, expired_from, undo_from}
 use Rattle.undo_records.specs.Text.{point_text, op_text, held_text, undo_text}
-use Rattle.undo_records.specs.Writable.{FitsOp, FitsHeld, IsAfter, AreAscending, FitsUndo, IsWritable}
+use Rattle.chain_names.specs.Writable.{FitsOp, FitsHeld, IsAfter, AreAscending, FitsUndo, IsWritable}
 use Rattle.undo_records.specs.Faults.{IsOther, IsBadOperation, last_point, ReachesOperation, ReachesCoin, IsBadTag, operation, expired_coin, IsUnsorted, IsCut}
 use Rattle.undo_records.proofs.Laws.{Spot, ended, Flaw, NoFlaw, Core, Ends, PairFlaw, in_first, in_second, then_core, then_ends, map_core, map_ends, flaw_core, TagFlaw, ManyFlaw, many_core, many_ends}
 use Rattle.undo_records.proofs.Choices.{no_cut}

@@ -5,8 +5,8 @@ use Rattle.undo_records.specs.declared.fault.FaultKind.{FaultKind}
 use Rattle.undo_records.specs.declared.fault.FaultKind.TheVariants.{Cut as cut, BadTag as bad_tag, Unsorted as unsorted}
 use Rattle.undo_records.specs.declared.fault.UndoFault.{UndoFault}
 use Rattle.undo_records.specs.declared.fault.UndoFault.TheVariants.{Cut, BadTag, Unsorted, NoMemory}
-use Rattle.undo_records.specs.declared.undo.Undo.{Undo}
-use Rattle.undo_records.specs.Seen.{seen_undo}
+use Rattle.chain_names.specs.declared.undo.Undo.{Undo}
+use Rattle.chain_names.specs.Seen.{seen_undo}
 use Rattle.undo_records.specs.Reading.{undo_from}
 
 -- the fault of a kind at a place

@@ -11,7 +11,7 @@ use Rattle.nmc_base.specs.declared.limits.TheConstants.{LONGEST_VALUE}
 use Rattle.undo_records.specs.declared.fault.UndoFault.{UndoFault}
 use Rattle.undo_records.specs.declared.fault.UndoFault.TheVariants.{Cut, BadTag, Unsorted, NoMemory}
 use Rattle.undo_records.specs.Text.{point_text, name_text, coin_text, op_text, held_text, undo_text}
-use Rattle.undo_records.specs.Writable.{FitsPoint, FitsName, FitsNewCoin, FitsNamedCoin, FitsOp, FitsHeld, IsAfter, AreAscending, FitsUndo, IsWritable}
+use Rattle.chain_names.specs.Writable.{FitsPoint, FitsName, FitsNewCoin, FitsNamedCoin, FitsOp, FitsHeld, IsAfter, AreAscending, FitsUndo, IsWritable}
 
 -- ---- tags and lengths
 

@@ -19,7 +19,7 @@ use Rattle.undo_records.specs.declared.found.FoundOp.{FoundOp}
 use Rattle.undo_records.specs.declared.found.FoundOp.TheVariants.{New as found_made, Change as found_change}
 use Rattle.undo_records.specs.declared.found.ChangeKind.{ChangeKind}
 use Rattle.undo_records.specs.declared.found.ChangeKind.TheVariants.{First as kind_first, Update as kind_update}
-use Rattle.undo_records.specs.Text.{Change, change_of}
+use Rattle.chain_names.specs.Writable.{Change, change_of}
 use Rattle.undo_records.specs.Reading.{Reads, new_coin_from, named_coin_from, first_of, update_of}
 
 -- what was read, or the first fault

@@ -1,6 +1,4 @@
-pub mod Seen
 pub mod Text
-pub mod Writable
 pub mod Reading
 pub mod Fields
 pub mod Faults

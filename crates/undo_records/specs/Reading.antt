@@ -17,7 +17,7 @@ use Rattle.chain_names.specs.Undo.{UndoRecord}
 use Rattle.block_grammar.specs.Combinators.{◌>>=◌, Reader, then_from, map_from, many_from}
 use Rattle.undo_records.specs.declared.fault.FaultKind.{FaultKind}
 use Rattle.undo_records.specs.declared.fault.FaultKind.TheVariants.{Cut, BadTag, Unsorted}
-use Rattle.undo_records.specs.Text.{Change, change_of}
+use Rattle.chain_names.specs.Writable.{Change, change_of}
 
 abbrev pub Reads : Type 0 → Type 0
 Reads A = Reader FaultKind A

@@ -10,6 +10,7 @@ use Rattle.chain_names.specs.declared.coin.Item.{Item}
 use Rattle.chain_names.specs.declared.undo.UndoOp.{UndoOp}
 use Rattle.chain_names.specs.declared.undo.UndoOp.TheVariants.{New as op_new, First, Update}
 use Rattle.chain_names.specs.Undo.{UndoRecord}
+use Rattle.chain_names.specs.Writable.{Change, change_of}
 
 -- +---------+---------+
 -- | txid 32 | index 4 |
@@ -39,21 +40,8 @@ unfoldable pub before_text : Option Item → List ℕ
 before_text None = 0 ∷ []
 before_text (Some item) = 1 ∷ item_text item
 
--- what the operations on a name have behind their tag: the outpoints made and spent, the coin spent, the name, and
--- the item before
-pub record Change : Type 0 where
-  pub made : OutPoint
-  pub spent : OutPoint
-  pub coin : Coin
-  pub name : List ℕ
-  pub before : Option Item
-
 unfoldable pub change_text : Change → List ℕ
 change_text c = point_text c.made ++ (point_text c.spent ++ (coin_text c.coin ++ (name_text c.name ++ before_text c.before)))
-
--- the change in an operation
-abbrev pub change_of : OutPoint → OutPoint → Coin → List ℕ → Option Item → Change
-change_of made spent coin name before = record { made = made; spent = spent; coin = coin; name = name; before = before }
 
 -- The tag is the first opcode of the name script that the operation is: OP_1, OP_2 or OP_3 (Namecoin's OP_NAME_NEW,
 -- OP_NAME_FIRSTUPDATE and OP_NAME_UPDATE).

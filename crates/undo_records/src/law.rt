@@ -2,7 +2,7 @@ ghost use Rattle.std.specs.Prelude.{◌≡◌, ◌<◌, ◌++◌, ◌∷◌, [],
 ghost use Rattle.chain_names.specs.Undo.{UndoRecord};
 ghost use Rattle.undo_records.specs.Reading.{undo_from};
 ghost use Rattle.undo_records.specs.Text.{undo_text};
-ghost use Rattle.undo_records.specs.Writable.{IsWritable};
+ghost use Rattle.chain_names.specs.Writable.{IsWritable};
 
 use crate::fault::FaultKind;
 

@@ -1,7 +1,7 @@
 //! What was found, with memory of its own.
 
 ghost use Rattle.std.specs.Prelude.{◌≡◌, IfOk};
-ghost use Rattle.undo_records.specs.Text.{change_of};
+ghost use Rattle.chain_names.specs.Writable.{change_of};
 ghost use Rattle.undo_records.specs.Fields.{seen_coin, seen_item, seen_before, seen_change, seen_op, op_of};
 
 use crate::found::{ChangeKind, FoundChange, FoundCoin, FoundItem, FoundOp};

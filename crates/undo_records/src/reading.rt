@@ -2,16 +2,16 @@ ghost use Rattle.std.specs.Prelude.{◌≡◌, ◌++◌, List, ℕ, length, IfOk
 ghost use Rattle.chain_names.specs.Undo.{UndoRecord};
 ghost use Rattle.undo_records.specs.Reading.{undo_from};
 ghost use Rattle.undo_records.specs.Fields.{Gives};
-ghost use Rattle.undo_records.specs.Seen.{seen_undo};
+ghost use Rattle.chain_names.specs.Seen.{seen_undo};
 ghost use Rattle.undo_records.specs.Text.{undo_text};
-ghost use Rattle.undo_records.specs.Writable.{IsWritable};
+ghost use Rattle.chain_names.specs.Writable.{IsWritable};
 ghost use Rattle.undo_records.specs.Faults.{BeginsWith, HasFault};
 ghost use Rattle.undo_records.specs.Answers.{placed_fault, GivesUndo, IsCausedBy, AnswersUndo, AnswersFault};
 
 use crate::fault::{FaultKind, Stop, UndoFault};
 use crate::fields::hash_at;
 use crate::lists::lists_at;
-use crate::undo::Undo;
+use chain_names::Undo;
 use nmc_base::{Hash32, RoomyList};
 use std::alloc::Global;
 

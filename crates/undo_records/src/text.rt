@@ -4,8 +4,8 @@ ghost use Rattle.std.specs.Prelude.{◌≡◌, ◌++◌, ◌<◌, ◌≤◌, ◌
 ghost use Rattle.std.specs.List.{flat_map, AllByRecursion};
 ghost use Rattle.std.specs.Int.{w16, w32, to_le_bytes};
 ghost use Rattle.nmc_base.specs.declared.limits.TheConstants.{LONGEST_VALUE};
-ghost use Rattle.undo_records.specs.Text.{point_text, name_text, coin_text, item_text, before_text, change_of, change_text, op_text, held_text};
-ghost use Rattle.undo_records.specs.Writable.{FitsName, HasShortName, FitsItem, FitsBefore, FitsOp, FitsHeld};
+ghost use Rattle.chain_names.specs.Writable.{change_of, FitsName, HasShortName, FitsItem, FitsBefore, FitsOp, FitsHeld};
+ghost use Rattle.undo_records.specs.Text.{point_text, name_text, coin_text, item_text, before_text, change_text, op_text, held_text};
 
 use crate::coins::{NAMED, NEW, NONE_BEFORE, SOME_BEFORE};
 use crate::ops::{FIRST, MADE, UPDATE};

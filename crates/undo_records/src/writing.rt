@@ -1,11 +1,11 @@
 ghost use Rattle.std.specs.Prelude.{◌≡◌, ◌++◌, List, ℕ, Ok, OnOk, OnErr};
-ghost use Rattle.undo_records.specs.Seen.{seen_undo};
+ghost use Rattle.chain_names.specs.Seen.{seen_undo};
 ghost use Rattle.undo_records.specs.Text.{undo_text};
 ghost use Rattle.undo_records.specs.Reading.{undo_from};
-ghost use Rattle.undo_records.specs.Writable.{IsWritable};
+ghost use Rattle.chain_names.specs.Writable.{IsWritable};
 
 use crate::text::{add_expired, add_ops, add_u32};
-use crate::undo::Undo;
+use chain_names::Undo;
 use nmc_base::{Bytes, NoMemory};
 
 /// Appends the text of a record. Where memory runs out, half a text may stand at the list's end.

@@ -1,5 +1,5 @@
 use Rattle.std.proofs.Common.{arith, sym}
-use Rattle.undo_records.specs.Seen.{seen_undo}
+use Rattle.chain_names.specs.Seen.{seen_undo}
 use Rattle.undo_records.proofs.ReadAnswers.{found, found_place, fault_place, placed}
 use Rattle.undo_records.proofs.reading.read_exactly.Goals as goal
 

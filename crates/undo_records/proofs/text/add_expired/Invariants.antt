@@ -1,7 +1,7 @@
 use Rattle.std.proofs.Common.{◌≡◌, ◌++◌, length}
 use Rattle.std.specs.List.{flat_map, AllByRecursion}
 use Rattle.undo_records.specs.Text.{held_text}
-use Rattle.undo_records.specs.Writable.{FitsHeld}
+use Rattle.chain_names.specs.Writable.{FitsHeld}
 use Rattle.undo_records.proofs.text.add_expired.Given as goal
 
 abbrev pub invariant-loop-rest : goal.invariant-loop-rest

@@ -1,4 +1,4 @@
-use Rattle.undo_records.specs.Seen.{seen_undo}
+use Rattle.chain_names.specs.Seen.{seen_undo}
 use Rattle.undo_records.proofs.RecordLaws.{undo_core}
 use Rattle.undo_records.proofs.writing.write.Goals as goal
 

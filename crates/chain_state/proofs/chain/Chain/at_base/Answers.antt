@@ -1,6 +1,6 @@
 use Rattle.std.proofs.Common.{ap, sym, subst}
 use Rattle.nmc_base.specs.Roomy.{Roomy}
-use Rattle.undo_records.specs.declared.undo.Undo.{Undo}
+use Rattle.chain_names.specs.declared.undo.Undo.{Undo}
 use Rattle.chain_state.specs.Chain.{Indexed, IsAtBase}
 use Rattle.chain_state.proofs.ChainLemmas.{begun_index, begun_at}
 use Rattle.chain_state.proofs.chain.Chain.at_base.Goals as goal

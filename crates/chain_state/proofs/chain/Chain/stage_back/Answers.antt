@@ -1,8 +1,8 @@
 use Rattle.std.proofs.Common.{◌≡◌, ◌≢◌, ◌-◌, ◌+◌, ◌*◌, ◌≤◌, List, [], length, refl, sym, ap, subst, ◌∙◌, arith}
 use Rattle.std.specs.Prelude.{Some, slice_get}
 use Rattle.nmc_base.specs.Roomy.{Roomy}
-use Rattle.undo_records.specs.declared.undo.Undo.{Undo}
-use Rattle.undo_records.specs.Seen.{seen_undo}
+use Rattle.chain_names.specs.declared.undo.Undo.{Undo}
+use Rattle.chain_names.specs.Seen.{seen_undo}
 use Rattle.chain_state.specs.Chain.{Indexed, SameIndex, indexed_of, index_of, newest_first}
 use Rattle.name_tables.specs.Tables.{AreFilled}
 use Rattle.chain_state.specs.StageBack.{IsBackRefusal, IsStagedBackOn, back_commit_steps, newest_work}

@@ -5,7 +5,7 @@ use Rattle.block_grammar.specs.Block.{count_outputs}
 use Rattle.block_grammar.specs.Header.{header_hash}
 use Rattle.chain_names.specs.Log.{behind_coinbase}
 use Rattle.chain_names.proofs.OutputLemmas.{fewer_behind}
-use Rattle.undo_records.specs.declared.undo.Undo.{Undo}
+use Rattle.chain_names.specs.declared.undo.Undo.{Undo}
 use Rattle.chain_state.specs.Chain.{rule_refused, Indexed, SameIndex, indexed_of, staged_of, newest_first}
 use Rattle.chain_state.specs.Stage.{StagesWell}
 use Rattle.chain_state.proofs.ChainLemmas.{begun_ready, staged_index, staged_well, back_maps, refused_by, returned_index, returned_same, unused_index}

@@ -2,9 +2,9 @@ use Rattle.std.proofs.Common.{◌≡◌, ap, subst, ◌∙◌}
 use Rattle.nmc_base.specs.declared.chain_ends.Tip.{Tip}
 use Rattle.dns_message.specs.declared.numbers.TheConstants.{LEAST_LIMIT}
 use Rattle.bit_resolver.specs.Replies.{MayReply, told}
-use Rattle.bit_answers.specs.Serving.{served_by, zone_at}
-use Rattle.bit_answers.proofs.ServingLemmas.{may_reply_on}
-use Rattle.bit_answers.proofs.answering.answer.Goals as goal
+use Rattle.machine.specs.Serving.{served_by, zone_at}
+use Rattle.machine.proofs.ServingLemmas.{may_reply_on}
+use Rattle.machine.proofs.answering.answer.Goals as goal
 
 pub returns-clause-reply : goal.returns-clause-reply
 returns-clause-reply c =

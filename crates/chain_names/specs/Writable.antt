@@ -12,7 +12,6 @@ use Rattle.chain_names.specs.declared.coin.Item.{Item}
 use Rattle.chain_names.specs.declared.undo.UndoOp.{UndoOp}
 use Rattle.chain_names.specs.declared.undo.UndoOp.TheVariants.{New as op_new, First, Update}
 use Rattle.chain_names.specs.Undo.{UndoRecord}
-use Rattle.undo_records.specs.Text.{Change, change_of}
 
 pub record FitsPoint (point : OutPoint) : Type 0 where
   pub txid : length point.txid.0 ≡ 32
@@ -44,6 +43,19 @@ pub record FitsItem (item : Item) : Type 0 where
 abbrev pub FitsBefore : Option Item → Type 0
 FitsBefore None = Unit {0}
 FitsBefore (Some item) = FitsItem item
+
+-- what the operations on a name have behind their tag: the outpoints made and spent, the coin spent, the name, and
+-- the item before
+pub record Change : Type 0 where
+  pub made : OutPoint
+  pub spent : OutPoint
+  pub coin : Coin
+  pub name : List ℕ
+  pub before : Option Item
+
+-- the change in an operation
+abbrev pub change_of : OutPoint → OutPoint → Coin → List ℕ → Option Item → Change
+change_of made spent coin name before = record { made = made; spent = spent; coin = coin; name = name; before = before }
 
 -- a change that spends a coin of this kind
 pub record FitsChange (FitsCoin : Coin → Type 0) (c : Change) : Type 0 where

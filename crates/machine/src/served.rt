@@ -1,5 +1,5 @@
 ghost use Rattle.std.specs.Prelude.{◌≡◌};
-ghost use Rattle.bit_answers.specs.Serving.{served_by};
+ghost use Rattle.machine.specs.Serving.{served_by};
 
 use chain_state::Chain;
 use import_expand::Names;

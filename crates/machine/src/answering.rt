@@ -4,7 +4,7 @@ ghost use Rattle.chain_names.specs.Log.{Log};
 ghost use Rattle.chain_state.specs.Standing.{StandsForChain};
 ghost use Rattle.dns_message.specs.declared.numbers.TheConstants.{LEAST_LIMIT as limit};
 ghost use Rattle.bit_resolver.specs.Replies.{told, IsWithin};
-ghost use Rattle.bit_answers.specs.Serving.{MayReplyBy, MayReplyOn};
+ghost use Rattle.machine.specs.Serving.{MayReplyBy, MayReplyOn};
 
 use crate::served::Served;
 use bit_resolver::{Answered, Zone};

@@ -1,6 +1,6 @@
 -- What contracts see of a record that undoes a block.
 use Rattle.chain_names.specs.Undo.{UndoRecord}
-use Rattle.undo_records.specs.declared.undo.Undo.{Undo}
+use Rattle.chain_names.specs.declared.undo.Undo.{Undo}
 
 -- without the spare room of its lists
 abbrev pub seen_undo : Undo → UndoRecord

@@ -1,4 +1,4 @@
-use crate::undo::Undo;
+use chain_names::Undo;
 use expiry_queue::Queue;
 use name_coins::Coins;
 use name_table::Table;

@@ -9,7 +9,7 @@ use Rattle.chain_state.specs.Chain.{Indexed}
 use Rattle.chain_state.specs.Standing.{StandsForChain, chain_maps}
 use Rattle.dns_message.specs.declared.numbers.TheConstants.{LEAST_LIMIT}
 use Rattle.bit_resolver.specs.Replies.{MayReply}
-use Rattle.bit_answers.specs.Serving.{served_by, served_on, zone_at, MayReplyBy, MayReplyOn}
+use Rattle.machine.specs.Serving.{served_by, served_on, zone_at, MayReplyBy, MayReplyOn}
 
 module _ (base : Base) (start : Log) (blocks : List (List ℕ)) (c : Indexed) (s : StandsForChain base start blocks c) where
   same_served : served_by c ≡ served_on base start blocks
