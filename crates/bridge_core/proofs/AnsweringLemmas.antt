@@ -3,7 +3,7 @@ use Rattle.std.proofs.Common.{Bool}
 use Rattle.disk_model.specs.DiskSeen.{DiskSeen}
 use Rattle.feed_frames.specs.Replies.{Reply}
 use Rattle.frame_loop.specs.Turns.{GoesOn, GoesOut}
-use Rattle.machine.specs.Event.{Event, frame_of}
+use Rattle.chain_commands.specs.Event.{Event, frame_of}
 use Rattle.name_store.specs.Stored.{Stored}
 use Rattle.bridge_core.specs.Reached.{IsReadyOn, Ready, Reached, Broken}
 use Rattle.bridge_core.specs.declared.bridge.Turned.TheVariants.{On, Ended}

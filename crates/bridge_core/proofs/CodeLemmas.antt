@@ -4,12 +4,12 @@ use Rattle.feed_frames.specs.Replies.{Reply}
 use Rattle.chain_names.specs.declared.refusal.RuleRefusal.{RuleRefusal}
 use Rattle.chain_names.specs.declared.refusal.RuleRefusal.TheVariants.{MultipleNameInputs, MultipleNameOutputs, PlainWithNameInput, PlainWithNameOutput, NameWithoutOutput, Greedy, NewWithNameInput, NewWrongSize, UpdateWithoutInput, NameTooLong, ValueTooLong, UpdateOfNew, NameMismatch, FirstNotFromNew, Immature, RandTooLong, CommitMismatch, NameTaken, DuplicateOutpoint}
 use Rattle.chain_names.specs.Refusals.{number_of}
-use Rattle.machine.specs.Connecting.{Refusal, BadBlock, NotOnTip, HeightLimit, MerkleMismatch, Rule, JournalFull, refusal_reply}
-use Rattle.machine.specs.Disconnecting as back
-use Rattle.machine.specs.Disconnecting.{BackRefusal, AtBase, NotTip, back_reply}
-use Rattle.machine.specs.Reply.{no_memory_reply}
-use Rattle.machine.proofs.CommandLemmas.{coded, coded_back}
-use Rattle.machine.proofs.RefusalLemmas.{code_of}
+use Rattle.chain_commands.specs.Connecting.{Refusal, BadBlock, NotOnTip, HeightLimit, MerkleMismatch, Rule, JournalFull, refusal_reply}
+use Rattle.chain_commands.specs.Disconnecting as back
+use Rattle.chain_commands.specs.Disconnecting.{BackRefusal, AtBase, NotTip, back_reply}
+use Rattle.chain_commands.specs.Reply.{no_memory_reply}
+use Rattle.chain_commands.proofs.CommandLemmas.{coded, coded_back}
+use Rattle.chain_commands.proofs.RefusalLemmas.{code_of}
 use Rattle.bridge_core.specs.Bridge.{fault_code}
 
 -- a rule's number

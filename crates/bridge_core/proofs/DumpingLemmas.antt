@@ -9,7 +9,7 @@ use Rattle.name_report.specs.Text.{Reported}
 use Rattle.name_report.specs.Report.{Reports, ReportsAll, ReportsPart}
 use Rattle.name_report.specs.declared.reporting.ReportFault.{ReportFault}
 use Rattle.name_report.specs.declared.reporting.ReportFault.TheVariants as reports
-use Rattle.machine.specs.RunState.{RunState}
+use Rattle.chain_commands.specs.RunState.{RunState}
 use Rattle.name_store.specs.declared.faults.OpenFault.{OpenFault}
 use Rattle.name_store.specs.Stored.{Stored, StandsFor}
 use Rattle.bridge_core.specs.Opening.{status_of_fault, no_memory}

@@ -4,8 +4,8 @@ use Rattle.disk_model.specs.Moments.{EachMoment}
 use Rattle.disk_model.specs.DiskSeen.{DiskSeen, bytes_in}
 use Rattle.disk_model.proofs.MomentLemmas.{last_moment}
 use Rattle.feed_frames.specs.Replies.{Reply}
-use Rattle.machine.specs.Event.{Event}
-use Rattle.machine.specs.RunState.{RunState}
+use Rattle.chain_commands.specs.Event.{Event}
+use Rattle.chain_commands.specs.RunState.{RunState}
 use Rattle.name_store.specs.Stands.{Stands, EachStands, EachStandsForEither}
 use Rattle.name_store.specs.Stored.{Stored, IsOn}
 use Rattle.name_store.proofs.StoreLemmas.{stands_still}

@@ -3,8 +3,8 @@ use Rattle.std.proofs.Common.{◌≡◌, ℕ, List, sym, subst}
 use Rattle.disk_model.specs.Moments.{EachMoment}
 use Rattle.disk_model.specs.DiskSeen.{DiskSeen, bytes_in}
 use Rattle.feed_frames.specs.Replies.{Reply}
-use Rattle.machine.specs.Event.{Command, Do, Ask}
-use Rattle.machine.specs.RunState.{RunState, accepted}
+use Rattle.chain_commands.specs.Event.{Command, Do, Ask}
+use Rattle.chain_commands.specs.RunState.{RunState, accepted}
 use Rattle.name_store.specs.Stands.{Stands, EachStandsForEither}
 use Rattle.name_store.specs.Stored.{Stored, IsOn}
 use Rattle.bridge_core.specs.Bridge.{KeepsOn}

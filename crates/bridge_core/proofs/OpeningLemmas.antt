@@ -7,7 +7,7 @@ use Rattle.disk_model.specs.DiskSeen.{DiskSeen, bytes_in}
 use Rattle.disk_model.proofs.MomentLemmas.{weaken}
 use Rattle.gate_journal.specs.Gate.{ClosedAfter}
 use Rattle.gate_journal.specs.Records.{IsArea}
-use Rattle.machine.specs.RunState.{RunState}
+use Rattle.chain_commands.specs.RunState.{RunState}
 use Rattle.name_store.specs.Commands.{records_of}
 use Rattle.name_store.specs.Header.{header_text}
 use Rattle.name_store.specs.Opening.{AddsNoImage, IsOpened, ReadsAlike, OpenAnswer, OpensFor}

@@ -10,10 +10,10 @@ use Rattle.disk_model.specs.DiskSeen.{DiskSeen}
 use Rattle.disk_model.proofs.MomentLemmas.{weaken, join, last_moment}
 use Rattle.feed_frames.specs.Frames.{Frame}
 use Rattle.feed_frames.specs.Replies.{Reply}
-use Rattle.machine.specs.Event.{Command, Event, Do, Ask, frame_of}
-use Rattle.machine.specs.RunState.{RunState, accepted, all_accepted}
+use Rattle.chain_commands.specs.Event.{Command, Event, Do, Ask, frame_of}
+use Rattle.chain_commands.specs.RunState.{RunState, accepted, all_accepted}
 use Rattle.machine.specs.Step.{Step, Run}
-use Rattle.machine.specs.Surviving.{accepted_of}
+use Rattle.chain_commands.specs.Surviving.{accepted_of}
 use Rattle.machine.proofs.RunLemmas.{run_push, run_state}
 use Rattle.name_store.specs.Stands.{Stands, EachStandsForEither}
 use Rattle.name_store.specs.Stored.{Stored, StandsFor}

@@ -4,15 +4,15 @@ use Rattle.std.specs.Int.{w32, to_le_bytes}
 use Rattle.feed_frames.specs.Replies.{Reply}
 use Rattle.chain_state.specs.declared.stage.Refusal.{Refusal}
 use Rattle.chain_state.specs.declared.back.BackRefusal.{BackRefusal}
-use Rattle.machine.specs.Views.{refusal_of, back_refusal_of}
+use Rattle.name_store.specs.Views.{refusal_of, back_refusal_of}
 use Rattle.nmc_base.specs.declared.chain_ends.Tip.{Tip}
-use Rattle.machine.specs.Chain.{Chain, height_of}
-use Rattle.machine.specs.Event.{Connect, Disconnect, Do}
-use Rattle.machine.specs.RunState.{chain_of, accepted, longest_area}
-use Rattle.machine.specs.Reply.{accepted_reply}
-use Rattle.machine.specs.Refusals.{accepts, declines}
-use Rattle.machine.specs.Connecting.{refusal_reply}
-use Rattle.machine.specs.Disconnecting.{back_reply}
+use Rattle.chain_commands.specs.Chain.{Chain, height_of}
+use Rattle.chain_commands.specs.Event.{Connect, Disconnect, Do}
+use Rattle.chain_commands.specs.RunState.{chain_of, accepted, longest_area}
+use Rattle.chain_commands.specs.Reply.{accepted_reply}
+use Rattle.chain_commands.specs.Refusals.{accepts, declines}
+use Rattle.chain_commands.specs.Connecting.{refusal_reply}
+use Rattle.chain_commands.specs.Disconnecting.{back_reply}
 use Rattle.name_store.specs.Stored.{Stored, IsTipOf}
 use Rattle.name_store.specs.Connecting as connecting
 use Rattle.name_store.specs.Disconnecting as disconnecting

@@ -3,11 +3,11 @@ use Rattle.std.specs.Prelude.{◌≡◌, ◌≢◌, ℕ, []}
 use Rattle.feed_frames.specs.Replies.{Reply}
 use Rattle.disk_model.specs.Moments.{Files, EachMoment}
 use Rattle.disk_model.specs.DiskSeen.{DiskSeen, bytes_in}
-use Rattle.machine.specs.Costs.{IsCheap}
-use Rattle.machine.specs.Event.{Event, Connect, Disconnect, Do, Ask}
-use Rattle.machine.specs.RunState.{RunState, chain_of, IsFull, accepted}
-use Rattle.machine.specs.Connecting.{IsValid}
-use Rattle.machine.specs.Disconnecting.{IsValidBack}
+use Rattle.name_store.specs.Costs.{IsCheap}
+use Rattle.chain_commands.specs.Event.{Event, Connect, Disconnect, Do, Ask}
+use Rattle.chain_commands.specs.RunState.{RunState, chain_of, IsFull, accepted}
+use Rattle.chain_commands.specs.Connecting.{IsValid}
+use Rattle.chain_commands.specs.Disconnecting.{IsValidBack}
 use Rattle.machine.specs.Step.{Step}
 use Rattle.name_store.specs.Stands.{Stands, EachStands, EachStandsForEither}
 use Rattle.name_store.specs.Stored.{Stored, StandsFor, IsOn}

@@ -7,7 +7,7 @@ use Rattle.name_report.specs.Text.{Reported}
 use Rattle.name_report.specs.Report.{reported_on, ReportsAll, ReportsPart}
 use Rattle.name_report.specs.declared.reporting.ReportFault.{ReportFault}
 use Rattle.name_report.specs.declared.reporting.ReportFault.TheVariants as reports
-use Rattle.machine.specs.RunState.{RunState, chain_of}
+use Rattle.chain_commands.specs.RunState.{RunState, chain_of}
 use Rattle.name_store.specs.Stands.{Stands}
 use Rattle.bridge_core.specs.Opening.{IsUnbegun, AddsNone}
 use Rattle.bridge_core.specs.Outcome.{EndsWell}

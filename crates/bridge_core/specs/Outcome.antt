@@ -6,7 +6,7 @@ use Rattle.feed_frames.specs.Frames.{Frame, Splits, IsRest}
 use Rattle.frame_loop.specs.Transcript.{Streams}
 use Rattle.frame_loop.specs.Outcome as loops
 use Rattle.frame_loop.specs.Outcome.{IsWhole, IsBadAt, IsCutAt, IsOverLimit}
-use Rattle.machine.specs.RunState.{RunState}
+use Rattle.chain_commands.specs.RunState.{RunState}
 use Rattle.name_store.specs.Stands.{Stands}
 use Rattle.bridge_core.specs.declared.status.Status.{Status}
 use Rattle.bridge_core.specs.declared.status.Status.TheVariants.{Done, Words, Uninitialised, Initialised, Damaged, BadFrame, CutFrame, DiskFault, SourceFault, SinkFault, NoMemory, InputLimit, PortFault}

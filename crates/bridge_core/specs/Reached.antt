@@ -5,10 +5,10 @@ use Rattle.disk_model.specs.Moments.{Files, EachMoment, IsImage}
 use Rattle.disk_model.specs.DiskSeen.{DiskSeen}
 use Rattle.feed_frames.specs.Frames.{Frame}
 use Rattle.feed_frames.specs.Replies.{Reply}
-use Rattle.machine.specs.Event.{Command, Event, Do, frame_of}
-use Rattle.machine.specs.RunState.{RunState, accepted, all_accepted}
+use Rattle.chain_commands.specs.Event.{Command, Event, Do, frame_of}
+use Rattle.chain_commands.specs.RunState.{RunState, accepted, all_accepted}
 use Rattle.machine.specs.Step.{Run}
-use Rattle.machine.specs.Surviving.{accepted_of}
+use Rattle.chain_commands.specs.Surviving.{accepted_of}
 use Rattle.name_store.specs.Stands.{Bytes, Stands, EachStandsForEither}
 use Rattle.name_store.specs.Stored.{Stored, StandsFor, IsOn}
 use Rattle.bridge_core.specs.Bridge.{fault_reply, IsValidEvent, AreFilesOf}

@@ -6,7 +6,7 @@ use Rattle.disk_model.specs.DiskSeen.{DiskSeen, bytes_in}
 use Rattle.port_loop.specs.Transcript.{Transcript}
 use Rattle.port_loop.specs.declared.attending.Ending.{Ending}
 use Rattle.port_loop.specs.declared.attending.Ending.TheVariants as endings
-use Rattle.machine.specs.RunState.{RunState}
+use Rattle.chain_commands.specs.RunState.{RunState}
 use Rattle.name_store.specs.Stands.{Stands}
 use Rattle.bridge_core.specs.Opening.{IsUnbegun, AddsNone}
 use Rattle.bridge_core.specs.Outcome.{EndsWell}

@@ -1,7 +1,7 @@
 -- What the types of the code are in the machine.
 use Rattle.std.specs.Prelude.{◌≤◌, length, ⊤}
 use Rattle.nmc_base.specs.declared.limits.TheConstants.{LONGEST_BLOCK}
-use Rattle.machine.specs.Event as machine
+use Rattle.chain_commands.specs.Event as machine
 use Rattle.bridge_core.specs.declared.event.Event.{Event}
 use Rattle.bridge_core.specs.declared.event.Event.TheVariants.{Connect, Disconnect, Query}
 

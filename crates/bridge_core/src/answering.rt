@@ -1,5 +1,5 @@
 ghost use Rattle.frame_loop.specs.Turns as loops;
-ghost use Rattle.machine.specs.Event.{frame_of};
+ghost use Rattle.chain_commands.specs.Event.{frame_of};
 ghost use Rattle.bridge_core.specs.Reached.{Ready, Reached, Broken};
 ghost use Rattle.bridge_core.specs.Views.{event_of, IsWithinLimits};
 

@@ -1,6 +1,6 @@
 ghost use Rattle.std.specs.Prelude.{◌≡◌};
 ghost use Rattle.feed_frames.specs.Front as feed;
-ghost use Rattle.machine.specs.Event.{frame_of};
+ghost use Rattle.chain_commands.specs.Event.{frame_of};
 ghost use Rattle.frame_loop.specs.Turns.{IsAskable};
 ghost use Rattle.bridge_core.specs.Views.{event_of, IsWithinLimits};
 

@@ -1,5 +1,5 @@
 ghost use Rattle.std.specs.Prelude.{◌≢◌};
-ghost use Rattle.machine.specs.RunState.{RunState};
+ghost use Rattle.chain_commands.specs.RunState.{RunState};
 ghost use Rattle.machine.specs.Querying.{Queries};
 ghost use Rattle.name_store.specs.Stored.{StandsFor};
 ghost use Rattle.bridge_core.specs.Bridge.{fault_code};

@@ -2,10 +2,10 @@
 
 ghost use Rattle.std.specs.Prelude.{◌≡◌, ◌++◌};
 ghost use Rattle.std.specs.Int.{w32, to_le_bytes};
-ghost use Rattle.machine.specs.Reply.{no_memory_reply};
-ghost use Rattle.machine.specs.Connecting.{refusal_reply};
-ghost use Rattle.machine.specs.Disconnecting.{back_reply};
-ghost use Rattle.machine.specs.Views.{refusal_of, back_refusal_of};
+ghost use Rattle.chain_commands.specs.Reply.{no_memory_reply};
+ghost use Rattle.chain_commands.specs.Connecting.{refusal_reply};
+ghost use Rattle.chain_commands.specs.Disconnecting.{back_reply};
+ghost use Rattle.name_store.specs.Views.{refusal_of, back_refusal_of};
 ghost use Rattle.bridge_core.specs.Bridge.{fault_reply};
 
 use chain_state::{BackRefusal, Refusal};

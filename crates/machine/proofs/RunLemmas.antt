@@ -2,18 +2,18 @@
 use Rattle.std.proofs.Common.{◌≡◌, ◌==◌, if◌then◌else◌, true, false, eqb, ℕ, List, [], ◌∷◌, ◌++◌, refl, sym, ap, subst, ◌∙◌}
 use Rattle.std.proofs.lemmas.Bool.{ne_eqb}
 use Rattle.block_grammar.specs.Block.{block_hash}
-use Rattle.machine.specs.Chain.{Chain, with_block}
-use Rattle.machine.specs.Event.{Command, Connect, Disconnect, Event, Do, Ask}
-use Rattle.machine.specs.RunState.{RunState, chain_of, IsFull, accepted, all_accepted, after_command}
+use Rattle.chain_commands.specs.Chain.{Chain, with_block}
+use Rattle.chain_commands.specs.Event.{Command, Connect, Disconnect, Event, Do, Ask}
+use Rattle.chain_commands.specs.RunState.{RunState, chain_of, IsFull, accepted, all_accepted, after_command}
 use Rattle.feed_frames.specs.Replies.{Reply}
-use Rattle.machine.specs.Refusals.{accepts, declines, lacks_memory}
-use Rattle.machine.specs.Connecting.{IsValid, Holds, order_of, connects}
-use Rattle.machine.specs.Disconnecting as back
-use Rattle.machine.specs.Disconnecting.{BackRefusal, AtBase, NotTip, HoldsBack, back_order, disconnects}
+use Rattle.chain_commands.specs.Refusals.{accepts, declines, lacks_memory}
+use Rattle.chain_commands.specs.Connecting.{IsValid, Holds, order_of, connects}
+use Rattle.chain_commands.specs.Disconnecting as back
+use Rattle.chain_commands.specs.Disconnecting.{BackRefusal, AtBase, NotTip, HoldsBack, back_order, disconnects}
 use Rattle.machine.specs.Step.{Step, Run}
-use Rattle.machine.specs.Surviving.{is_done, stays, SurvivesCommand, Surviving, accepted_of}
-use Rattle.machine.proofs.RefusalLemmas.{decided, survives_once, fewer_none}
-use Rattle.machine.proofs.CommandLemmas.{without_journal, placed, coded, without_journal_back, placed_back, coded_back}
+use Rattle.chain_commands.specs.Surviving.{is_done, stays, SurvivesCommand, Surviving, accepted_of}
+use Rattle.chain_commands.proofs.RefusalLemmas.{decided, survives_once, fewer_none}
+use Rattle.chain_commands.proofs.CommandLemmas.{without_journal, placed, coded, without_journal_back, placed_back, coded_back}
 
 -- the step after a run
 pub record NextStep (mid : RunState) : Type 0 where

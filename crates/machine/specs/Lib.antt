@@ -1,17 +1,3 @@
-pub mod Chain
-pub mod Event
-pub mod RunState
-pub mod Reply
-pub mod Refusals
-pub mod Connecting
-pub mod Disconnecting
 pub mod Querying
 pub mod Step
-pub mod Surviving
-pub mod Views
-pub mod Standing
-pub mod Stages
-pub mod GivenUp
-pub mod StagesBack
-pub mod Costs
 pub mod Serving

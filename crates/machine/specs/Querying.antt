@@ -9,8 +9,8 @@ use Rattle.dns_message.specs.declared.numbers.TheConstants.{LEAST_LIMIT}
 use Rattle.bit_resolver.specs.declared.zone.Zone.{Zone}
 use Rattle.bit_resolver.specs.Replies.{MayReply}
 use Rattle.feed_frames.specs.Replies.{Reply}
-use Rattle.machine.specs.Chain.{Chain, height_of}
-use Rattle.machine.specs.RunState.{RunState, chain_of}
+use Rattle.chain_commands.specs.Chain.{Chain, height_of}
+use Rattle.chain_commands.specs.RunState.{RunState, chain_of}
 
 -- the values that a chain serves at its tip: of each name that of its entry in the chain's log, while it isn't expired
 abbrev pub served_on : Chain → Live

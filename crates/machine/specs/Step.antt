@@ -1,10 +1,10 @@
 -- One step of the machine, and runs of steps.
 use Rattle.std.specs.Prelude.{◌≡◌, List, [], ◌∷◌}
-use Rattle.machine.specs.Event.{Event, Connect, Disconnect, Do, Ask}
-use Rattle.machine.specs.RunState.{RunState}
+use Rattle.chain_commands.specs.Event.{Event, Connect, Disconnect, Do, Ask}
+use Rattle.chain_commands.specs.RunState.{RunState}
 use Rattle.feed_frames.specs.Replies.{Reply}
-use Rattle.machine.specs.Connecting.{Connects}
-use Rattle.machine.specs.Disconnecting.{Disconnects}
+use Rattle.chain_commands.specs.Connecting.{Connects}
+use Rattle.chain_commands.specs.Disconnecting.{Disconnects}
 use Rattle.machine.specs.Querying.{Queries}
 
 -- from the old state the machine may give this reply to the event and go on to the new state

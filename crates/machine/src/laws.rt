@@ -2,29 +2,13 @@
 
 ghost use Rattle.std.specs.Prelude.{◌≡◌, List, ◌∷◌, ℕ};
 ghost use Rattle.block_grammar.specs.Block.{block_hash};
-ghost use Rattle.feed_frames.specs.Frames.{Frame, IsFramed};
-ghost use Rattle.machine.specs.Chain.{Chain};
-ghost use Rattle.machine.specs.Event.{Command, Connect, Disconnect, Event, frame_of};
-ghost use Rattle.machine.specs.RunState.{RunState, chain_of, all_accepted, IsFull};
 ghost use Rattle.feed_frames.specs.Replies.{Reply};
-ghost use Rattle.machine.specs.Connecting.{Refusal, Refuses, IsValid};
-ghost use Rattle.machine.specs.Disconnecting.{BackRefusal, RefusesBack};
+ghost use Rattle.chain_commands.specs.Chain.{Chain};
+ghost use Rattle.chain_commands.specs.Event.{Command, Connect, Disconnect, Event};
+ghost use Rattle.chain_commands.specs.RunState.{RunState, chain_of, all_accepted};
+ghost use Rattle.chain_commands.specs.Connecting.{IsValid};
+ghost use Rattle.chain_commands.specs.Surviving.{Surviving, accepted_of};
 ghost use Rattle.machine.specs.Step.{Step, Run};
-ghost use Rattle.machine.specs.Surviving.{Surviving, accepted_of};
-
-/// Each whole frame is one event.
-pub fn one_event()
-    ensures some { (frame : Frame) → IsFramed frame → (event : Event) × (frame_of event ≡ frame) }
-    ensures one { (event other : Event) → frame_of event ≡ frame_of other → event ≡ other }
-{}
-
-/// A command has one refusal at most: the order of the conditions decides.
-pub fn one_refusal()
-    ensures connect { (run : RunState) (bytes : List ℕ) (refusal other : Refusal)
-        → Refuses (IsFull run (Connect bytes)) (chain_of run) bytes refusal → Refuses (IsFull run (Connect bytes)) (chain_of run) bytes other → refusal ≡ other }
-    ensures disconnect { (run : RunState) (hash : List ℕ) (refusal other : BackRefusal)
-        → RefusesBack (IsFull run (Disconnect hash)) (chain_of run) hash refusal → RefusesBack (IsFull run (Disconnect hash)) (chain_of run) hash other → refusal ≡ other }
-{}
 
 /// The state, the event and the code of the reply decide the next state.
 pub fn decided_step()

@@ -1,16 +1,11 @@
-//! The machine that the program is: chains, run states, events, refusals, replies, steps and runs; what stages or refuses the
-//! bytes of a block, or a hash, for every chain that the index stands for; and what a message is answered with.
+//! The machine that the program is: its steps and runs, with their laws; and what a message is answered with from the index.
 #![tactic(auto)]
 
 mod answering;
 mod laws;
 mod served;
-mod staging;
 
 pub use answering::answer;
 pub use bit_resolver::Answered;
-pub use laws::{
-    decided_step, disconnecting_forgets, one_event, one_refusal, one_surviving, surviving_chain,
-};
+pub use laws::{decided_step, disconnecting_forgets, one_surviving, surviving_chain};
 pub use served::Served;
-pub use staging::{CONNECT_RECORD, DISCONNECT_RECORD, stage_bytes, stage_hash};

@@ -1,9 +1,9 @@
 -- A command that has no refusal has none but that of a full journal.
 use Rattle.std.proofs.Common.{◌≡◌, ℕ, ◌<◌, List, Some}
-use Rattle.machine.specs.Chain.{Chain}
-use Rattle.machine.specs.Connecting.{Refusal, BadBlock, NotOnTip, HeightLimit, MerkleMismatch, Rule, JournalFull, Holds, order_of, IsValid}
-use Rattle.machine.specs.Disconnecting as back
-use Rattle.machine.specs.Disconnecting.{BackRefusal, HoldsBack, back_order, IsValidBack}
+use Rattle.chain_commands.specs.Chain.{Chain}
+use Rattle.chain_commands.specs.Connecting.{Refusal, BadBlock, NotOnTip, HeightLimit, MerkleMismatch, Rule, JournalFull, Holds, order_of, IsValid}
+use Rattle.chain_commands.specs.Disconnecting as back
+use Rattle.chain_commands.specs.Disconnecting.{BackRefusal, HoldsBack, back_order, IsValidBack}
 
 none_holds : (full : Type 0) (chain : Chain) (bytes : List ℕ) → IsValid full chain bytes → (refusal : Refusal) → order_of refusal < 6 → Holds ⊥ chain bytes refusal → ⊥
 none_holds full chain bytes valid (BadBlock place) low holds = valid.none (BadBlock place) low holds

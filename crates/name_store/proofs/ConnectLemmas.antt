@@ -7,14 +7,14 @@ use Rattle.disk_model.specs.DiskSeen.{DiskSeen}
 use Rattle.disk_model.specs.declared.disk.Failed.{Failed}
 use Rattle.chain_state.specs.Chain.{StagedIndex, IsConnected}
 use Rattle.chain_state.specs.declared.stage.Refusal.{Refusal}
-use Rattle.machine.specs.Standing as chains
-use Rattle.machine.specs.Stages.{IsFullFor, IsStagedFor, IsRefusedFor, LacksMemoryFor}
-use Rattle.machine.specs.Views.{refusal_of}
-use Rattle.machine.specs.Chain.{Chain}
-use Rattle.machine.specs.Event.{Connect}
-use Rattle.machine.specs.RunState.{RunState, chain_of, area_of, record_length, accepted, longest_area}
-use Rattle.machine.specs.Connecting as machine
-use Rattle.machine.specs.Connecting.{IsValid, Refuses, TakesMemory, Holds, order_of, BadBlock, NotOnTip, HeightLimit, MerkleMismatch, Rule, JournalFull}
+use Rattle.name_store.specs.Standing as chains
+use Rattle.name_store.specs.Stages.{IsFullFor, IsStagedFor, IsRefusedFor, LacksMemoryFor}
+use Rattle.name_store.specs.Views.{refusal_of}
+use Rattle.chain_commands.specs.Chain.{Chain}
+use Rattle.chain_commands.specs.Event.{Connect}
+use Rattle.chain_commands.specs.RunState.{RunState, chain_of, area_of, record_length, accepted, longest_area}
+use Rattle.chain_commands.specs.Connecting as machine
+use Rattle.chain_commands.specs.Connecting.{IsValid, Refuses, TakesMemory, Holds, order_of, BadBlock, NotOnTip, HeightLimit, MerkleMismatch, Rule, JournalFull}
 use Rattle.name_store.specs.declared.store.Outcome.TheVariants.{Done, Refused, NoMemory, Faulted}
 use Rattle.name_store.specs.Host.{IsHostOf}
 use Rattle.name_store.specs.Stands.{IsRunState}

@@ -5,9 +5,9 @@ use Rattle.std.proofs.lemmas.Bool.{cases_lt}
 use Rattle.gate_journal.specs.Gate.{IsOpen, record_text}
 use Rattle.gate_journal.specs.Records.{image_front, records_text}
 use Rattle.gate_journal.proofs.RecordLemmas.{Begins, record_begun, record_unique, first_fits, begins_with}
-use Rattle.machine.specs.Chain.{Chain}
-use Rattle.machine.specs.Event.{Command}
-use Rattle.machine.specs.RunState.{RunState, on_base, after_commands, longest_area}
+use Rattle.chain_commands.specs.Chain.{Chain}
+use Rattle.chain_commands.specs.Event.{Command}
+use Rattle.chain_commands.specs.RunState.{RunState, on_base, after_commands, longest_area}
 use Rattle.name_store.specs.Header.{HasHeader, HasFields, IsInitialised, IsShut, base_at, selections_at}
 use Rattle.name_store.specs.Commands.{AreRead, IsNext, record_of, records_of, area_text, gate_behind}
 use Rattle.name_store.specs.Damage as damage

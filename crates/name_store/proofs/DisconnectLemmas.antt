@@ -7,14 +7,14 @@ use Rattle.disk_model.specs.declared.disk.Failed.{Failed}
 use Rattle.chain_state.specs.Chain.{Indexed}
 use Rattle.chain_state.specs.StageBack.{IsDisconnected}
 use Rattle.chain_state.specs.declared.back.BackRefusal.{BackRefusal}
-use Rattle.machine.specs.Standing as chains
-use Rattle.machine.specs.StagesBack.{IsFullBack, IsStagedBackFor, IsRefusedBackFor, LacksMemoryBackFor}
-use Rattle.machine.specs.Views.{back_refusal_of}
-use Rattle.machine.specs.Chain.{Chain}
-use Rattle.machine.specs.Event.{Disconnect}
-use Rattle.machine.specs.RunState.{RunState, chain_of, area_of, record_length, accepted, longest_area}
-use Rattle.machine.specs.Disconnecting as machine
-use Rattle.machine.specs.Disconnecting.{IsValidBack, RefusesBack, TakesMemoryBack, HoldsBack, back_order, AtBase, NotTip, JournalFull}
+use Rattle.name_store.specs.Standing as chains
+use Rattle.name_store.specs.StagesBack.{IsFullBack, IsStagedBackFor, IsRefusedBackFor, LacksMemoryBackFor}
+use Rattle.name_store.specs.Views.{back_refusal_of}
+use Rattle.chain_commands.specs.Chain.{Chain}
+use Rattle.chain_commands.specs.Event.{Disconnect}
+use Rattle.chain_commands.specs.RunState.{RunState, chain_of, area_of, record_length, accepted, longest_area}
+use Rattle.chain_commands.specs.Disconnecting as machine
+use Rattle.chain_commands.specs.Disconnecting.{IsValidBack, RefusesBack, TakesMemoryBack, HoldsBack, back_order, AtBase, NotTip, JournalFull}
 use Rattle.name_store.specs.declared.store.BackOutcome.TheVariants.{Done, Refused, NoMemory, Faulted}
 use Rattle.name_store.specs.Host.{IsHostOf}
 use Rattle.name_store.specs.Stands.{IsRunState}

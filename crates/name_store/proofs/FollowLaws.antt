@@ -2,7 +2,7 @@
 use Rattle.std.proofs.Common.{◌≡◌, inl, inr, Err, sym, subst}
 use Rattle.std.specs.Prelude.{Result}
 use Rattle.disk_model.specs.Moments.{Files}
-use Rattle.machine.specs.RunState.{RunState}
+use Rattle.chain_commands.specs.RunState.{RunState}
 use Rattle.name_store.specs.declared.faults.OpenFault.{OpenFault}
 use Rattle.name_store.specs.declared.faults.OpenFault.TheVariants as faults
 use Rattle.name_store.specs.Damage as damage

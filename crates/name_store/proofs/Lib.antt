@@ -1,3 +1,7 @@
+pub mod ChainTips
+mod StageLemmas
+mod BackLemmas
+pub mod CostLemmas
 pub mod AllowedLemmas
 pub mod HeaderLemmas
 pub mod ReadingLemmas

@@ -12,7 +12,7 @@ use Rattle.gate_journal.specs.Records.{IsArea}
 use Rattle.gate_journal.specs.Gate.{ClosedAfter}
 use Rattle.gate_journal.proofs.AppendLemmas.{closed_front}
 use Rattle.gate_journal.proofs.RecordLemmas.{none_fit}
-use Rattle.machine.specs.RunState.{RunState}
+use Rattle.chain_commands.specs.RunState.{RunState}
 use Rattle.name_store.specs.Header.{IsBegun, header_fields, header_text}
 use Rattle.name_store.specs.Stands.{Bytes, IsRunState, Stands, EachStands, begun_on}
 use Rattle.name_store.specs.Making.{IsEmpty, EachIsBegun}

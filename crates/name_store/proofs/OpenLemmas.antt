@@ -11,13 +11,13 @@ use Rattle.disk_model.specs.Moments.{Files, Moments, IsImage, EachMoment}
 use Rattle.disk_model.specs.Changes.{Changes, AfterSync, Unchanged}
 use Rattle.disk_model.proofs.MomentLemmas.{weaken, join, last_moment}
 use Rattle.chain_state.specs.Chain.{Indexed}
-use Rattle.machine.specs.Standing as chains
+use Rattle.name_store.specs.Standing as chains
 use Rattle.gate_journal.specs.Gate.{ClosedAfter, IsClosed}
 use Rattle.gate_journal.specs.Records.{IsArea, Fits}
 use Rattle.gate_journal.proofs.RecordLemmas.{pushed_fit}
-use Rattle.machine.specs.Chain.{Chain}
-use Rattle.machine.specs.Event.{Command, Connect, Disconnect}
-use Rattle.machine.specs.RunState.{RunState, on_base, after_commands, longest_area}
+use Rattle.chain_commands.specs.Chain.{Chain}
+use Rattle.chain_commands.specs.Event.{Command, Connect, Disconnect}
+use Rattle.chain_commands.specs.RunState.{RunState, on_base, after_commands, longest_area}
 use Rattle.name_store.specs.Opening.{AddsNoImage, IsOpened, OpenAnswer}
 use Rattle.name_store.specs.declared.faults.OpenFault.{OpenFault}
 use Rattle.name_store.specs.declared.faults.OpenFault.TheVariants as faults

@@ -18,9 +18,9 @@ use Rattle.gate_journal.specs.declared.faults.JournalFault.{JournalFault}
 use Rattle.gate_journal.specs.declared.faults.JournalFault.TheVariants as journal
 use Rattle.gate_journal.specs.Records.{image_front}
 use Rattle.gate_journal.proofs.RecordLemmas.{front-push, record_unique}
-use Rattle.machine.specs.Chain.{Chain}
-use Rattle.machine.specs.Event.{Command, Connect, Disconnect}
-use Rattle.machine.specs.RunState.{after_commands, grown_by, record_length, longest_area}
+use Rattle.chain_commands.specs.Chain.{Chain}
+use Rattle.chain_commands.specs.Event.{Command, Connect, Disconnect}
+use Rattle.chain_commands.specs.RunState.{after_commands, grown_by, record_length, longest_area}
 use Rattle.name_store.specs.Commands.{record_of, records_of, area_text, gate_behind, IsAllowed, AreAllowed, AreRead, IsNext}
 use Rattle.name_store.specs.Damage.{HasBadRecord, HasNoImage}
 use Rattle.name_store.specs.Header.{IsShut}

@@ -14,8 +14,8 @@ use Rattle.domain_text.specs.Host.{HostText, IsHost, absolute, empty, at_sign, b
 use Rattle.gate_journal.specs.Gate.{ClosedAfter, IsClosed}
 use Rattle.gate_journal.specs.Records.{IsArea}
 use Rattle.gate_journal.proofs.RecordLemmas.{area_unique}
-use Rattle.machine.specs.Event.{Command, Connect, Disconnect}
-use Rattle.machine.specs.RunState.{RunState}
+use Rattle.chain_commands.specs.Event.{Command, Connect, Disconnect}
+use Rattle.chain_commands.specs.RunState.{RunState}
 use Rattle.name_store.specs.Host.{IsHostText}
 use Rattle.name_store.specs.Header.{IsBegun, HasHeader, HasFields, magic, header_text, profile_byte, magic_at, profile_at, base_at, host_at, hash_at, host_length_at, height_at, selections_at}
 use Rattle.name_store.specs.Commands.{record_of, records_of}

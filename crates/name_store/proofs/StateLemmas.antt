@@ -4,9 +4,9 @@ use Rattle.std.proofs.lemmas.List.{append-nil}
 use Rattle.gate_journal.specs.Gate.{record_text}
 use Rattle.gate_journal.specs.Records.{records_text, image_front}
 use Rattle.gate_journal.proofs.RecordLemmas.{front-push}
-use Rattle.machine.specs.Chain.{Chain}
-use Rattle.machine.specs.Event.{Command, Connect, Disconnect}
-use Rattle.machine.specs.RunState.{RunState, chain_of, area_of, record_length, grown_by, accepted, after_commands, on_base, longest_area}
+use Rattle.chain_commands.specs.Chain.{Chain}
+use Rattle.chain_commands.specs.Event.{Command, Connect, Disconnect}
+use Rattle.chain_commands.specs.RunState.{RunState, chain_of, area_of, record_length, grown_by, accepted, after_commands, on_base, longest_area}
 use Rattle.name_store.specs.Commands.{record_of, records_of, gate_behind, IsAllowed, AreAllowed}
 use Rattle.name_store.specs.Stands.{Bytes, IsRunState, Stands}
 use Rattle.name_store.specs.Keeping.{HoldsRecords}

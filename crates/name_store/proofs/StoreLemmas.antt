@@ -13,11 +13,11 @@ use Rattle.gate_journal.specs.Gate.{ClosedAfter, record_text}
 use Rattle.gate_journal.specs.Records.{IsArea, records_text, image_front}
 use Rattle.gate_journal.proofs.RecordLemmas.{front-push}
 use Rattle.chain_state.specs.Chain.{Indexed}
-use Rattle.machine.specs.Standing as chains
-use Rattle.machine.proofs.ChainTips.{index_tip}
-use Rattle.machine.specs.Chain.{Chain}
-use Rattle.machine.specs.Event.{Command}
-use Rattle.machine.specs.RunState.{RunState, chain_of, area_of, accepted}
+use Rattle.name_store.specs.Standing as chains
+use Rattle.name_store.proofs.ChainTips.{index_tip}
+use Rattle.chain_commands.specs.Chain.{Chain}
+use Rattle.chain_commands.specs.Event.{Command}
+use Rattle.chain_commands.specs.RunState.{RunState, chain_of, area_of, accepted}
 use Rattle.name_store.specs.Header.{header_text}
 use Rattle.name_store.specs.Host.{IsHostOf}
 use Rattle.name_store.specs.Commands.{record_of, records_of}

@@ -4,11 +4,11 @@ use Rattle.std.specs.Prelude.{◌≡◌, ℕ, ◌<◌, ◌≤◌, List, [], ◌�
 use Rattle.nmc_base.specs.declared.limits.TheConstants.{LONGEST_BLOCK}
 use Rattle.gate_journal.specs.Gate.{IsRecordAt}
 use Rattle.gate_journal.specs.Records.{records_text, image_front}
-use Rattle.machine.specs.Chain.{Chain}
-use Rattle.machine.specs.Event.{Command, Connect, Disconnect}
-use Rattle.machine.specs.RunState.{after_commands}
-use Rattle.machine.specs.Connecting.{IsValid}
-use Rattle.machine.specs.Disconnecting.{IsValidBack}
+use Rattle.chain_commands.specs.Chain.{Chain}
+use Rattle.chain_commands.specs.Event.{Command, Connect, Disconnect}
+use Rattle.chain_commands.specs.RunState.{after_commands}
+use Rattle.chain_commands.specs.Connecting.{IsValid}
+use Rattle.chain_commands.specs.Disconnecting.{IsValidBack}
 
 -- a command's record: its kind, and the block or the hash
 abbrev pub record_of : Command → List ℕ

@@ -2,12 +2,12 @@
 use Rattle.std.specs.Prelude.{ℕ, ◌+◌, ◌<◌, List}
 use Rattle.disk_model.specs.Moments.{Files, EachMoment}
 use Rattle.disk_model.specs.DiskSeen.{DiskSeen, bytes_in}
-use Rattle.machine.specs.Costs.{IsCheapConnect}
-use Rattle.machine.specs.Views.{refusal_of}
+use Rattle.name_store.specs.Costs.{IsCheapConnect}
+use Rattle.name_store.specs.Views.{refusal_of}
 use Rattle.nmc_base.specs.declared.chain_ends.Tip.{Tip}
-use Rattle.machine.specs.Event.{Command, Connect}
-use Rattle.machine.specs.RunState.{RunState, chain_of, area_of, record_length, accepted}
-use Rattle.machine.specs.Connecting.{IsValid, Refuses, TakesMemory}
+use Rattle.chain_commands.specs.Event.{Command, Connect}
+use Rattle.chain_commands.specs.RunState.{RunState, chain_of, area_of, record_length, accepted}
+use Rattle.chain_commands.specs.Connecting.{IsValid, Refuses, TakesMemory}
 use Rattle.name_store.specs.declared.store.Outcome.{Outcome}
 use Rattle.name_store.specs.declared.store.Outcome.TheVariants.{Done, Refused, NoMemory, Faulted}
 use Rattle.name_store.specs.Stands.{Stands, EachStandsForEither}

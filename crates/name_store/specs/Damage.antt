@@ -4,9 +4,9 @@ use Rattle.std.specs.Prelude.{◌≡◌, ◌≢◌, ℕ, ◌<◌, ◌≤◌, Lis
 use Rattle.nmc_base.specs.Heights.{highest}
 use Rattle.gate_journal.specs.Gate.{IsOpen}
 use Rattle.gate_journal.specs.Records.{image_front}
-use Rattle.machine.specs.Chain.{Chain}
-use Rattle.machine.specs.Event.{Command}
-use Rattle.machine.specs.RunState.{on_base, longest_area}
+use Rattle.chain_commands.specs.Chain.{Chain}
+use Rattle.chain_commands.specs.Event.{Command}
+use Rattle.chain_commands.specs.RunState.{on_base, longest_area}
 use Rattle.name_store.specs.Header.{magic, magic_at, profile_at, height_at, HasHost, HasFields, IsInitialised, HasHeader, IsShut, selections_at, base_at}
 use Rattle.name_store.specs.Commands.{AreRead, IsNext, gate_behind}
 use Rattle.name_store.specs.Stands.{Bytes}

@@ -3,11 +3,11 @@ use Rattle.std.specs.Prelude.{ℕ, List}
 use Rattle.disk_model.specs.Moments.{Files, EachMoment}
 use Rattle.disk_model.specs.DiskSeen.{DiskSeen, bytes_in}
 use Rattle.chain_state.specs.Chain.{Indexed}
-use Rattle.machine.specs.Costs.{IsCheapDisconnect}
-use Rattle.machine.specs.Views.{back_refusal_of}
-use Rattle.machine.specs.Event.{Disconnect}
-use Rattle.machine.specs.RunState.{RunState, chain_of, accepted}
-use Rattle.machine.specs.Disconnecting.{IsValidBack, RefusesBack, TakesMemoryBack}
+use Rattle.name_store.specs.Costs.{IsCheapDisconnect}
+use Rattle.name_store.specs.Views.{back_refusal_of}
+use Rattle.chain_commands.specs.Event.{Disconnect}
+use Rattle.chain_commands.specs.RunState.{RunState, chain_of, accepted}
+use Rattle.chain_commands.specs.Disconnecting.{IsValidBack, RefusesBack, TakesMemoryBack}
 use Rattle.name_store.specs.declared.store.BackOutcome.{BackOutcome}
 use Rattle.name_store.specs.declared.store.BackOutcome.TheVariants.{Done, Refused, NoMemory, Faulted}
 use Rattle.name_store.specs.Stands.{Stands, EachStandsForEither}

@@ -1,3 +1,9 @@
+pub mod Views
+pub mod Standing
+pub mod Stages
+pub mod GivenUp
+pub mod StagesBack
+pub mod Costs
 pub mod Host
 pub mod Faults
 pub mod Spelling

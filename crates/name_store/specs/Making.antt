@@ -2,7 +2,7 @@
 use Rattle.std.specs.Prelude.{◌≡◌, ◌⊎◌, [], Result, Ok, Err, ⊤}
 use Rattle.disk_model.specs.FileState.{FileState, IsSettled}
 use Rattle.disk_model.specs.Moments.{Files, IsImage}
-use Rattle.machine.specs.RunState.{RunState}
+use Rattle.chain_commands.specs.RunState.{RunState}
 use Rattle.name_store.specs.declared.faults.CreateFault.{CreateFault}
 use Rattle.name_store.specs.declared.faults.CreateFault.TheVariants.{Initialised, DiskFault}
 use Rattle.name_store.specs.Header.{IsInitialised, IsUninitialised}

@@ -2,7 +2,7 @@
 use Rattle.std.specs.Prelude.{◌≡◌, Result, Ok, Err, ⊤}
 use Rattle.disk_model.specs.DiskSeen.{DiskSeen, bytes_in}
 use Rattle.disk_model.specs.Moments.{Files, IsImage}
-use Rattle.machine.specs.RunState.{RunState}
+use Rattle.chain_commands.specs.RunState.{RunState}
 use Rattle.name_store.specs.declared.faults.OpenFault.{OpenFault}
 use Rattle.name_store.specs.declared.faults.OpenFault.TheVariants.{Uninitialised, Damaged, DiskFault, NoMemory}
 use Rattle.name_store.specs.Header.{IsUninitialised}

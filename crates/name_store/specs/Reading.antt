@@ -3,11 +3,11 @@ use Rattle.std.specs.Prelude.{◌≡◌, ◌⊎◌, ℕ, ◌+◌, ◌-◌, ◌�
 use Rattle.std.specs.Int.{w32, to_le_bytes}
 use Rattle.nmc_base.specs.declared.chain_ends.Base.{Base}
 use Rattle.chain_state.specs.Chain.{Indexed}
-use Rattle.machine.specs.Standing as chains
+use Rattle.name_store.specs.Standing as chains
 use Rattle.gate_journal.specs.Stand.{Stand}
-use Rattle.machine.specs.Chain.{Chain}
-use Rattle.machine.specs.Event.{Command}
-use Rattle.machine.specs.RunState.{after_command, after_commands, grown_by, longest_area, on_base}
+use Rattle.chain_commands.specs.Chain.{Chain}
+use Rattle.chain_commands.specs.Event.{Command}
+use Rattle.chain_commands.specs.RunState.{after_command, after_commands, grown_by, longest_area, on_base}
 use Rattle.name_store.specs.declared.faults.OpenFault.{OpenFault}
 use Rattle.name_store.specs.declared.faults.OpenFault.TheVariants.{Uninitialised, Damaged, DiskFault, NoMemory}
 use Rattle.name_store.specs.declared.header.Header.{Header}

@@ -4,7 +4,7 @@ use Rattle.nmc_base.specs.declared.chain_ends.Base.{Base}
 use Rattle.disk_model.specs.Moments.{Files, IsImage}
 use Rattle.gate_journal.specs.Gate.{ClosedAfter}
 use Rattle.gate_journal.specs.Records.{IsArea}
-use Rattle.machine.specs.RunState.{RunState, on_base, area_of, longest_area, saved_text}
+use Rattle.chain_commands.specs.RunState.{RunState, on_base, area_of, longest_area, saved_text}
 use Rattle.name_store.specs.Header.{IsBegun, header_text}
 use Rattle.name_store.specs.Commands.{records_of, AreAllowed}
 

@@ -5,10 +5,10 @@ use Rattle.disk_model.specs.Moments.{Files}
 use Rattle.gate_journal.specs.Gate.{ClosedAfter}
 use Rattle.gate_journal.specs.Records.{IsArea, records_text, image_front}
 use Rattle.chain_state.specs.Chain.{Indexed}
-use Rattle.machine.specs.Standing as chains
+use Rattle.name_store.specs.Standing as chains
 use Rattle.nmc_base.specs.declared.chain_ends.Tip.{Tip}
-use Rattle.machine.specs.Chain.{Chain, height_of, tip_hash}
-use Rattle.machine.specs.RunState.{RunState, chain_of, area_of}
+use Rattle.chain_commands.specs.Chain.{Chain, height_of, tip_hash}
+use Rattle.chain_commands.specs.RunState.{RunState, chain_of, area_of}
 use Rattle.name_store.specs.Header.{header_text}
 use Rattle.name_store.specs.Host.{IsHostOf}
 use Rattle.name_store.specs.Stands.{IsRunState}

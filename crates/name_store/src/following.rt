@@ -2,8 +2,8 @@
 ghost use Rattle.std.specs.Prelude.{◌≡◌, ◌∷◌, length, Err};
 ghost use Rattle.name_store.specs.Reading.{FollowsRecord};
 
+use crate::staging::{stage_bytes, stage_hash};
 use chain_state::{BackOutcome, Chain, StageOutcome};
-use machine::{stage_bytes, stage_hash};
 use nmc_base::{Hash32, LONGEST_BLOCK, Steps};
 use std::alloc::Global;
 use std::sync::ledger::Ledger;

@@ -3,7 +3,7 @@ ghost use Rattle.std.specs.Prelude.{◌≡◌, ℕ, ◌+◌, ◌≤◌, ◌∷�
 ghost use Rattle.nmc_base.specs.declared.limits.TheConstants.{LONGEST_BLOCK};
 ghost use Rattle.disk_model.specs.FileState.{IsSettled};
 ghost use Rattle.disk_model.specs.DiskSeen.{file_in, bytes_in};
-ghost use Rattle.machine.specs.RunState.{longest_area};
+ghost use Rattle.chain_commands.specs.RunState.{longest_area};
 ghost use Rattle.name_store.specs.Damage.{area_file};
 ghost use Rattle.name_store.specs.Keeping.{HoldsRecords, Keeps};
 

@@ -1,5 +1,5 @@
 ghost use Rattle.std.specs.Prelude.{◌≡◌, ℕ};
-ghost use Rattle.machine.specs.RunState.{RunState};
+ghost use Rattle.chain_commands.specs.RunState.{RunState};
 ghost use Rattle.name_store.specs.Header.{IsUninitialised};
 ghost use Rattle.name_store.specs.Damage.{IsDamaged};
 ghost use Rattle.name_store.specs.Stands.{Bytes, Stands};

@@ -1,4 +1,5 @@
-//! The store: an index of names whose commands are kept in files that outlive a crash.
+//! The store: an index of names whose commands are kept in files that outlive a crash; and what stages or refuses the bytes of a
+//! block, or a hash, for every chain that the index stands for.
 #![tactic(auto)]
 
 mod area;
@@ -15,9 +16,11 @@ mod making;
 mod making_steps;
 mod opening;
 mod reading;
+mod staging;
 mod store;
 
 pub use faults::{CreateFault, OpenFault};
 pub use law::{one_damage, one_kind_of_files, one_run_state};
 pub use making::create;
+pub use staging::{CONNECT_RECORD, DISCONNECT_RECORD, stage_bytes, stage_hash};
 pub use store::{BackOutcome, Outcome, Store};

@@ -5,7 +5,7 @@ ghost use Rattle.disk_model.specs.Moments.{EachMoment};
 ghost use Rattle.disk_model.specs.Changes.{Unchanged};
 ghost use Rattle.disk_model.specs.DiskSeen.{bytes_in, file_in};
 ghost use Rattle.gate_journal.specs.Stand.{IsReadable};
-ghost use Rattle.machine.specs.RunState.{RunState};
+ghost use Rattle.chain_commands.specs.RunState.{RunState};
 ghost use Rattle.name_store.specs.Opening.{OpenAnswer, OpensFor, AddsNoImage, ReadsAlike};
 ghost use Rattle.name_store.specs.Stands.{Stands};
 ghost use Rattle.name_store.specs.Reading.{IsBegunBy, FollowsArea, IsInArea, first_gate};

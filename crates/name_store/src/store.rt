@@ -1,7 +1,7 @@
 ghost use Rattle.std.specs.Prelude.{◌≡◌, ◌≤◌, length, IsTrue};
 ghost use Rattle.fault_counts.specs.Faults.{NeverFell, Rose};
 ghost use Rattle.nmc_base.specs.declared.limits.TheConstants.{LONGEST_BLOCK};
-ghost use Rattle.machine.specs.RunState.{RunState, longest_area};
+ghost use Rattle.chain_commands.specs.RunState.{RunState, longest_area};
 ghost use Rattle.name_store.specs.Stored.{StandsFor, IsOn};
 ghost use Rattle.name_store.specs.declared.limits.TheConstants.{EMPTY_AREA};
 ghost use Rattle.name_store.specs.Connecting as connecting;
@@ -9,10 +9,10 @@ ghost use Rattle.name_store.specs.Disconnecting as disconnecting;
 
 use crate::keeping::{CONNECT, DISCONNECT, keep};
 use crate::limits::LONGEST_AREA;
+use crate::staging::{stage_bytes, stage_hash};
 use chain_state::{BackRefusal, Chain, Refusal, StageOutcome, StagedBack, StagedChain};
 use disk_model::Disk;
 use domain_text::Name;
-use machine::{stage_bytes, stage_hash};
 use nmc_base::{Hash32, Steps, Tip};
 use std::alloc::Global;
 use std::marker::Model;
@@ -29,7 +29,7 @@ pub struct Store {
 
 impl Model for Store {
     ghost use Rattle.std.specs.Prelude.{◌≤◌};
-    ghost use Rattle.machine.specs.RunState.{longest_area};
+    ghost use Rattle.chain_commands.specs.RunState.{longest_area};
     ghost use Rattle.name_store.specs.Stored.{Stored};
     ghost use Rattle.name_store.specs.declared.limits.TheConstants.{EMPTY_AREA};
 

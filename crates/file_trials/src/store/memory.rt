@@ -1,7 +1,7 @@
 //! The life of a store where memory is wanting: a store that is handed back gets the command again.
 
 ghost use Rattle.std.specs.Prelude.{◌≡◌, ◌<◌, IsTrue};
-ghost use Rattle.machine.specs.RunState.{RunState};
+ghost use Rattle.chain_commands.specs.RunState.{RunState};
 ghost use Rattle.name_store.specs.Stored.{StandsFor, IsOn};
 
 use super::first_block::{FIRST_BLOCK, FIRST_HASH};

@@ -1,6 +1,6 @@
 use Rattle.std.proofs.Common.{sym, ap, subst}
 use Rattle.frame_loop.specs.Turns.{GoesOn, GoesOut}
-use Rattle.machine.specs.Event.{frame_of}
+use Rattle.chain_commands.specs.Event.{frame_of}
 use Rattle.bridge_core.specs.Reached.{IsReady, Ready, Reached, Broken}
 use Rattle.bridge_core.specs.Views.{event_of}
 use Rattle.bridge_core.specs.declared.bridge.Turned.{Turned}

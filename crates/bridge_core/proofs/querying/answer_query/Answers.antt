@@ -1,9 +1,9 @@
 use Rattle.std.proofs.Common.{ℕ, List, Some, take, refl, sym, subst}
 use Rattle.chain_state.specs.Chain.{Indexed}
-use Rattle.machine.specs.Standing as chains
+use Rattle.name_store.specs.Standing as chains
 use Rattle.dns_message.specs.declared.numbers.TheConstants.{LEAST_LIMIT}
 use Rattle.bit_resolver.specs.Replies.{MayReply}
-use Rattle.machine.specs.RunState.{chain_of}
+use Rattle.chain_commands.specs.RunState.{chain_of}
 use Rattle.machine.specs.Querying.{served_on, zone_on}
 use Rattle.bridge_core.proofs.querying.answer_query.Goals as goal
 

@@ -1,5 +1,5 @@
 use Rattle.std.proofs.Common.{refl}
-use Rattle.machine.specs.Event.{Connect}
+use Rattle.chain_commands.specs.Event.{Connect}
 use Rattle.name_store.proofs.AllowedLemmas.{valid_at_all}
 use Rattle.name_store.proofs.following.follow_connect.Goals as goal
 

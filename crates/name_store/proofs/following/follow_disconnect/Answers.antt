@@ -1,5 +1,5 @@
 use Rattle.std.proofs.Common.{◌∷◌, List, ℕ, refl, ap, subst, length, arith}
-use Rattle.machine.specs.Event.{Disconnect}
+use Rattle.chain_commands.specs.Event.{Disconnect}
 use Rattle.name_store.specs.Reading.{Follows}
 use Rattle.name_store.proofs.AllowedLemmas.{valid_back_at_all}
 use Rattle.name_store.proofs.following.follow_disconnect.Goals as goal

@@ -2,7 +2,7 @@ use Rattle.std.proofs.Common.{[], refl, ap}
 use Rattle.disk_model.specs.Moments.{start}
 use Rattle.disk_model.specs.DiskSeen.{bytes_in}
 use Rattle.chain_state.proofs.StandingLemmas.{base_stands}
-use Rattle.machine.specs.RunState.{on_base}
+use Rattle.chain_commands.specs.RunState.{on_base}
 use Rattle.gate_journal.specs.Stand.{Stand}
 use Rattle.name_store.proofs.ReadingLemmas.{none_read}
 use Rattle.name_store.proofs.opening.follow_area.Goals as goal

@@ -1,12 +1,12 @@
 use Rattle.std.proofs.Common.{◌-◌}
-use Rattle.machine.specs.RunState.{longest_area}
+use Rattle.chain_commands.specs.RunState.{longest_area}
 use Rattle.std.specs.Prelude.{IsTrue}
 use Rattle.fault_counts.specs.Faults.{NeverFell}
 use Rattle.disk_model.specs.Moments.{EachMoment}
 use Rattle.disk_model.specs.Changes.{Unchanged}
 use Rattle.disk_model.specs.DiskSeen.{file_in, bytes_in}
 use Rattle.gate_journal.specs.Stand.{IsReadable}
-use Rattle.machine.specs.Chain.{Chain}
+use Rattle.chain_commands.specs.Chain.{Chain}
 use Rattle.name_store.specs.Reading.{HasFollowed, IsInArea}
 use Rattle.name_store.proofs.reading.read_all.Given as goal
 

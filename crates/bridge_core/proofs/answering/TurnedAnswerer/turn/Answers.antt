@@ -3,7 +3,7 @@ use Rattle.fault_counts.proofs.FaultLemmas.{NeverFell_refl}
 use Rattle.feed_frames.specs.Frames.{Frame}
 use Rattle.feed_frames.specs.Front as feed
 use Rattle.frame_loop.specs.Turns.{GoesOn, Turns}
-use Rattle.machine.specs.Event.{Ask, frame_of}
+use Rattle.chain_commands.specs.Event.{Ask, frame_of}
 use Rattle.bridge_core.specs.Reached.{IsReady, Ready, Reached, Broken}
 use Rattle.bridge_core.specs.Views.{event_of}
 use Rattle.bridge_core.specs.declared.event.Event.{Event}

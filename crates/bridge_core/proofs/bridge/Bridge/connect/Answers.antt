@@ -1,7 +1,7 @@
 use Rattle.std.proofs.Common.{sym, ap, subst}
 use Rattle.feed_frames.specs.Replies.{Reply}
-use Rattle.machine.specs.Event.{Connect, Do}
-use Rattle.machine.specs.Views.{refusal_of}
+use Rattle.chain_commands.specs.Event.{Connect, Do}
+use Rattle.name_store.specs.Views.{refusal_of}
 use Rattle.name_store.specs.Stored.{Stored, StandsFor}
 use Rattle.bridge_core.specs.Bridge.{Turns}
 use Rattle.bridge_core.specs.declared.bridge.Turned.TheVariants.{On}

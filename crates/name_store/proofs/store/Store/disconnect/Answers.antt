@@ -1,5 +1,5 @@
 use Rattle.std.proofs.Common.{rules, ◌≡◌, ◌+◌, length, refl, sym, subst, arith}
-use Rattle.machine.specs.RunState.{longest_area}
+use Rattle.chain_commands.specs.RunState.{longest_area}
 use Rattle.name_store.specs.Stored.{Stored, StandsFor, IsOn}
 use Rattle.name_store.specs.Disconnecting.{Disconnects}
 use Rattle.name_store.specs.declared.store.BackOutcome.TheVariants.{Done}

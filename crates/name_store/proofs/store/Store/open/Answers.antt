@@ -6,7 +6,7 @@ use Rattle.name_store.specs.Damage.{HasNoImage}
 use Rattle.std.proofs.Common.{[]}
 use Rattle.disk_model.specs.DiskSeen.{bytes_in}
 use Rattle.nmc_base.specs.declared.chain_ends.Base.{Base}
-use Rattle.machine.specs.RunState.{on_base}
+use Rattle.chain_commands.specs.RunState.{on_base}
 use Rattle.std.proofs.Common.{Err}
 use Rattle.std.proofs.lemmas.Result.{err_from_is_err_and}
 use Rattle.name_store.specs.Header.{base_at, HasHeader}

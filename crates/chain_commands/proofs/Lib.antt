@@ -1,0 +1,4 @@
+pub mod RefusalLemmas
+pub mod CommandLemmas
+pub mod ConnectRefusals
+pub mod DisconnectRefusals

@@ -1,0 +1,33 @@
+use Rattle.std.proofs.Common.{◌≡◌, refl, ap, arith, inl, inr}
+use Rattle.feed_frames.specs.Frames.{Frame, IsFramed}
+use Rattle.chain_commands.specs.Event.{Event, Connect, Disconnect, Do, Ask, frame_of}
+use Rattle.chain_commands.proofs.laws.one_event.Goals as goal
+
+some_event : (frame : Frame) → IsFramed frame → (event : Event) × (frame_of event ≡ frame)
+some_event frame (inl h) = (Do (Connect frame.payload), rw h.of_kind refl)
+some_event frame (inr (inl h)) = (Do (Disconnect frame.payload), rw h.of_kind refl)
+some_event frame (inr (inr (inl h))) = (Ask frame.payload, rw h.of_kind refl)
+some_event frame (inr (inr (inr h))) = absurd h
+
+payload_of : (a b : Frame) → a ≡ b → a.payload ≡ b.payload
+payload_of a b e = ap (λ (f : Frame). f.payload) e
+
+kind_of : (a b : Frame) → a ≡ b → a.kind ≡ b.kind
+kind_of a b e = ap (λ (f : Frame). f.kind) e
+
+same_event : (a b : Event) → frame_of a ≡ frame_of b → a ≡ b
+same_event (Do (Connect a)) (Do (Connect b)) e = ap (λ block. Do (Connect block)) (payload_of _ _ e)
+same_event (Do (Disconnect a)) (Do (Disconnect b)) e = ap (λ hash. Do (Disconnect hash)) (payload_of _ _ e)
+same_event (Ask a) (Ask b) e = ap Ask (payload_of _ _ e)
+same_event (Do (Connect a)) (Ask b) e = let kinds = kind_of _ _ e in absurd (omega (arith, kinds))
+same_event (Do (Disconnect a)) (Ask b) e = let kinds = kind_of _ _ e in absurd (omega (arith, kinds))
+same_event (Ask a) (Do (Connect b)) e = let kinds = kind_of _ _ e in absurd (omega (arith, kinds))
+same_event (Ask a) (Do (Disconnect b)) e = let kinds = kind_of _ _ e in absurd (omega (arith, kinds))
+same_event (Do (Connect a)) (Do (Disconnect b)) e = let kinds = kind_of _ _ e in absurd (omega (arith, kinds))
+same_event (Do (Disconnect a)) (Do (Connect b)) e = let kinds = kind_of _ _ e in absurd (omega (arith, kinds))
+
+pub returns-clause-some : goal.returns-clause-some
+returns-clause-some c = some_event
+
+pub returns-clause-one : goal.returns-clause-one
+returns-clause-one c = same_event

@@ -1,0 +1,80 @@
+-- What the index says of the disconnect of a hash is so on each chain that it stands for.
+use Rattle.std.proofs.Common.{◌≢◌, ℕ, List, [], ◌∷◌, drop, refl, sym, ◌∙◌}
+use Rattle.nmc_base.specs.declared.hashes.Hash32.{Hash32}
+use Rattle.chain_state.specs.Chain.{Indexed, SameIndex}
+use Rattle.chain_state.specs.StageBack.{IsStagedBackOn, IsBackRefusal, IsDisconnected}
+use Rattle.chain_state.specs.declared.back.BackRefusal.{BackRefusal}
+use Rattle.chain_state.specs.declared.back.BackRefusal.TheVariants.{AtBase, NotTip, JournalFull}
+use Rattle.chain_state.specs.Standing.{StandsForChain}
+use Rattle.chain_state.specs.Refusals.{RefusesDisconnect, MayDisconnect}
+use Rattle.chain_commands.specs.Chain.{Chain}
+use Rattle.chain_commands.specs.Disconnecting.{RefusesBack}
+use Rattle.name_store.specs.Standing.{StandsFor}
+use Rattle.name_store.specs.Views.{back_refusal_of}
+use Rattle.name_store.specs.StagesBack.{IsFullBack, IsStagedBackFor, IsRefusedBackFor, LacksMemoryBackFor}
+use Rattle.name_store.proofs.ChainTips.{chain_tip}
+use Rattle.chain_commands.proofs.DisconnectRefusals.{IsOwnTip, at_base_refused, not_tip_refused, memory_taken, full_refused, is_valid_back}
+use Rattle.chain_state.proofs.StandingLemmas.{same_stands, same_after, disconnects}
+use Rattle.chain_state.proofs.RefusalLemmas.{back_by_chain, may_disconnect}
+
+-- an index that stands for a chain, the hash whose block is to go, and the length of the journal's area with the most that it may have
+pub record StagingBack : Type 0 where
+  pub area : ℕ
+  pub most : ℕ
+  pub index : Indexed
+  pub chain : Chain
+  pub hash : Hash32
+  pub stands : StandsFor index chain
+
+module _ (g : StagingBack) where
+  abbrev IsFull : Type 0
+  IsFull = IsFullBack g.area g.most g.hash.0
+
+  refuses : (refusal : BackRefusal) → RefusesDisconnect g.chain.base g.chain.blocks g.hash refusal → RefusesBack IsFull g.chain g.hash.0 (back_refusal_of refusal)
+  refuses AtBase h = at_base_refused IsFull g.chain g.hash.0 h
+  refuses (NotTip tip) h =
+      not_tip_refused IsFull g.chain g.hash.0 h.0 tip.0 (λ e. h.1 (e ∙ sym (chain_tip g.index g.chain g.stands))) (h.2 ∙ chain_tip g.index g.chain g.stands)
+  refuses JournalFull h = absurd h
+
+  own_tip : MayDisconnect g.chain.base g.chain.blocks g.hash → IsOwnTip g.chain g.hash.0
+  own_tip may = record { some = may.some; own = may.hash_is ∙ chain_tip g.index g.chain g.stands }
+
+  stays : (same : Indexed) → SameIndex same g.index → StandsFor same g.chain
+  stays same alike = same_stands g.chain.base g.chain.start g.chain.blocks g.index same g.stands alike
+
+  pub refused : (same : Indexed) (refusal : BackRefusal) → SameIndex same g.index → IsBackRefusal g.index g.hash refusal → IsRefusedBackFor g.area g.most g.chain g.hash.0 refusal same
+  refused same refusal alike h = record {
+    refuses = refuses refusal (back_by_chain g.chain.base g.chain.start g.chain.blocks g.index g.stands g.hash refusal h);
+    stands = stays same alike;
+  }
+
+  pub lacking : (same : Indexed) → SameIndex same g.index → MayDisconnect g.chain.base g.chain.blocks g.hash → LacksMemoryBackFor g.area g.most g.chain g.hash.0 same
+  lacking same alike may = record {
+    takes_memory = memory_taken IsFull g.chain g.hash.0 (own_tip may);
+    stands = stays same alike;
+  }
+
+  module _ (staged : Indexed) (on : IsStagedBackOn g.index g.hash staged) where
+    may : MayDisconnect g.chain.base g.chain.blocks g.hash
+    may = may_disconnect g.chain.base g.chain.start g.chain.blocks g.index g.stands g.hash staged on
+
+    stands_below : (blocks : List (List ℕ)) → blocks ≢ [] → StandsForChain g.chain.base g.chain.start blocks g.index → (new : Indexed) → IsDisconnected staged new
+        → StandsForChain g.chain.base g.chain.start (drop 1 blocks) new
+    stands_below [] some t new gone = absurd (some refl)
+    stands_below (block ∷ blocks) some t new gone = disconnects g.index staged new g.hash on gone g.chain.base g.chain.start block blocks t
+
+    abandoned : (same : Indexed) → SameIndex same staged → StandsFor same g.chain
+    abandoned same alike = stays same (same_after same staged g.index alike on.same)
+
+    pub staged_for : (IsFull → ⊥) → IsStagedBackFor g.area g.most g.chain g.hash.0 staged
+    staged_for fits = record {
+      valid = is_valid_back IsFull g.chain g.hash.0 (own_tip may) fits;
+      commits = stands_below g.chain.blocks may.some g.stands;
+      abandons = abandoned;
+    }
+
+    pub full_for : (same : Indexed) → SameIndex same staged → IsFull → IsRefusedBackFor g.area g.most g.chain g.hash.0 JournalFull same
+    full_for same alike full = record {
+      refuses = full_refused IsFull g.chain g.hash.0 (own_tip may) full;
+      stands = abandoned same alike;
+    }

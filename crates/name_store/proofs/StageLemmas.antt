@@ -1,0 +1,126 @@
+-- What the index says of a block's bytes is so on each chain that it stands for.
+use Rattle.std.proofs.Common.{◌≡◌, ℕ, ◌<◌, ◌≤◌, List, length, sym, ◌∙◌, arith}
+use Rattle.block_grammar.specs.Block.{Block, IsBlock}
+use Rattle.block_grammar.specs.Fault.{IsFaultPlace}
+use Rattle.nmc_base.specs.Heights.{highest}
+use Rattle.nmc_base.specs.declared.limits.TheConstants.{LONGEST_BLOCK}
+use Rattle.chain_state.specs.Chain.{Indexed, SameIndex, StagedIndex, IsStagedOn, IsAbandoned}
+use Rattle.chain_state.specs.Stage.{IsRefusal, Stages}
+use Rattle.chain_state.specs.declared.stage.Refusal.{Refusal}
+use Rattle.chain_state.specs.declared.stage.Refusal.TheVariants.{BadBlock, NotOnTip, HeightLimit, MerkleMismatch, Rule, JournalFull}
+use Rattle.chain_state.specs.declared.stage.StageOutcome.{StageOutcome}
+use Rattle.chain_state.specs.declared.stage.StageOutcome.TheVariants.{Staged, Refused, NoMemory}
+use Rattle.chain_state.specs.Standing.{hash_of, IsValidOn}
+use Rattle.chain_state.specs.Refusals.{RefusesConnect}
+use Rattle.chain_commands.specs.Chain.{Chain}
+use Rattle.chain_commands.specs.Connecting.{IsValid, Refuses}
+use Rattle.name_store.specs.Standing.{StandsFor}
+use Rattle.name_store.specs.Views.{refusal_of}
+use Rattle.name_store.specs.Stages.{IsFullFor, IsStagedFor, IsRefusedFor, LacksMemoryFor, StagesFor}
+use Rattle.name_store.specs.GivenUp.{GivesUp}
+use Rattle.name_store.proofs.ChainTips.{chain_tip, index_tip, rule_of_bytes}
+use Rattle.chain_commands.proofs.ConnectRefusals.{IsOnTip, IsUnbroken, no_block_refused, off_tip_refused, too_high, memory_taken, root_refused, rule_broken, full_refused, is_valid}
+use Rattle.chain_state.proofs.StandingLemmas.{same_stands, valid_next, connects, abandoned_same, own_queue}
+use Rattle.chain_state.proofs.RefusalLemmas.{refuses_by_chain}
+
+-- an index that stands for a chain, the bytes of a block on it, and the length of the journal's area with the most that it may have
+pub record Staging : Type 0 where
+  pub area : ℕ
+  pub most : ℕ
+  pub index : Indexed
+  pub chain : Chain
+  pub bytes : List ℕ
+  pub stands : StandsFor index chain
+
+-- the bytes are a block
+pub record HasBlock (g : Staging) : Type 0 where
+  pub block : Block
+  pub is_block : IsBlock g.bytes block
+  pub short : length g.bytes ≤ LONGEST_BLOCK
+
+module _ (g : Staging) where
+  abbrev IsFull : Type 0
+  IsFull = IsFullFor g.area g.most g.bytes
+
+  -- ---- a valid block
+
+  module _ (v : IsValidOn g.chain.base g.chain.start g.chain.blocks g.bytes) where
+    unbroken : IsUnbroken g.chain g.bytes v.block
+    unbroken = record {
+      rooted = record { on = record { there = record { is_block = v.is_block; on_tip = v.on_tip ∙ chain_tip g.index g.chain g.stands }; low = v.low }; root = v.root };
+      none = sym (rule_of_bytes g.chain g.bytes v.block v.is_block) ∙ v.unrefused;
+    }
+
+    valid_staged : (IsFull → ⊥) → IsValid IsFull g.chain g.bytes
+    valid_staged fits = is_valid IsFull g.chain g.bytes v.block unbroken fits
+
+    full_journal : IsFull → Refuses IsFull g.chain g.bytes (refusal_of JournalFull)
+    full_journal full = full_refused IsFull g.chain g.bytes v.block unbroken full
+
+  -- ---- bytes that are no block
+
+  pub no_block : (place : ℕ) → IsFaultPlace g.bytes place → IsRefusedFor g.area g.most g.chain g.bytes (BadBlock place) g.index
+  no_block place h = record { refuses = no_block_refused IsFull g.chain g.bytes place h; stands = g.stands }
+
+  module _ (k : HasBlock g) where
+    there : k.block.header.fields.previous ≡ hash_of g.chain.base g.chain.blocks → IsOnTip g.chain g.bytes k.block
+    there on = record { is_block = k.is_block; on_tip = on ∙ chain_tip g.index g.chain g.stands }
+
+    refuses : (refusal : Refusal) → RefusesConnect g.chain.base g.chain.start g.chain.blocks g.bytes k.block refusal → Refuses IsFull g.chain g.bytes (refusal_of refusal)
+    refuses (BadBlock at) h = absurd h
+    refuses (NotOnTip tip) h = off_tip_refused IsFull g.chain g.bytes k.block k.is_block tip.0 (h.1 ∙ chain_tip g.index g.chain g.stands) (λ e. h.0 (e ∙ h.1))
+    refuses HeightLimit h = too_high IsFull g.chain g.bytes k.block (there h.0) h.1
+    refuses (MerkleMismatch computed) h = root_refused IsFull g.chain g.bytes k.block (record { there = there h.0; low = h.1 }) computed.0 h.3 h.2
+    refuses (Rule index refusal) h =
+        rule_broken IsFull g.chain g.bytes k.block (record { on = record { there = there h.0; low = h.1 }; root = h.2 })
+        index refusal (sym (rule_of_bytes g.chain g.bytes k.block k.is_block) ∙ h.3)
+    refuses JournalFull h = absurd h
+
+    stays : (same : Indexed) → SameIndex same g.index → StandsFor same g.chain
+    stays same alike = same_stands g.chain.base g.chain.start g.chain.blocks g.index same g.stands alike
+
+    pub refused : (same : Indexed) (refusal : Refusal) → SameIndex same g.index → IsRefusal g.index k.block refusal → IsRefusedFor g.area g.most g.chain g.bytes refusal same
+    refused same refusal alike h = record {
+      refuses = refuses refusal (refuses_by_chain g.chain.base g.chain.start g.chain.blocks g.index g.stands g.bytes k.block k.is_block refusal h);
+      stands = stays same alike;
+    }
+
+    pub lacking : (same : Indexed) → SameIndex same g.index → k.block.header.fields.previous ≡ g.index.tip.hash.0 → g.index.tip.height < highest → LacksMemoryFor g.area g.most g.chain g.bytes same
+    lacking same alike on low = record {
+      takes_memory = memory_taken IsFull g.chain g.bytes k.block
+          (record { there = record { is_block = k.is_block; on_tip = on ∙ index_tip g.index g.chain g.stands }; low = omega (arith, low, g.stands.height) });
+      stands = stays same alike;
+    }
+
+    module _ (staged : StagedIndex) (on : IsStagedOn g.index k.block staged) where
+      valid_on : IsValidOn g.chain.base g.chain.start g.chain.blocks g.bytes
+      valid_on = valid_next g.chain.base g.chain.start g.chain.blocks g.index g.stands g.bytes k.block k.is_block staged on k.short
+
+      abandoned_stands : (same : Indexed) → IsAbandoned staged same → StandsFor same g.chain
+      abandoned_stands same abandoned =
+          stays same (abandoned_same g.index same k.block staged (own_queue g.chain.base g.chain.start g.chain.blocks g.index g.stands) on abandoned)
+
+      pub staged_for : (IsFull → ⊥) → IsStagedFor g.area g.most g.chain g.bytes staged
+      staged_for fits = record {
+        valid = valid_staged valid_on fits;
+        commits = λ new connected. connects g.chain.base g.chain.start g.chain.blocks g.index g.stands g.bytes k.block k.is_block staged on k.short new connected;
+        abandons = abandoned_stands;
+      }
+
+      pub full_for : (same : Indexed) → IsAbandoned staged same → IsFull → IsRefusedFor g.area g.most g.chain g.bytes JournalFull same
+      full_for same abandoned full = record {
+        refuses = full_journal valid_on full;
+        stands = abandoned_stands same abandoned;
+      }
+
+    -- ---- each outcome, with room in the area and without
+
+    pub with_room : (outcome : StageOutcome) → Stages g.index k.block outcome → (IsFull → ⊥) → StagesFor g.area g.most g.chain g.bytes outcome
+    with_room (Staged s) on fits = staged_for s on fits
+    with_room (Refused same refusal) h fits = refused same refusal h.0 h.1
+    with_room (NoMemory same) h fits = lacking same h.0 h.1 h.2
+
+    pub without_room : (outcome result : StageOutcome) → Stages g.index k.block outcome → GivesUp outcome result → IsFull → StagesFor g.area g.most g.chain g.bytes result
+    without_room (Staged s) result on gone full = rw gone.is (full_for s on gone.same gone.abandoned full)
+    without_room (Refused same refusal) result h gone full = rw gone (refused same refusal h.0 h.1)
+    without_room (NoMemory same) result h gone full = rw gone (lacking same h.0 h.1 h.2)
