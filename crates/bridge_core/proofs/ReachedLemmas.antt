@@ -1,264 +1,265 @@
--- Where a turn leads from what was reached.
-use Rattle.std.proofs.Common.{◌≡◌, ◌≢◌, inl, inr, ℕ, Bool, true, false, eqb, List, [], ◌∷◌, ◌++◌, length, take, map, refl, sym, ap, subst, ◌∙◌, arith, eq-eqb}
-use Rattle.std.specs.Prelude.{IsTrue, ◌==◌, if◌then◌else◌}
-use Rattle.std.proofs.lemmas.Bool.{cases_lt, cases_eq, ne_eqb}
-use Rattle.std.proofs.lemmas.List.{append-nil, take_all, take-append-le}
-use Rattle.fault_counts.specs.Faults.{NeverFell, Rose}
-use Rattle.fault_counts.proofs.FaultLemmas.{NeverFell_trans}
-use Rattle.disk_model.specs.Moments.{Files}
-use Rattle.disk_model.specs.DiskSeen.{DiskSeen}
-use Rattle.disk_model.proofs.MomentLemmas.{weaken, join, last_moment}
+-- A run goes on by one turn, or a fault of the disk ends it.
+use Rattle.std.proofs.Common.{◌≡◌, ◌⊎◌, inl, inr, true, false, eqb, ◌==◌, if◌then◌else◌, ℕ, ◌+◌, ◌≤◌, Bool, List, [], ◌∷◌, ◌++◌, length, map, Some, None, Option, refl, sym, ap, subst, ◌∙◌, append_assoc, length-append, arith}
+use Rattle.std.specs.Prelude.{IsTrue}
+use Rattle.std.proofs.lemmas.List.{append-nil}
+use Rattle.std.proofs.lemmas.Bool.{cases_eq, eq-eqb, ne_eqb}
+use Rattle.fault_counts.specs.Faults.{NeverFell}
+use Rattle.fault_counts.proofs.FaultLemmas.{NeverFell_trans, stayed_then_Rose}
+use Rattle.disk_model.specs.Moments.{Files, EachMoment, start, IsImage}
+use Rattle.disk_model.specs.DiskSeen.{DiskSeen, HasFailed}
+use Rattle.disk_model.proofs.MomentLemmas.{last_moment, weaken, join}
 use Rattle.feed_frames.specs.Frames.{Frame}
 use Rattle.feed_frames.specs.Replies.{Reply}
 use Rattle.chain_commands.specs.Event.{Command, Event, Do, Ask, frame_of}
 use Rattle.chain_commands.specs.RunState.{RunState, accepted, all_accepted}
-use Rattle.machine.specs.Step.{Step, Run}
 use Rattle.chain_commands.specs.Surviving.{accepted_of}
+use Rattle.machine.specs.Step.{Step, Run}
 use Rattle.machine.proofs.RunLemmas.{run_push, run_state}
-use Rattle.name_store.specs.Stands.{Stands, EachStandsForEither}
-use Rattle.name_store.specs.Stored.{Stored, StandsFor}
-use Rattle.bridge_core.specs.Bridge.{Turns, TellsFault, KeepsOn, AreFilesOf, IfEnded, fault_code}
-use Rattle.bridge_core.specs.Reached.{Beginning, LeavesFront, EachLeavesFront, IsReached, IsBroken}
-use Rattle.bridge_core.specs.declared.bridge.Turned.{Turned}
+use Rattle.name_store.specs.Stands.{Bytes, Stands, EachStandsForEither}
+use Rattle.name_store.specs.Stored.{Stored}
+use Rattle.bridge_core.specs.Bridge.{fault_reply, accepted_by, AreFilesOf, OutlivesCrashes, LeavesDisk}
+use Rattle.bridge_core.specs.Reached.{Beginning, Begins, AnswersEvent, Passes, none_yet, one_more, StandsForFront, StandsForAsked, Asked, asked, IsKept, LeavesFront, LeavesOldOrFront, HoldsAnswered, LeadsTo, IsReached, BreaksAt, IsBroken}
 use Rattle.bridge_core.specs.declared.bridge.Turned.TheVariants.{On, Ended}
 
-frames_push : (events : List Event) (event : Event) → map frame_of events ++ frame_of event ∷ [] ≡ map frame_of (events ++ event ∷ [])
+pub frames_push : (events : List Event) (event : Event) → map frame_of events ++ frame_of event ∷ [] ≡ map frame_of (events ++ event ∷ [])
 frames_push [] event = refl
 frames_push (e ∷ events) event = ap (λ (fs : List Frame). frame_of e ∷ fs) (frames_push events event)
 
--- ---- the accepted commands
+-- ---- what images stand for
 
--- the command, where the reply accepts it
-abbrev if_accepted : Command → Reply → List Command
-if_accepted command_is reply = if reply.code == 0 then command_is ∷ [] else []
+module _ (run : RunState) where
+  -- the run state behind all events
+  pub front_of_all : {events : List Event} {replies : List Reply} {reached : RunState} {image_is : Bytes} (least : ℕ)
+      → least ≤ length events → Run run events replies reached → Stands image_is reached → StandsForFront run least events replies image_is
+  front_of_all {events} {replies} {reached} least no_fewer runs stands = record {
+    front = events;
+    more = [];
+    answered = replies;
+    others = [];
+    events_are = sym (append-nil events);
+    replies_are = sym (append-nil replies);
+    no_fewer = no_fewer;
+    reached = reached;
+    runs = runs;
+    stands = stands;
+  }
 
-accepted_push : (old new : RunState) (events : List Event) (replies : List Reply) (last : Command) (reply : Reply) → Run old events replies new
-    → accepted_of (events ++ Do last ∷ []) (replies ++ reply ∷ []) ≡ accepted_of events replies ++ if_accepted last reply
-accepted_push old new [] [] last reply run = refl
-accepted_push old new [] (r ∷ replies) last reply run = absurd run
-accepted_push old new (e ∷ events) [] last reply run = absurd run
-accepted_push old new (Do first ∷ events) (r ∷ replies) last reply run =
-    let more = accepted_push run.0 new events replies last reply run.2 in
-    elim (eqb r.code 0) as (λ b. (if b then first ∷ accepted_of (events ++ Do last ∷ []) (replies ++ reply ∷ []) else accepted_of (events ++ Do last ∷ []) (replies ++ reply ∷ []))
-    ≡ (if b then first ∷ accepted_of events replies else accepted_of events replies) ++ if_accepted last reply) [
-      | true ↦ ap (λ (l : List Command). first ∷ l) more
-      | false ↦ more
-    ]
-accepted_push old new (Ask message ∷ events) (r ∷ replies) last reply run = accepted_push run.0 new events replies last reply run.2
+  -- a front is one with more events behind it
+  pub front_more : {least : ℕ} {events : List Event} {replies : List Reply} {image_is : Bytes} (event : Event) (reply : Reply)
+      → StandsForFront run least events replies image_is → StandsForFront run least (events ++ event ∷ []) (replies ++ reply ∷ []) image_is
+  front_more event reply f = record {
+    front = f.front;
+    more = f.more ++ event ∷ [];
+    answered = f.answered;
+    others = f.others ++ reply ∷ [];
+    events_are = ap (λ (es : List Event). es ++ event ∷ []) f.events_are ∙ append_assoc f.front f.more (event ∷ []);
+    replies_are = ap (λ (rs : List Reply). rs ++ reply ∷ []) f.replies_are ∙ append_assoc f.answered f.others (reply ∷ []);
+    no_fewer = f.no_fewer;
+    reached = f.reached;
+    runs = f.runs;
+    stands = f.stands;
+  }
 
--- a query joins nothing
-accepted_asked : (old new : RunState) (events : List Event) (replies : List Reply) (message : List ℕ) (reply : Reply) → Run old events replies new
-    → accepted_of (events ++ Ask message ∷ []) (replies ++ reply ∷ []) ≡ accepted_of events replies
-accepted_asked old new [] [] message reply run = refl
-accepted_asked old new [] (r ∷ replies) message reply run = absurd run
-accepted_asked old new (e ∷ events) [] message reply run = absurd run
-accepted_asked old new (Do first ∷ events) (r ∷ replies) message reply run =
-    ap (λ (l : List Command). if r.code == 0 then first ∷ l else l) (accepted_asked run.0 new events replies message reply run.2)
-accepted_asked old new (Ask other ∷ events) (r ∷ replies) message reply run = accepted_asked run.0 new events replies message reply run.2
+  -- and one of fewer
+  front_fewer : {least events_least : ℕ} {events : List Event} {replies : List Reply} {image_is : Bytes} → least ≤ events_least
+      → StandsForFront run events_least events replies image_is → StandsForFront run least events replies image_is
+  front_fewer fewer f = record {
+    front = f.front;
+    more = f.more;
+    answered = f.answered;
+    others = f.others;
+    events_are = f.events_are;
+    replies_are = f.replies_are;
+    no_fewer = omega (arith, fewer, f.no_fewer);
+    reached = f.reached;
+    runs = f.runs;
+    stands = f.stands;
+  }
 
-all_push : (old : RunState) (commands : List Command) (last : Command) → all_accepted old (commands ++ last ∷ []) ≡ accepted (all_accepted old commands) last
-all_push old [] last = refl
-all_push old (c ∷ commands) last = all_push (accepted old c) commands last
+  pub leaves_fewer : {least most : ℕ} {so_far : Asked} → least ≤ most → (files : Files) → LeavesFront run most so_far files → LeavesFront run least so_far files
+  leaves_fewer fewer files leaves = λ image_is is. elim (leaves image_is is) [ inl f ↦ inl (front_fewer fewer f) | inr kept ↦ inr kept ]
 
--- ---- what crashes leave
+  -- what stands for a front of these events stands for one of more
+  pub leaves_more : {least : ℕ} {events : List Event} {replies : List Reply} (event : Event) (reply : Reply) (files : Files)
+      → LeavesFront run least (asked events replies None) files → LeavesFront run least (asked (events ++ event ∷ []) (replies ++ reply ∷ []) None) files
+  leaves_more event reply files leaves = λ image_is is. elim (leaves image_is is) [ inl f ↦ inl (front_more event reply f) | inr none ↦ absurd none ]
 
-take_front : (commands more : List Command) → take (length commands) (commands ++ more) ≡ commands
-take_front commands more = take-append-le (length commands) commands more (omega arith) ∙ take_all (length commands) commands (omega arith)
+  pub leaves_kept : {least : ℕ} {events : List Event} {replies : List Reply} (kept : Option RunState) (files : Files)
+      → LeavesFront run least (asked events replies None) files → LeavesFront run least (asked events replies kept) files
+  leaves_kept kept files leaves = λ image_is is. elim (leaves image_is is) [ inl f ↦ inl f | inr none ↦ absurd none ]
 
-take_whole : (commands : List Command) → take (length commands) commands ≡ commands
-take_whole commands = take_all (length commands) commands (omega arith)
-
-front_more : (commands more : List Command) (count : ℕ) → (n : ℕ) × (take n (commands ++ more) ≡ take count commands)
-front_more commands more count = elim (cases_lt (length commands) count) [
-  | inl above ↦ (length commands, take_front commands more ∙ sym (take_all count commands (omega arith)))
-  | inr below ↦ (count, take-append-le count commands more (omega arith))
-]
-
--- commands more leave what fewer left
-leaves_more : (start : Beginning) (commands more : List Command) (files : Files) → LeavesFront start commands files → LeavesFront start (commands ++ more) files
-leaves_more start commands more files leaves = λ image_is is. elim (leaves image_is is) [
-  | inl there ↦ inl there
-  | inr front ↦ let n = front_more commands more front.count in
-      inr (record { count = n.0; stands = subst (λ (l : List Command). Stands image_is (all_accepted start.run l)) (sym n.1) front.stands })
-]
-
--- the run state behind the commands, or with one more
-leaves_either : (start : Beginning) (run : RunState) (commands : List Command) (last : Command) → run ≡ all_accepted start.run commands → (files : Files)
-    → EachStandsForEither run (accepted run last) files → LeavesFront start (commands ++ last ∷ []) files
-leaves_either start run commands last run-is files each = λ image_is is. elim (each image_is is) [
-  | inl before ↦ inr (record {
-    count = length commands;
-    stands = subst (λ (l : List Command). Stands image_is (all_accepted start.run l)) (sym (take_front commands (last ∷ []))) (subst (λ (r : RunState). Stands image_is r) run-is before);
-  })
-  | inr with_it ↦ inr (record {
-    count = length (commands ++ last ∷ []);
-    stands = subst (λ (l : List Command). Stands image_is (all_accepted start.run l)) (sym (take_whole (commands ++ last ∷ [])))
-        (subst (λ (r : RunState). Stands image_is r) (ap (λ (r : RunState). accepted r last) run-is ∙ sym (all_push start.run commands last)) with_it);
-  })
-]
-
--- the run state behind the commands
-leaves_same : (start : Beginning) (run : RunState) (commands : List Command) → run ≡ all_accepted start.run commands → (files : Files)
-    → EachStandsForEither run run files → LeavesFront start commands files
-leaves_same start run commands run-is files each = λ image_is is.
-    let stands : Stands image_is run = elim (each image_is is) [ inl s ↦ s | inr s ↦ s ] in
-    inr (record {
-      count = length commands;
-      stands = subst (λ (l : List Command). Stands image_is (all_accepted start.run l)) (sym (take_whole commands)) (subst (λ (r : RunState). Stands image_is r) run-is stands);
-    })
+  -- since each reply was given away, images hold at least the events answered by then: over one stretch more
+  pub holds_more : {D : Type 0} {tells : Bool} {seen : D → DiskSeen} {begun : Beginning D} {events : List Event} {replies : List Reply} {bridge : Stored} {disk : D}
+      (few many : Asked) (most : ℕ) (mid now : DiskSeen) (passes : Passes tells seen begun events replies bridge disk)
+      → length events ≤ most → ((least : ℕ) (files : Files) → LeavesFront run least few files → LeavesFront run least many files)
+      → EachMoment (LeavesFront run most many) mid.moments now.moments → HoldsAnswered run few mid passes → HoldsAnswered run many now passes
+  holds_more few many most mid now none_yet no_more more turn held =
+      join (weaken (LeavesFront run 0 many) (more 0) held) (weaken (LeavesFront run 0 many) (leaves_fewer {so_far = many} (omega arith)) turn)
+  holds_more few many most mid now (one_more {events = events} event reply new after before by) no_more more turn held =
+      let here : length events + 1 ≤ most = omega (arith, no_more, length-append events (event ∷ [])) in
+      (join (weaken (LeavesFront run (length events + 1) many) (more (length events + 1)) held.0) (weaken (LeavesFront run (length events + 1) many) (leaves_fewer {so_far = many} here) turn),
+      holds_more few many most mid now before (omega (arith, here)) more turn held.1)
 
 -- ---- the state behind one step
 
-abbrev Stepped : RunState → Command → Reply → RunState → Type 0
-Stepped old last reply new = Step old (Do last) reply new
+abbrev if_accepted : Command → Reply → List Command
+if_accepted command_is reply = if reply.code == 0 then command_is ∷ [] else []
 
-step_state : (old new : RunState) (last : Command) (reply : Reply) → Stepped old last reply new → new ≡ all_accepted old (if_accepted last reply)
+step_state : (old new : RunState) (last : Command) (reply : Reply) → Step old (Do last) reply new → new ≡ all_accepted old (if_accepted last reply)
 step_state old new last reply step = run_state old new (Do last ∷ []) (reply ∷ []) (new, step, refl)
 
-step_done : (old new : RunState) (last : Command) (reply : Reply) → Stepped old last reply new → eqb reply.code 0 ≡ true → new ≡ accepted old last
+step_done : (old new : RunState) (last : Command) (reply : Reply) → Step old (Do last) reply new → eqb reply.code 0 ≡ true → new ≡ accepted old last
 step_done old new last reply step done = step_state old new last reply step ∙ ap (λ (b : Bool). all_accepted old (if b then last ∷ [] else [])) done
 
-step_undone : (old new : RunState) (last : Command) (reply : Reply) → Stepped old last reply new → eqb reply.code 0 ≡ false → new ≡ old
+step_undone : (old new : RunState) (last : Command) (reply : Reply) → Step old (Do last) reply new → eqb reply.code 0 ≡ false → new ≡ old
 step_undone old new last reply step undone = step_state old new last reply step ∙ ap (λ (b : Bool). all_accepted old (if b then last ∷ [] else [])) undone
 
 -- ---- a turn
 
--- a turn as contracts see it: the bridge at its start, the disk before and after, and the reply
-pub record Turn : Type 0 where
-  pub old : Stored
-  pub before : DiskSeen
-  pub after : DiskSeen
-  pub reply : Reply
+module _ {D : Type 0} (tells : Bool) (seen : D → DiskSeen) (begun : Beginning D) {frames : List Frame} {replies : List Reply} {old : Stored} {before : D}
+    (r : IsReached tells seen begun frames replies old before) (event : Event) (reply : Reply) (after : D) where
+  frames_are : frames ++ frame_of event ∷ [] ≡ map frame_of (r.events ++ event ∷ [])
+  frames_are = ap (λ (fs : List Frame). fs ++ frame_of event ∷ []) r.frames_are ∙ frames_push r.events event
 
--- the turn answered the event
-pub record AnswersEvent (tells : Bool) (t : Turn) (event : Event) (turned : Turned) : Type 0 where
-  pub turns : Turns t.old event t.reply turned
-  pub fault_told : TellsFault t.reply turned
-  pub untouched : t.reply.code ≢ 0 → t.reply.code ≢ fault_code → t.after ≡ t.before
-  pub kept : IsTrue tells → (run : RunState) → StandsFor t.old run → KeepsOn run event t.before t.after t.reply turned
-  pub never_fell : NeverFell t.before.faults t.after.faults
-  pub cause : IfEnded (Rose t.before.faults t.after.faults) turned
-
--- what was reached before it
-pub record SoFar (tells : Bool) (start : Beginning) (t : Turn) : Type 0 where
-  pub frames : List Frame
-  pub replies : List Reply
-  pub is : IsReached tells start frames replies t.old t.before
-
-module _ (tells : Bool) (start : Beginning) (t : Turn) (r : SoFar tells start t) where
-  abbrev so_far : List Command
-  so_far = accepted_of r.is.events r.replies
-
-  state_is : r.is.run ≡ all_accepted start.run so_far
-  state_is = run_state start.run r.is.run r.is.events r.replies r.is.runs
-
-  frames_are : (event : Event) → r.frames ++ frame_of event ∷ [] ≡ map frame_of (r.is.events ++ event ∷ [])
-  frames_are event = ap (λ (fs : List Frame). fs ++ frame_of event ∷ []) r.is.frames_are ∙ frames_push r.is.events event
-
-  module _ (last : Command) (turned : Turned) (a : AnswersEvent tells t (Do last) turned) where
-    -- with the command that was accepted, or was being kept
-    moments_with : IsTrue tells → EachLeavesFront start (so_far ++ last ∷ []) t.after
-    moments_with told =
-        join (weaken (LeavesFront start (so_far ++ last ∷ [])) (λ files leaves. leaves_more start so_far (last ∷ []) files leaves) (r.is.any_moment told))
-        (weaken (LeavesFront start (so_far ++ last ∷ [])) (λ files each. leaves_either start r.is.run so_far last state_is files each) ((a.kept told r.is.run r.is.stands).crashes (r.is.files told).read).any_moment)
-
-    later : NeverFell start.disk.faults t.after.faults
-    later = NeverFell_trans start.disk.faults t.before.faults t.after.faults r.is.later a.never_fell
-
-  module _ (last : Command) (new : Stored) (a : AnswersEvent tells t (Do last) (On new)) where
-    abbrev moves : Stepped r.is.run last t.reply (a.turns r.is.run r.is.stands).new
-    moves = (a.turns r.is.run r.is.stands).step
+  module _ (new : Stored) (a : AnswersEvent tells seen old before event reply (On new) after) (run : RunState) (b : Begins tells begun run) where
+    abbrev led : LeadsTo r.passes run
+    led = r.each run b
 
     abbrev next : RunState
-    next = (a.turns r.is.run r.is.stands).new
+    next = (a.turns led.new led.stands).new
 
-    files_next : IsTrue tells → AreFilesOf next t.after.moments.now
-    files_next told =
-        let crashes = (a.kept told r.is.run r.is.stands).crashes (r.is.files told).read in
-        elim (cases_eq t.reply.code 0) [
-          | inl done ↦ subst (λ (run : RunState). AreFilesOf run t.after.moments.now) (sym (step_done r.is.run next last t.reply moves (eq-eqb t.reply.code 0 done))) (crashes.done done)
-          | inr undone ↦ subst (λ (run : RunState). AreFilesOf run t.after.moments.now) (sym (step_undone r.is.run next last t.reply moves (ne_eqb t.reply.code 0 undone))) (crashes.undone undone a.fault_told)
+    abbrev with_event : Asked
+    with_event = asked (r.events ++ event ∷ []) (replies ++ reply ∷ []) None
+
+    runs_next : Run run (r.events ++ event ∷ []) (replies ++ reply ∷ []) next
+    runs_next = run_push run r.events replies led.new (record { event = event; reply = reply; next = next; step = (a.turns led.new led.stands).step }) led.runs
+
+    -- what came of the event in the run state, and on the disk
+    data Came : Type 0 where
+      joins : next ≡ accepted_by led.new event → reply.code ≡ 0 → Came
+      leaves : next ≡ led.new → after ≡ before → Came
+
+    came_of : (e : Event) → event ≡ e → Came
+    came_of (Do last) is =
+        let step : Step led.new (Do last) reply next = subst (λ (x : Event). Step led.new x reply next) is (a.turns led.new led.stands).step in
+        elim (cases_eq reply.code 0) [
+          | inl done ↦ joins (step_done led.new next last reply step (eq-eqb reply.code 0 done) ∙ ap (accepted_by led.new) (sym is)) done
+          | inr undone ↦ leaves (step_undone led.new next last reply step (ne_eqb reply.code 0 undone)) (a.untouched (subst (λ (x : Event). AsksNothing x reply) (sym is) (undone, a.told)))
         ]
+    came_of (Ask message) is =
+        let step : Step led.new (Ask message) reply next = subst (λ (x : Event). Step led.new x reply next) is (a.turns led.new led.stands).step in
+        leaves step.unchanged (a.untouched (subst (λ (x : Event). AsksNothing x reply) (sym is) tt))
 
-    moments_next : IsTrue tells → EachLeavesFront start (accepted_of (r.is.events ++ Do last ∷ []) (r.replies ++ t.reply ∷ [])) t.after
-    moments_next told =
-        let pushed = accepted_push start.run r.is.run r.is.events r.replies last t.reply r.is.runs in
-        elim (cases_eq t.reply.code 0) [
-          | inl done ↦ subst (λ (l : List Command). EachLeavesFront start l t.after) (sym (pushed ∙ ap (λ (b : Bool). so_far ++ (if b then last ∷ [] else [])) (eq-eqb t.reply.code 0 done)))
-              (moments_with last (On new) a told)
-          | inr undone ↦ subst (λ (l : List Command). EachLeavesFront start l t.after) (sym (pushed ∙ ap (λ (b : Bool). so_far ++ (if b then last ∷ [] else [])) (ne_eqb t.reply.code 0 undone) ∙ append-nil so_far))
-              (subst (λ (d : DiskSeen). EachLeavesFront start so_far d) (sym (a.untouched undone a.fault_told)) (r.is.any_moment told))
-        ]
+    crashes : IsTrue tells → OutlivesCrashes led.new event (seen before) (seen after) reply
+    crashes told = a.kept told led.new led.stands (led.files told).read
 
-    reached_next : IsReached tells start (r.frames ++ frame_of (Do last) ∷ []) (r.replies ++ t.reply ∷ []) new t.after
-    reached_next = record {
-      events = r.is.events ++ Do last ∷ [];
-      run = next;
-      frames_are = frames_are (Do last);
-      runs = run_push start.run r.is.events r.replies r.is.run (record { event = Do last; reply = t.reply; next = next; step = moves }) r.is.runs;
-      stands = (a.turns r.is.run r.is.stands).stands;
-      files = files_next;
-      any_moment = moments_next;
-      later = later last (On new) a;
+    files_by : IsTrue tells → Came → AreFilesOf next (seen after).moments.now
+    files_by told (joins new-is done) = subst (λ (x : RunState). AreFilesOf x (seen after).moments.now) (sym new-is) ((crashes told).done done)
+    files_by told (leaves new-is same) =
+        subst (λ (x : RunState). AreFilesOf x (seen after).moments.now) (sym new-is) (subst (λ (d : D). AreFilesOf led.new (seen d).moments.now) (sym same) (led.files told))
+
+    abbrev before_event : (least : ℕ) → Files → Type 0
+    before_event least = LeavesFront run least with_event
+
+    of_old : (image_is : Bytes) → Stands image_is led.new → StandsForAsked run (length r.events) with_event image_is
+    of_old image_is stands = inl (front_more run event reply (front_of_all run (length r.events) (omega arith) led.runs stands))
+
+    of_new : (image_is : Bytes) → Stands image_is next → StandsForAsked run (length r.events) with_event image_is
+    of_new image_is stands = inl (front_of_all run (length r.events) (omega (arith, length-append r.events (event ∷ []))) runs_next stands)
+
+    moments_by : IsTrue tells → Came → EachMoment (LeavesFront run (length r.events) with_event) (seen before).moments (seen after).moments
+    moments_by told (joins new-is done) =
+        weaken (LeavesFront run (length r.events) with_event) (λ files each image_is is. elim (each image_is is) [
+          | inl stands ↦ of_old image_is stands
+          | inr stands ↦ of_new image_is (subst (λ (x : RunState). Stands image_is x) (sym new-is) stands)
+        ]) (crashes told).any_moment
+    moments_by told (leaves new-is same) =
+        subst (λ (d : D). EachMoment (LeavesFront run (length r.events) with_event) (seen before).moments (seen d).moments) (sym same)
+        (start (λ image_is is. of_old image_is ((led.files told).each image_is is)))
+
+    came : Came
+    came = came_of event refl
+
+    leads_next : LeadsTo (one_more event reply new after r.passes a) run
+    leads_next = record {
+      new = next;
+      runs = runs_next;
+      stands = (a.turns led.new led.stands).stands;
+      files = λ told. files_by told came;
+      any_moment = λ told.
+          join (weaken (LeavesOldOrFront begun.before run with_event) (λ files leaves image_is is. elim (leaves image_is is) [
+            | inl there ↦ inl there
+            | inr so ↦ inr (elim so [ inl f ↦ inl (front_more run event reply f) | inr none ↦ absurd none ])
+          ]) (led.any_moment told))
+          (weaken (LeavesOldOrFront begun.before run with_event) (λ files leaves image_is is. inr (leaves_fewer run {so_far = with_event} (omega arith) files leaves image_is is)) (moments_by told came));
+      acknowledged = λ told.
+          (start (λ image_is is. inl (front_of_all run (length r.events + 1) (omega (arith, length-append r.events (event ∷ []))) runs_next ((files_by told came).each image_is is))),
+          holds_more run (asked r.events replies None) with_event (length r.events) (seen before) (seen after) r.passes (omega arith) (λ least files leaves. leaves_more run event reply files leaves)
+          (moments_by told came) (led.acknowledged told));
     }
-
-  -- a query was answered
-  module _ (message : List ℕ) (new : Stored) (a : AnswersEvent tells t (Ask message) (On new)) where
-    abbrev asked : RunState
-    asked = (a.turns r.is.run r.is.stands).new
-
-    same_state : asked ≡ r.is.run
-    same_state = (a.turns r.is.run r.is.stands).step.unchanged
-
-    files_asked : IsTrue tells → AreFilesOf asked t.after.moments.now
-    files_asked told =
-        let crashes = (a.kept told r.is.run r.is.stands).crashes (r.is.files told).read in
-        subst (λ (run : RunState). AreFilesOf run t.after.moments.now) (sym same_state)
-        (elim (cases_eq t.reply.code 0) [ inl done ↦ crashes.done done | inr undone ↦ crashes.undone undone a.fault_told ])
-
-    moments_asked : IsTrue tells → EachLeavesFront start (accepted_of (r.is.events ++ Ask message ∷ []) (r.replies ++ t.reply ∷ [])) t.after
-    moments_asked told =
-        subst (λ (l : List Command). EachLeavesFront start l t.after) (sym (accepted_asked start.run r.is.run r.is.events r.replies message t.reply r.is.runs))
-        (join (r.is.any_moment told) (weaken (LeavesFront start so_far) (λ files each. leaves_same start r.is.run so_far state_is files each)
-        ((a.kept told r.is.run r.is.stands).crashes (r.is.files told).read).any_moment))
-
-    reached_asked : IsReached tells start (r.frames ++ frame_of (Ask message) ∷ []) (r.replies ++ t.reply ∷ []) new t.after
-    reached_asked = record {
-      events = r.is.events ++ Ask message ∷ [];
-      run = asked;
-      frames_are = frames_are (Ask message);
-      runs = run_push start.run r.is.events r.replies r.is.run (record { event = Ask message; reply = t.reply; next = asked; step = (a.turns r.is.run r.is.stands).step }) r.is.runs;
-      stands = (a.turns r.is.run r.is.stands).stands;
-      files = files_asked;
-      any_moment = moments_asked;
-      later = NeverFell_trans start.disk.faults t.before.faults t.after.faults r.is.later a.never_fell;
-    }
-
-  broken_next : (last : Command) → AnswersEvent tells t (Do last) Ended → IsBroken tells start (r.frames ++ frame_of (Do last) ∷ []) (r.replies ++ t.reply ∷ []) t.after
-  broken_next last a = record {
-    events = r.is.events;
-    last = last;
-    answered = r.replies;
-    run = r.is.run;
-    frames_are = frames_are (Do last);
-    replies_are = ap (λ (x : Reply). r.replies ++ x ∷ []) a.fault_told;
-    runs = r.is.runs;
-    valid = a.turns r.is.run r.is.stands;
-    files = λ told. last_moment ((a.kept told r.is.run r.is.stands).crashes (r.is.files told).read).any_moment;
-    any_moment = λ told. moments_with last Ended a told;
-    at_last = t.before.faults;
-    before_last = r.is.later;
-    failed = a.cause;
-    later = later last Ended a;
-  }
 
   -- the event was answered
-  pub reached_by : (event : Event) (new : Stored) → AnswersEvent tells t event (On new)
-      → IsReached tells start (r.frames ++ frame_of event ∷ []) (r.replies ++ t.reply ∷ []) new t.after
-  reached_by (Do last) new by = reached_next last new by
-  reached_by (Ask message) new by = reached_asked message new by
+  pub reached_by : (new : Stored) → AnswersEvent tells seen old before event reply (On new) after
+      → IsReached tells seen begun (frames ++ frame_of event ∷ []) (replies ++ reply ∷ []) new after
+  reached_by new a = record {
+    events = r.events ++ event ∷ [];
+    frames_are = frames_are;
+    passes = one_more event reply new after r.passes a;
+    later = NeverFell_trans begun.before.faults (seen before).faults (seen after).faults r.later a.leaves.later;
+    each = λ run b. leads_next new a run b;
+  }
 
-  -- a fault ended the bridge, which comes in a command alone
-  pub broken_by : (event : Event) → AnswersEvent tells t event Ended → IsBroken tells start (r.frames ++ frame_of event ∷ []) (r.replies ++ t.reply ∷ []) t.after
-  broken_by (Do last) by = broken_next last by
-  broken_by (Ask message) by = absurd (by.turns r.is.run r.is.stands)
+  -- a fault ended the bridge
+  module _ (a : AnswersEvent tells seen old before event reply Ended after) where
+    failed : HasFailed (seen before) (seen after)
+    failed = ends_with_it event refl a.leaves where
+      ends_with_it : (e : Event) → event ≡ e → LeavesDisk tells (seen before) (seen after) event reply Ended → HasFailed (seen before) (seen after)
+      ends_with_it e is l = l.ends
+
+    module _ (run : RunState) (b : Begins tells begun run) where
+      abbrev led_to : LeadsTo r.passes run
+      led_to = r.each run b
+
+      abbrev keeping : Asked
+      keeping = asked r.events replies (Some (accepted_by led_to.new event))
+
+      moments_broken : IsTrue tells → EachMoment (LeavesFront run (length r.events) keeping) (seen before).moments (seen after).moments
+      moments_broken told =
+          weaken (LeavesFront run (length r.events) keeping) (λ files each image_is is. elim (each image_is is) [
+            | inl stands ↦ inl (front_of_all run (length r.events) (omega arith) led_to.runs stands)
+            | inr stands ↦ inr stands
+          ]) (a.kept told led_to.new led_to.stands (led_to.files told).read).any_moment
+
+      breaks_at : BreaksAt r.passes event after run
+      breaks_at = record {
+        new = led_to.new;
+        runs = led_to.runs;
+        valid = a.turns led_to.new led_to.stands;
+        files = λ told. last_moment (a.kept told led_to.new led_to.stands (led_to.files told).read).any_moment;
+        any_moment = λ told.
+            join (weaken (LeavesOldOrFront begun.before run keeping) (λ files leaves image_is is. elim (leaves image_is is) [
+              | inl there ↦ inl there
+              | inr so ↦ inr (elim so [ inl f ↦ inl f | inr none ↦ absurd none ])
+            ]) (led_to.any_moment told))
+            (weaken (LeavesOldOrFront begun.before run keeping) (λ files leaves image_is is. inr (leaves_fewer run {so_far = keeping} (omega arith) files leaves image_is is)) (moments_broken told));
+        acknowledged = λ told.
+            holds_more run (asked r.events replies None) keeping (length r.events) (seen before) (seen after) r.passes (omega arith) (λ least files leaves. leaves_kept run keeping.kept files leaves)
+            (moments_broken told) (led_to.acknowledged told);
+      }
+
+    pub broken_by : IsBroken tells seen begun (frames ++ frame_of event ∷ []) (replies ++ reply ∷ []) after
+    broken_by = record {
+      events = r.events;
+      last = event;
+      answered = replies;
+      bridge = old;
+      before = before;
+      frames_are = frames_are;
+      replies_are = ap (λ (x : Reply). replies ++ x ∷ []) a.told;
+      passes = r.passes;
+      ends = subst (λ (x : Reply). AnswersEvent tells seen old before event x Ended after) a.told a;
+      failed = failed;
+      later = NeverFell_trans begun.before.faults (seen before).faults (seen after).faults r.later a.leaves.later;
+      rose = record { last = failed.last; rose = stayed_then_Rose begun.before.faults (seen before).faults (seen after).faults r.later failed.rose };
+      each = λ run b. breaks_at run b;
+    }

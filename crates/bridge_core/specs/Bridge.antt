@@ -1,9 +1,11 @@
 -- What the turn of a bridge does, of every run state that the bridge stands for.
-use Rattle.std.specs.Prelude.{◌≡◌, ◌≢◌, ℕ, []}
+use Rattle.std.specs.Prelude.{◌≡◌, ◌≢◌, ◌×◌, ℕ, [], Bool, IsTrue, IsFalse}
+use Rattle.fault_counts.specs.Faults.{NeverFell}
 use Rattle.feed_frames.specs.Replies.{Reply}
 use Rattle.disk_model.specs.Moments.{Files, EachMoment}
-use Rattle.disk_model.specs.DiskSeen.{DiskSeen, bytes_in}
+use Rattle.disk_model.specs.DiskSeen.{DiskSeen, HasFailed, bytes_in}
 use Rattle.name_store.specs.Costs.{IsCheap}
+use Rattle.name_store.specs.Keeping.{TouchesAreaAlone}
 use Rattle.chain_commands.specs.Event.{Event, Connect, Disconnect, Do, Ask}
 use Rattle.chain_commands.specs.RunState.{RunState, chain_of, IsFull, accepted}
 use Rattle.chain_commands.specs.Connecting.{IsValid}
@@ -53,12 +55,32 @@ abbrev pub TellsFault : Reply → Turned → Type 0
 TellsFault reply (On bridge) = reply.code ≢ fault_code
 TellsFault reply Ended = reply ≡ fault_reply
 
--- ---- what it leaves on a disk that tells its files
+-- ---- what it asks of the disk
+
+-- Of a message nothing is asked of the disk, whatever it is answered; nor of a command that is refused, or wants memory.
+abbrev pub AsksNothing : Event → Reply → Type 0
+AsksNothing (Ask message) reply = Unit {0}
+AsksNothing (Do command) reply = (reply.code ≢ 0) × (reply.code ≢ fault_code)
+
+-- the disk failed, in the last call that was made of it, where the bridge has ended; and where it goes on with a command that
+-- was accepted, the last call worked
+abbrev pub EndsOn : (before after : DiskSeen) → Event → Reply → Turned → Type 0
+EndsOn before after event reply Ended = HasFailed before after
+EndsOn before after (Ask message) reply (On bridge) = Unit {0}
+EndsOn before after (Do command) reply (On bridge) = reply.code ≡ 0 → IsFalse after.failed
 
 -- the bridge is on the disk, where it goes on
 abbrev pub IsStillOn : Turned → Files → Type 0
 IsStillOn (On bridge) files = IsOn bridge files
 IsStillOn Ended files = Unit {0}
+
+-- No count of faults fell, and how the turn ended on the disk. Of one that tells its files: no file but the area has changed at any
+-- moment, and the bridge is on it.
+pub record LeavesDisk (tells : Bool) (before after : DiskSeen) (event : Event) (reply : Reply) (turned : Turned) : Type 0 where
+  pub later : NeverFell before.faults after.faults
+  pub ends : EndsOn before after event reply turned
+  pub others : IsTrue tells → EachMoment (TouchesAreaAlone before.moments.now) before.moments after.moments
+  pub still_on : IsTrue tells → IsStillOn turned after.moments.now
 
 -- as read, and whatever a crash leaves, the files stand for the run state
 pub record AreFilesOf (run : RunState) (files : Files) : Type 0 where
@@ -72,17 +94,12 @@ pub record OutlivesCrashes (run : RunState) (event : Event) (before after : Disk
   pub done : reply.code ≡ 0 → AreFilesOf (accepted_by run event) after.moments.now
   pub undone : reply.code ≢ 0 → reply.code ≢ fault_code → AreFilesOf run after.moments.now
 
--- of a run state that the bridge stood for, where the files stood for it too
-pub record KeepsOn (run : RunState) (event : Event) (before after : DiskSeen) (reply : Reply) (turned : Turned) : Type 0 where
-  pub still_on : IsStillOn turned after.moments.now
-  pub crashes : Stands (bytes_in before) run → OutlivesCrashes run event before after reply
+-- of each run state that the bridge stood for, and the files
+abbrev pub Keeps : Bool → Stored → Event → (before after : DiskSeen) → Reply → Type 0
+Keeps tells old event before after reply =
+    IsTrue tells → (run : RunState) → StandsFor old run → Stands (bytes_in before) run → OutlivesCrashes run event before after reply
 
--- ---- causes and costs
-
--- P holds where the bridge has ended
-abbrev pub IfEnded : Type 0 → Turned → Type 0
-IfEnded P (On bridge) = Unit {0}
-IfEnded P Ended = P
+-- ---- costs
 
 -- of a bridge that goes on
 abbrev pub IsCheapOn : Stored → Event → Turned → ℕ → ℕ → Type 0

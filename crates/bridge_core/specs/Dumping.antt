@@ -4,13 +4,13 @@ use Rattle.fault_counts.specs.Faults.{NeverFell, Rose}
 use Rattle.byte_io.specs.Sink.{SinkSeen}
 use Rattle.disk_model.specs.DiskSeen.{DiskSeen, bytes_in}
 use Rattle.name_report.specs.Text.{Reported}
-use Rattle.name_report.specs.Report.{reported_on, ReportsAll, ReportsPart}
+use Rattle.name_report.specs.Report.{reported_by, reported_on, Reports}
 use Rattle.name_report.specs.declared.reporting.ReportFault.{ReportFault}
 use Rattle.name_report.specs.declared.reporting.ReportFault.TheVariants as reports
 use Rattle.chain_commands.specs.RunState.{RunState, chain_of}
 use Rattle.name_store.specs.Stands.{Stands}
-use Rattle.bridge_core.specs.Opening.{IsUnbegun, AddsNone}
-use Rattle.bridge_core.specs.Outcome.{EndsWell}
+use Rattle.name_store.specs.Stored.{Stored, StandsFor}
+use Rattle.bridge_core.specs.Opening.{IsUnbegun, HasOpened, OnlyReads, EndsWell}
 use Rattle.bridge_core.specs.declared.status.Status.{Status}
 use Rattle.bridge_core.specs.declared.status.Status.TheVariants.{Done, SinkFault, NoMemory}
 
@@ -26,23 +26,24 @@ dump_seen sink disk = record { sink = sink; disk = disk }
 abbrev pub reported_of : RunState → Reported
 reported_of run = let chain = chain_of run in reported_on chain.base chain.start chain.blocks
 
--- of the run state that the files stood for as they were read
-pub record OfFiles (tells : Bool) (disk : DiskSeen) (IsSo : Reported → Type 0) : Type 0 where
-  pub run : RunState
-  pub begins : IsTrue tells → Stands (bytes_in disk) run
-  pub is_so : IsSo (reported_of run)
-
 -- the status of a report that ended so
 abbrev pub status_of_report : Result (Unit {0}) ReportFault → Status
 status_of_report (Ok done) = Done
 status_of_report (Err reports.SinkFault) = SinkFault
 status_of_report (Err reports.NoMemory) = NoMemory
 
+-- The files were opened, and the report of the index ended so: of every run state that the bridge stands for, as that of each that
+-- the files stood for.
+pub record DumpsSo (tells : Bool) (old new : DumpSeen) (result : Result (Unit {0}) ReportFault) : Type 0 where
+  pub bridge : Stored
+  pub opened : HasOpened tells old.disk new.disk bridge
+  pub report : Reports (reported_by bridge.index) old.sink new.sink result
+  pub of_runs : (run : RunState) → StandsFor bridge run → Reports (reported_of run) old.sink new.sink result
+
 -- Each status with its cause: the sink took the whole report, or a part of it, or nothing was written.
 pub data DumpEnds (tells : Bool) (old new : DumpSeen) : Status → Type 0 where
-  done : OfFiles tells old.disk (λ what. ReportsAll what old.sink new.sink) → DumpEnds tells old new Done
-  cut_short : OfFiles tells old.disk (λ what. ReportsPart what old.sink new.sink) → DumpEnds tells old new SinkFault
-  unbegun : (status : Status) → new.sink ≡ old.sink → IsUnbegun tells old.disk new.disk status → DumpEnds tells old new status
+  reported : (result : Result (Unit {0}) ReportFault) → DumpsSo tells old new result → DumpEnds tells old new (status_of_report result)
+  unbegun : (status : Status) → new.sink ≡ old.sink → OnlyReads tells old.disk new.disk → IsUnbegun tells old.disk new.disk status → DumpEnds tells old new status
 
 -- no count of faults rose, and the sink took a byte at least of the last piece
 pub record NothingFailed (old new : DumpSeen) : Type 0 where
@@ -50,11 +51,11 @@ pub record NothingFailed (old new : DumpSeen) : Type 0 where
   pub moving : new.sink.stalled ≡ false
   pub disk : ¬ (Rose old.disk.faults new.disk.faults)
 
--- no count of faults fell; whatever a crash left was there at the start; how it ended; and on files that stand for a run state,
--- where nothing failed, the report was written or memory ran out
+-- no count of faults fell; the files were only read; how it ended; and on files that stand for a run state, where nothing failed, the
+-- report was written or memory ran out
 pub record Dumps (tells : Bool) (old new : DumpSeen) (status : Status) : Type 0 where
   pub sink_later : NeverFell old.sink.faults new.sink.faults
   pub disk_later : NeverFell old.disk.faults new.disk.faults
-  pub any_moment : AddsNone tells old.disk new.disk
+  pub only_read : OnlyReads tells old.disk new.disk
   pub ending : DumpEnds tells old new status
   pub complete : IsTrue tells → (run : RunState) → Stands (bytes_in old.disk) run → NothingFailed old new → EndsWell status

@@ -1,5 +1,5 @@
 -- How a replay ends where nothing fails: its files, its bytes and its limit alone decide.
-use Rattle.std.specs.Prelude.{◌≡◌, ℕ, ◌<◌, Bool, IsTrue, List, [], length, take, Some, ⊤}
+use Rattle.std.specs.Prelude.{◌≡◌, ℕ, ◌<◌, Bool, IsTrue, List, [], length, take, Some}
 use Rattle.fault_counts.specs.Faults.{Rose}
 use Rattle.disk_model.specs.DiskSeen.{DiskSeen, bytes_in}
 use Rattle.feed_frames.specs.Frames.{Frame, Splits, IsRest}
@@ -8,8 +8,9 @@ use Rattle.frame_loop.specs.Outcome as loops
 use Rattle.frame_loop.specs.Outcome.{IsWhole, IsBadAt, IsCutAt, IsOverLimit}
 use Rattle.chain_commands.specs.RunState.{RunState}
 use Rattle.name_store.specs.Stands.{Stands}
+use Rattle.bridge_core.specs.Opening.{EndsWell}
 use Rattle.bridge_core.specs.declared.status.Status.{Status}
-use Rattle.bridge_core.specs.declared.status.Status.TheVariants.{Done, Words, Uninitialised, Initialised, Damaged, BadFrame, CutFrame, DiskFault, SourceFault, SinkFault, NoMemory, InputLimit, PortFault}
+use Rattle.bridge_core.specs.declared.status.Status.TheVariants.{Done, Uninitialised, Damaged, BadFrame, CutFrame, NoMemory, InputLimit}
 
 -- what a command is handed, as contracts see it: a source and a sink, and a disk
 pub record Outside : Type 0 where
@@ -26,42 +27,20 @@ pub record NothingFailed (old new : Outside) : Type 0 where
 
 -- The bytes up to the limit are these frames and this rest. Of done, a bad frame, a cut frame and the limit one alone fits.
 -- Files that can't be opened, and want of memory, may stand in its place.
-abbrev pub Outcome : (limit : ℕ) (bytes : List ℕ) (frames : List Frame) (rest : List ℕ) → Status → Type 0
-Outcome limit bytes frames rest Done = IsWhole limit bytes rest
-Outcome limit bytes frames rest (BadFrame offset) = IsBadAt frames rest offset
-Outcome limit bytes frames rest (CutFrame offset) = IsCutAt limit bytes frames rest offset
-Outcome limit bytes frames rest InputLimit = IsOverLimit limit bytes rest
-Outcome limit bytes frames rest NoMemory = ⊤
-Outcome limit bytes frames rest Uninitialised = ⊤
-Outcome limit bytes frames rest (Damaged file at) = ⊤
-Outcome limit bytes frames rest Words = ⊥
-Outcome limit bytes frames rest Initialised = ⊥
-Outcome limit bytes frames rest DiskFault = ⊥
-Outcome limit bytes frames rest SourceFault = ⊥
-Outcome limit bytes frames rest SinkFault = ⊥
-Outcome limit bytes frames rest PortFault = ⊥
+pub data IsOutcome (limit : ℕ) (bytes : List ℕ) (frames : List Frame) (rest : List ℕ) : Status → Type 0 where
+  whole : IsWhole limit bytes rest → IsOutcome limit bytes frames rest Done
+  bad : (offset : ℕ) → IsBadAt frames rest offset → IsOutcome limit bytes frames rest (BadFrame offset)
+  cut : (offset : ℕ) → IsCutAt limit bytes frames rest offset → IsOutcome limit bytes frames rest (CutFrame offset)
+  over : IsOverLimit limit bytes rest → IsOutcome limit bytes frames rest InputLimit
+  uninitialised : IsOutcome limit bytes frames rest Uninitialised
+  damaged : (file at : ℕ) → IsOutcome limit bytes frames rest (Damaged file at)
+  lacking : IsOutcome limit bytes frames rest NoMemory
 
 -- where nothing failed, the status is the one that the files, the bytes and the limit decide
 abbrev pub IsDetermined : (old new : Outside) (limit : ℕ) → Status → Type 0
 IsDetermined old new limit status =
     (bytes : List ℕ) (frames : List Frame) (rest : List ℕ) → old.streams.source.left ≡ Some bytes → Splits (take limit bytes) frames rest → IsRest rest
-    → NothingFailed old new → Outcome limit bytes frames rest status
-
--- the work was done, or memory ran out
-abbrev pub EndsWell : Status → Type 0
-EndsWell Done = ⊤
-EndsWell NoMemory = ⊤
-EndsWell Words = ⊥
-EndsWell Uninitialised = ⊥
-EndsWell Initialised = ⊥
-EndsWell (Damaged file at) = ⊥
-EndsWell (BadFrame offset) = ⊥
-EndsWell (CutFrame offset) = ⊥
-EndsWell DiskFault = ⊥
-EndsWell SourceFault = ⊥
-EndsWell SinkFault = ⊥
-EndsWell InputLimit = ⊥
-EndsWell PortFault = ⊥
+    → NothingFailed old new → IsOutcome limit bytes frames rest status
 
 -- files that stand for a run state, whole frames alone, fewer bytes than the limit, and nothing that fails: the work is done
 abbrev pub IsComplete : (tells : Bool) (old new : Outside) (limit : ℕ) → Status → Type 0

@@ -1,99 +1,166 @@
 -- Where the frames of a run have led the bridge and its files.
-use Rattle.std.specs.Prelude.{◌≡◌, ◌⊎◌, ℕ, Bool, IsTrue, List, [], ◌∷◌, ◌++◌, map, take}
-use Rattle.fault_counts.specs.Faults.{Faults, NeverFell, Rose}
+use Rattle.std.specs.Prelude.{◌≡◌, ◌⊎◌, ◌×◌, ℕ, ◌+◌, ◌≤◌, Option, Some, None, Bool, IsTrue, List, [], ◌∷◌, ◌++◌, length, map}
+use Rattle.fault_counts.specs.Faults.{NeverFell}
 use Rattle.disk_model.specs.Moments.{Files, EachMoment, IsImage}
-use Rattle.disk_model.specs.DiskSeen.{DiskSeen}
+use Rattle.disk_model.specs.DiskSeen.{DiskSeen, HasFailed, bytes_in}
 use Rattle.feed_frames.specs.Frames.{Frame}
 use Rattle.feed_frames.specs.Replies.{Reply}
-use Rattle.chain_commands.specs.Event.{Command, Event, Do, frame_of}
-use Rattle.chain_commands.specs.RunState.{RunState, accepted, all_accepted}
+use Rattle.chain_commands.specs.Event.{Event, frame_of}
+use Rattle.chain_commands.specs.RunState.{RunState}
 use Rattle.machine.specs.Step.{Run}
-use Rattle.chain_commands.specs.Surviving.{accepted_of}
 use Rattle.name_store.specs.Stands.{Bytes, Stands, EachStandsForEither}
 use Rattle.name_store.specs.Stored.{Stored, StandsFor, IsOn}
-use Rattle.bridge_core.specs.Bridge.{fault_reply, IsValidEvent, AreFilesOf}
+use Rattle.bridge_core.specs.Bridge.{fault_reply, IsValidEvent, accepted_by, Turns, TellsFault, AsksNothing, LeavesDisk, Keeps, AreFilesOf}
 use Rattle.bridge_core.specs.declared.bridge.Turned.{Turned}
 use Rattle.bridge_core.specs.declared.bridge.Turned.TheVariants.{On, Ended}
 
--- what a run begins at: the run state of its bridge, and the disk as it was before the files were opened
-pub record Beginning : Type 0 where
-  pub run : RunState
-  pub disk : DiskSeen
+-- what a run begins at: the disk before its files were opened and behind that, and the bridge that was opened
+pub record Beginning (D : Type 0) : Type 0 where
+  pub before : DiskSeen
+  pub opened : D
+  pub bridge : Stored
+
+-- the bridge that was opened stands for the run state, and so did the files as they were read
+pub record Begins {D : Type 0} (tells : Bool) (start : Beginning D) (run : RunState) : Type 0 where
+  pub stands : StandsFor start.bridge run
+  pub files : IsTrue tells → Stands (bytes_in start.before) run
+
+-- ---- turns, one after the other
+
+-- one event was answered, by the bridge over the disk as it was
+pub record AnswersEvent {D : Type 0} (tells : Bool) (seen : D → DiskSeen) (old : Stored) (before : D) (event : Event) (reply : Reply) (turned : Turned) (after : D) : Type 0 where
+  pub turns : Turns old event reply turned
+  pub told : TellsFault reply turned
+  pub untouched : AsksNothing event reply → after ≡ before
+  pub leaves : LeavesDisk tells (seen before) (seen after) event reply turned
+  pub kept : Keeps tells old event (seen before) (seen after) reply
+
+-- From the opened bridge on these events got these replies, each answered on the disk that the one before left: so between two
+-- of them the disk is asked nothing, and each reply is given away over the disk that stands behind its event.
+pub data Passes {D : Type 0} (tells : Bool) (seen : D → DiskSeen) (start : Beginning D) : List Event → List Reply → Stored → D → Type 0 where
+  none_yet : Passes tells seen start [] [] start.bridge start.opened
+  one_more : {events : List Event} {replies : List Reply} {old : Stored} {before : D} (event : Event) (reply : Reply) (new : Stored) (after : D)
+      → Passes tells seen start events replies old before → AnswersEvent tells seen old before event reply (On new) after
+      → Passes tells seen start (events ++ event ∷ []) (replies ++ reply ∷ []) new after
 
 -- ---- what crashes leave
 
--- the image stands for the run state behind the first so many of these commands
-pub record StandsForFront (run : RunState) (commands : List Command) (image_is : Bytes) : Type 0 where
-  pub count : ℕ
-  pub stands : Stands image_is (all_accepted run (take count commands))
+-- the image stands for the run state behind a front of these events, which has so many of them at least
+pub record StandsForFront (run : RunState) (least : ℕ) (events : List Event) (replies : List Reply) (image_is : Bytes) : Type 0 where
+  pub front : List Event
+  pub more : List Event
+  pub answered : List Reply
+  pub others : List Reply
+  pub events_are : events ≡ front ++ more
+  pub replies_are : replies ≡ answered ++ others
+  pub no_fewer : least ≤ length front
+  pub reached : RunState
+  pub runs : Run run front answered reached
+  pub stands : Stands image_is reached
 
--- whatever a crash leaves was there at the start, or stands for the run state behind the first of these commands
-abbrev pub LeavesFront : Beginning → List Command → Files → Type 0
-LeavesFront start commands files =
-    (image_is : Bytes) → IsImage files image_is → IsImage start.disk.moments.now image_is ⊎ StandsForFront start.run commands image_is
+-- what a run was asked and answered so far, and the run state that is being kept, if any
+pub record Asked : Type 0 where
+  pub events : List Event
+  pub replies : List Reply
+  pub kept : Option RunState
 
--- at each moment since the start
-abbrev pub EachLeavesFront : Beginning → List Command → DiskSeen → Type 0
-EachLeavesFront start commands disk = EachMoment (LeavesFront start commands) start.disk.moments disk.moments
+abbrev pub asked : List Event → List Reply → Option RunState → Asked
+asked events replies kept = record { events = events; replies = replies; kept = kept }
+
+-- the image stands for the run state that is being kept
+abbrev pub IsKept : Option RunState → Bytes → Type 0
+IsKept None image_is = ⊥
+IsKept (Some run) image_is = Stands image_is run
+
+-- the image stands for the run state behind so many events at least, or for that which is being kept
+abbrev pub StandsForAsked : RunState → ℕ → Asked → Bytes → Type 0
+StandsForAsked run least so_far image_is = StandsForFront run least so_far.events so_far.replies image_is ⊎ IsKept so_far.kept image_is
+
+-- whatever a crash leaves is so
+abbrev pub LeavesFront : RunState → ℕ → Asked → Files → Type 0
+LeavesFront run least so_far files = (image_is : Bytes) → IsImage files image_is → StandsForAsked run least so_far image_is
+
+-- whatever a crash leaves was there before the files were opened, or is so
+abbrev pub LeavesOldOrFront : DiskSeen → RunState → Asked → Files → Type 0
+LeavesOldOrFront old run so_far files = (image_is : Bytes) → IsImage files image_is → IsImage old.moments.now image_is ⊎ StandsForAsked run 0 so_far image_is
+
+-- at each moment since the reply to an event was given away, whatever a crash leaves stands for the run state behind that event
+-- or a later one: so for each of them, and for the opening
+abbrev pub HoldsAnswered : {D : Type 0} {tells : Bool} {seen : D → DiskSeen} {start : Beginning D} {events : List Event} {replies : List Reply} {bridge : Stored} {disk : D}
+    → RunState → Asked → DiskSeen → Passes tells seen start events replies bridge disk → Type 0
+HoldsAnswered {seen = seen} {start = start} run so_far now none_yet = EachMoment (LeavesFront run 0 so_far) (seen start.opened).moments now.moments
+HoldsAnswered {seen = seen} run so_far now (one_more {events = events} event reply new after before by) =
+    EachMoment (LeavesFront run (length events + 1) so_far) (seen after).moments now.moments × HoldsAnswered run so_far now before
 
 -- ---- a bridge that goes on
 
--- The frames are events, and a run of the machine from the start gives them these replies. The bridge stands for the run
--- state that it left, and so do the files. Whatever a crash left since the start was there at the start, or stands for the
--- run state behind the first of the accepted commands.
-pub record IsReached (tells : Bool) (start : Beginning) (frames : List Frame) (replies : List Reply) (bridge : Stored) (disk : DiskSeen) : Type 0 where
+-- Of a run state that it began at: the machine gives these replies, the bridge stands for what they lead to, and so do the files. Of
+-- what crashes leave.
+pub record LeadsTo {D : Type 0} {tells : Bool} {seen : D → DiskSeen} {start : Beginning D} {events : List Event} {replies : List Reply} {bridge : Stored} {disk : D}
+    (passes : Passes tells seen start events replies bridge disk) (run : RunState) : Type 0 where
+  pub new : RunState
+  pub runs : Run run events replies new
+  pub stands : StandsFor bridge new
+  pub files : IsTrue tells → AreFilesOf new (seen disk).moments.now
+  pub any_moment : IsTrue tells → EachMoment (LeavesOldOrFront start.before run (asked events replies None)) start.before.moments (seen disk).moments
+  pub acknowledged : IsTrue tells → HoldsAnswered run (asked events replies None) (seen disk) passes
+
+-- the frames are events, which were answered by these replies, and of every run state that the run began at
+pub record IsReached {D : Type 0} (tells : Bool) (seen : D → DiskSeen) (start : Beginning D) (frames : List Frame) (replies : List Reply) (bridge : Stored) (disk : D) : Type 0 where
   pub events : List Event
-  pub run : RunState
   pub frames_are : frames ≡ map frame_of events
-  pub runs : Run start.run events replies run
-  pub stands : StandsFor bridge run
-  pub files : IsTrue tells → AreFilesOf run disk.moments.now
-  pub any_moment : IsTrue tells → EachLeavesFront start (accepted_of events replies) disk
-  pub later : NeverFell start.disk.faults disk.faults
+  pub passes : Passes tells seen start events replies bridge disk
+  pub later : NeverFell start.before.faults (seen disk).faults
+  pub each : (run : RunState) → Begins tells start run → LeadsTo passes run
 
 -- ---- a bridge that a fault of the disk has ended
 
--- The frames are events. A run of the machine from the start gives all but the last the replies before the last one, which is
--- that of a fault. The last event is a command without a refusal, and the disk failed in its turn. Whatever a crash leaves
--- stands for the run state before it, or for that with it.
-pub record IsBroken (tells : Bool) (start : Beginning) (frames : List Frame) (replies : List Reply) (disk : DiskSeen) : Type 0 where
+-- Of a run state that it began at: the machine gives all but the last event their replies, the last is a command without a refusal,
+-- and whatever a crash leaves stands for what those lead to, or for that with it.
+pub record BreaksAt {D : Type 0} {tells : Bool} {seen : D → DiskSeen} {start : Beginning D} {events : List Event} {replies : List Reply} {bridge : Stored} {before : D}
+    (passes : Passes tells seen start events replies bridge before) (last : Event) (disk : D) (run : RunState) : Type 0 where
+  pub new : RunState
+  pub runs : Run run events replies new
+  pub valid : IsValidEvent new last
+  pub files : IsTrue tells → EachStandsForEither new (accepted_by new last) (seen disk).moments.now
+  pub any_moment : IsTrue tells
+      → EachMoment (LeavesOldOrFront start.before run (asked events replies (Some (accepted_by new last)))) start.before.moments (seen disk).moments
+  pub acknowledged : IsTrue tells → HoldsAnswered run (asked events replies (Some (accepted_by new last))) (seen disk) passes
+
+-- The frames are events. All but the last were answered, and in the turn of the last, which got the reply of a fault, the disk failed:
+-- the last call that was made of it.
+pub record IsBroken {D : Type 0} (tells : Bool) (seen : D → DiskSeen) (start : Beginning D) (frames : List Frame) (replies : List Reply) (disk : D) : Type 0 where
   pub events : List Event
-  pub last : Command
+  pub last : Event
   pub answered : List Reply
-  pub run : RunState
-  pub frames_are : frames ≡ map frame_of (events ++ Do last ∷ [])
+  pub bridge : Stored
+  pub before : D
+  pub frames_are : frames ≡ map frame_of (events ++ last ∷ [])
   pub replies_are : replies ≡ answered ++ fault_reply ∷ []
-  pub runs : Run start.run events answered run
-  pub valid : IsValidEvent run (Do last)
-  pub files : IsTrue tells → EachStandsForEither run (accepted run last) disk.moments.now
-  pub any_moment : IsTrue tells → EachLeavesFront start (accepted_of events answered ++ last ∷ []) disk
-  pub at_last : Faults
-  pub before_last : NeverFell start.disk.faults at_last
-  pub failed : Rose at_last disk.faults
-  pub later : NeverFell start.disk.faults disk.faults
+  pub passes : Passes tells seen start events answered bridge before
+  pub ends : AnswersEvent tells seen bridge before last fault_reply Ended disk
+  pub failed : HasFailed (seen before) (seen disk)
+  pub later : NeverFell start.before.faults (seen disk).faults
+  pub rose : HasFailed start.before (seen disk)
+  pub each : (run : RunState) → Begins tells start run → BreaksAt passes last disk run
 
 -- ---- the words of the loop
 
--- the bridge stands for a run state, and is on the disk
-pub record IsReadyOn (tells : Bool) (bridge : Stored) (disk : DiskSeen) : Type 0 where
-  pub run : RunState
-  pub stands : StandsFor bridge run
-  pub on_disk : IsTrue tells → IsOn bridge disk.moments.now
-
+-- the bridge is on the disk
 abbrev pub IsReady : Bool → Turned → DiskSeen → Type 0
-IsReady tells (On bridge) disk = IsReadyOn tells bridge disk
+IsReady tells (On bridge) disk = IsTrue tells → IsOn bridge disk.moments.now
 IsReady tells Ended disk = ⊥
 
-abbrev pub HasReached : Bool → Beginning → List Frame → List Reply → Turned → DiskSeen → Type 0
-HasReached tells start frames replies (On bridge) disk = IsReached tells start frames replies bridge disk
-HasReached tells start frames replies Ended disk = ⊥
+abbrev pub HasReached : {D : Type 0} → Bool → (D → DiskSeen) → Beginning D → List Frame → List Reply → Turned → D → Type 0
+HasReached tells seen start frames replies (On bridge) disk = IsReached tells seen start frames replies bridge disk
+HasReached tells seen start frames replies Ended disk = ⊥
 
 -- a disk beside the bridge, of which this is seen
 abbrev pub Ready : {D : Type 0} → Bool → (D → DiskSeen) → Turned × D → Type 0
 Ready tells seen now = IsReady tells now.0 (seen now.1)
 
-abbrev pub Reached : {D : Type 0} → Bool → (D → DiskSeen) → Beginning → List Frame → List Reply → Turned × D → Type 0
-Reached tells seen start frames replies now = HasReached tells start frames replies now.0 (seen now.1)
+abbrev pub Reached : {D : Type 0} → Bool → (D → DiskSeen) → Beginning D → List Frame → List Reply → Turned × D → Type 0
+Reached tells seen start frames replies now = HasReached tells seen start frames replies now.0 now.1
 
-abbrev pub Broken : {D : Type 0} → Bool → (D → DiskSeen) → Beginning → List Frame → List Reply → Turned × D → Type 0
-Broken tells seen start frames replies now = IsBroken tells start frames replies (seen now.1)
+abbrev pub Broken : {D : Type 0} → Bool → (D → DiskSeen) → Beginning D → List Frame → List Reply → Turned × D → Type 0
+Broken tells seen start frames replies now = IsBroken tells seen start frames replies now.1

@@ -8,10 +8,11 @@ use Rattle.port_loop.specs.declared.attending.Ending.{Ending}
 use Rattle.port_loop.specs.declared.attending.Ending.TheVariants as endings
 use Rattle.chain_commands.specs.RunState.{RunState}
 use Rattle.name_store.specs.Stands.{Stands}
-use Rattle.bridge_core.specs.Opening.{IsUnbegun, AddsNone}
-use Rattle.bridge_core.specs.Outcome.{EndsWell}
+use Rattle.name_store.specs.Stored.{Stored}
+use Rattle.bridge_core.specs.Opening.{IsUnbegun, HasOpened, OnlyReads, EndsWell}
 use Rattle.bridge_core.specs.Reached.{Beginning, Reached, Broken}
 use Rattle.bridge_core.specs.declared.bridge.Turned.{Turned}
+use Rattle.bridge_core.specs.declared.bridge.Turned.TheVariants.{On}
 use Rattle.bridge_core.specs.declared.status.Status.{Status}
 use Rattle.bridge_core.specs.declared.status.Status.TheVariants.{Done, DiskFault, PortFault}
 use Rattle.bridge_core.specs.declared.words.Plan.{Plan}
@@ -29,27 +30,30 @@ abbrev pub status_of_ending : Ending → Status
 status_of_ending endings.Done = Done
 status_of_ending endings.Ended = DiskFault
 
--- The files were opened, the port was bound to the two numbers, and the loop over its polls ended so, from a bridge that no
--- frame had changed: it stood for the run state that the files stood for as they were read.
+-- The files were opened, the port was bound to the two numbers, and the loop over its polls ended so, from the bridge that was
+-- opened: no frame had changed it.
 pub record ServesSo {D : Type 0} (tells : Bool) (seen : D → DiskSeen) (disk : D) (old new : ServeSeen) (plan : Plan) (how : Ending) : Type 0 where
-  pub start : Beginning
-  pub start_is : start.disk ≡ old.disk
-  pub begins : IsTrue tells → Stands (bytes_in old.disk) start.run
+  pub start : Beginning D
+  pub start_is : start.before ≡ old.disk
+  pub opened : HasOpened tells old.disk (seen start.opened) start.bridge
   pub bound : new.port.bound ≡ Some (plan.udp, plan.feed)
   pub notes : List Note
   pub added : Adds old.port.notes new.port.notes notes
-  pub first : Turned × D
-  pub at_first : Reached tells seen start [] [] first
+  pub at_first : Reached tells seen start [] [] (On start.bridge, start.opened)
   pub last : Turned
-  pub transcript : Transcript (Reached tells seen) (Broken tells seen) plan.turns notes first how (last, disk)
+  pub transcript : Transcript (Reached tells seen) (Broken tells seen) plan.turns notes (On start.bridge, start.opened) how (last, disk)
 
--- Each status with its cause. Where no poll was made, whatever a crash left was
--- there at the start; and the port was asked nothing, or there was a fault as it was to be bound.
+-- the files were opened, and nothing came of it
+pub record StaysOpened (tells : Bool) (old new : DiskSeen) : Type 0 where
+  pub bridge : Stored
+  pub opened : HasOpened tells old new bridge
+
+-- Each status with its cause. Where no poll was made the files were only read; and the port was asked nothing, or there was a fault as
+-- it was to be bound, behind the opening.
 pub data ServeEnds {D : Type 0} (tells : Bool) (seen : D → DiskSeen) (disk : D) (old new : ServeSeen) (plan : Plan) : Status → Type 0 where
-  done : ServesSo tells seen disk old new plan endings.Done → ServeEnds tells seen disk old new plan Done
-  broken : ServesSo tells seen disk old new plan endings.Ended → ServeEnds tells seen disk old new plan DiskFault
-  unbound : NotesFault old.port new.port [] → AddsNone tells old.disk new.disk → ServeEnds tells seen disk old new plan PortFault
-  unbegun : (status : Status) → new.port ≡ old.port → AddsNone tells old.disk new.disk → IsUnbegun tells old.disk new.disk status
+  ended : (how : Ending) → ServesSo tells seen disk old new plan how → ServeEnds tells seen disk old new plan (status_of_ending how)
+  unbound : NotesFault old.port new.port [] → StaysOpened tells old.disk new.disk → ServeEnds tells seen disk old new plan PortFault
+  unbegun : (status : Status) → new.port ≡ old.port → OnlyReads tells old.disk new.disk → IsUnbegun tells old.disk new.disk status
       → ServeEnds tells seen disk old new plan status
 
 -- no count of faults fell; how it ended; and on files that stand for a run state, where the disk doesn't fail, all polls are

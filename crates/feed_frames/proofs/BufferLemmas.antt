@@ -1,5 +1,5 @@
 -- The bytes between two places of a buffer.
-use Rattle.std.proofs.Common.{◌≡◌, ℕ, ◌+◌, ◌-◌, ◌≤◌, List, ◌++◌, length, take, drop, sym, ap, subst, ◌∙◌, length-append, arith}
+use Rattle.std.proofs.Common.{◌≡◌, ℕ, ◌+◌, ◌-◌, ◌≤◌, List, ◌++◌, length, take, drop, refl, sym, ap, subst, ◌∙◌, length-append, arith}
 use Rattle.std.proofs.Math.Seq.{take-add}
 use Rattle.feed_frames.specs.Places.{between}
 use Rattle.std.proofs.lemmas.List.{drop-take, drop-drop, length-take, drop_at}
@@ -37,10 +37,10 @@ put_behind bytes after start end piece ordered kept there =
     grown bytes after start end (length piece) ordered kept ∙ ap (λ (q : List ℕ). between start end bytes ++ q) there
 
 -- without the frame at their front
-pub taken : (bytes : List ℕ) (start end offset : ℕ) (frame : Frame) → start ≤ end → BeginsWith (between start end bytes) frame
-    → Takes (record { offset = offset; left = between start end bytes }) frame
-    (record { offset = offset + (5 + length frame.payload); left = between (start + (5 + length frame.payload)) end bytes })
-taken bytes start end offset frame ordered b =
+pub taken : (kinds : ℕ) (bytes : List ℕ) (start end offset : ℕ) (frame : Frame) → start ≤ end → BeginsWith kinds (between start end bytes) frame
+    → Takes (record { kinds = kinds; offset = offset; left = between start end bytes }) frame
+    (record { kinds = kinds; offset = offset + (5 + length frame.payload); left = between (start + (5 + length frame.payload)) end bytes })
+taken kinds bytes start end offset frame ordered b =
     let n = 5 + length frame.payload in
     let left = between start end bytes in
     let long : length (frame_text frame) ≡ n = length-frame_text frame in
@@ -50,5 +50,6 @@ taken bytes start end offset frame ordered b =
     record {
       whole = b.whole ∙ ap (λ (q : List ℕ). frame_text frame ++ q) (sym behind);
       framed = b.framed;
+      kinds_are = refl;
       offset = ap (λ (k : ℕ). offset + k) (sym long);
     }

@@ -2,7 +2,7 @@
 use Rattle.std.proofs.Common.{◌≡◌, ◌⊎◌, ◌↔◌, inl, inr, ℕ, ◌<◌, ◌≤◌, ◌^◌, Bool, true, false, ◌||◌, ◌&&◌, ◌==◌, List, [], ◌∷◌, refl, sym, arith, rules}
 use Rattle.std.specs.List.{list_any, AllByRecursion}
 use Rattle.std.proofs.Math.Dec.{leb}
-use Rattle.std.proofs.lemmas.Bool.{eqb-true, eq-eqb, leb-true, le-leb, both_ways, cases_Bool, and_parts}
+use Rattle.std.proofs.lemmas.Bool.{eqb-true, eq-eqb, leb-true, le-leb, both_ways, cases_Bool, cases_lt, and_parts}
 use Rattle.feed_frames.specs.declared.kinds.Kind.{Kind}
 use Rattle.feed_frames.specs.declared.kinds.TheConstants.{KINDS, LONGEST_PAYLOAD}
 use Rattle.feed_frames.specs.Kinds.{HasRow, IsOfKind, Allows, IsKind, IsLength, is_of_kind, allows}
@@ -53,11 +53,20 @@ tests_allows kind n = record {
   whole = λ row h. rw (eq-eqb row.byte kind (sym h.of_kind), le-leb row.least n h.no_shorter, le-leb n row.greatest h.no_longer) refl;
 }
 
-pub kind_or_not : (kind : ℕ) → IsKind kind ⊎ (IsKind kind → ⊥)
-kind_or_not kind = decided (is_of_kind kind) (IsOfKind kind) KINDS (tests_kind kind) (cases_Bool (list_any (is_of_kind kind) KINDS))
+-- the number is no greater, or it is
+at_most_or_not : (kind kinds : ℕ) → (kind ≤ kinds) ⊎ (kind ≤ kinds → ⊥)
+at_most_or_not kind kinds = elim (cases_lt kinds kind) [ inl above ↦ inr (λ within. omega (arith, within, above)) | inr within ↦ inl within ]
 
-pub length_or_not : (kind n : ℕ) → IsLength kind n ⊎ (IsLength kind n → ⊥)
-length_or_not kind n = decided (allows kind n) (Allows kind n) KINDS (tests_allows kind n) (cases_Bool (list_any (allows kind n) KINDS))
+both_or_not : {A B : Type 0} → A ⊎ (A → ⊥) → B ⊎ (B → ⊥) → (A × B) ⊎ (A × B → ⊥)
+both_or_not (inl a) (inl b) = inl (a, b)
+both_or_not (inl a) (inr none) = inr (λ both. none both.1)
+both_or_not (inr none) second = inr (λ both. none both.0)
+
+pub kind_or_not : (kinds kind : ℕ) → IsKind kinds kind ⊎ (IsKind kinds kind → ⊥)
+kind_or_not kinds kind = both_or_not (at_most_or_not kind kinds) (decided (is_of_kind kind) (IsOfKind kind) KINDS (tests_kind kind) (cases_Bool (list_any (is_of_kind kind) KINDS)))
+
+pub length_or_not : (kinds kind n : ℕ) → IsLength kinds kind n ⊎ (IsLength kinds kind n → ⊥)
+length_or_not kinds kind n = both_or_not (at_most_or_not kind kinds) (decided (allows kind n) (Allows kind n) KINDS (tests_allows kind n) (cases_Bool (list_any (allows kind n) KINDS)))
 
 -- ---- what a length tells
 
@@ -67,8 +76,8 @@ known_row kind n (row ∷ rows) (inl here) = inl here.of_kind
 known_row kind n (row ∷ rows) (inr later) = inr (known_row kind n rows later)
 
 -- only the lengths of a kind are allowed
-pub known : (kind n : ℕ) → IsLength kind n → IsKind kind
-known kind n h = known_row kind n KINDS h
+pub known : (kinds kind n : ℕ) → IsLength kinds kind n → IsKind kinds kind
+known kinds kind n h = (h.0, known_row kind n KINDS h.1)
 
 short_row : (kind n most : ℕ) (rows : List Kind) → AllByRecursion (λ row. row.greatest ≤ most) rows → HasRow (Allows kind n) rows → n ≤ most
 short_row kind n most [] all h = absurd h
@@ -78,5 +87,5 @@ short_row kind n most (row ∷ rows) all (inr later) = short_row kind n most row
 all_rows_are_short : AllByRecursion (λ row. row.greatest ≤ LONGEST_PAYLOAD) KINDS
 all_rows_are_short = search rules
 
-pub short : (kind n : ℕ) → IsLength kind n → n ≤ LONGEST_PAYLOAD
-short kind n h = short_row kind n LONGEST_PAYLOAD KINDS all_rows_are_short h
+pub short : (kinds kind n : ℕ) → IsLength kinds kind n → n ≤ LONGEST_PAYLOAD
+short kinds kind n h = short_row kind n LONGEST_PAYLOAD KINDS all_rows_are_short h.1

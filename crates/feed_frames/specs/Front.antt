@@ -10,12 +10,12 @@ abbrev pub frame_of : Frame → frames.Frame
 frame_of frame = record { kind = frame.kind; payload = frame.payload.now }
 
 -- the bytes begin with the frame
-pub record BeginsWith (bytes : List ℕ) (frame : frames.Frame) : Type 0 where
+pub record BeginsWith (kinds : ℕ) (bytes : List ℕ) (frame : frames.Frame) : Type 0 where
   pub rest : List ℕ
   pub whole : bytes ≡ frame_text frame ++ rest
-  pub framed : IsFramed frame
+  pub framed : IsFramed kinds frame
 
-abbrev pub IsFront : List ℕ → Front → Type 0
-IsFront bytes (Whole frame) = BeginsWith bytes (frame_of frame)
-IsFront bytes Partial = IsPartialFrame bytes
-IsFront bytes Bad = IsBadFrame bytes
+abbrev pub IsFront : ℕ → List ℕ → Front → Type 0
+IsFront kinds bytes (Whole frame) = BeginsWith kinds bytes (frame_of frame)
+IsFront kinds bytes Partial = IsPartialFrame kinds bytes
+IsFront kinds bytes Bad = IsBadFrame kinds bytes

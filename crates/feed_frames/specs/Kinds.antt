@@ -1,4 +1,4 @@
--- The kinds of frames that are read, with the lengths that their payloads may have.
+-- The kinds of frames, with the lengths that their payloads may have; and which of them are read.
 use Rattle.std.specs.Prelude.{◌≡◌, ◌⊎◌, ℕ, ◌≤◌, Bool, ◌==◌, ◌&&◌, nat_le, List, [], ◌∷◌}
 use Rattle.feed_frames.specs.declared.kinds.Kind.{Kind}
 use Rattle.feed_frames.specs.declared.kinds.TheConstants.{KINDS}
@@ -18,13 +18,13 @@ pub record Allows (kind n : ℕ) (row : Kind) : Type 0 where
   pub no_shorter : row.least ≤ n
   pub no_longer : n ≤ row.greatest
 
--- the kinds that are read
-abbrev pub IsKind : ℕ → Type 0
-IsKind kind = HasRow (IsOfKind kind) KINDS
+-- the kinds that are read: those of the table up to this number
+abbrev pub IsKind : (kinds kind : ℕ) → Type 0
+IsKind kinds kind = (kind ≤ kinds) × HasRow (IsOfKind kind) KINDS
 
--- the lengths that a kind's payload may have
-abbrev pub IsLength : ℕ → ℕ → Type 0
-IsLength kind n = HasRow (Allows kind n) KINDS
+-- the lengths that the payload of such a kind may have
+abbrev pub IsLength : (kinds kind n : ℕ) → Type 0
+IsLength kinds kind n = (kind ≤ kinds) × HasRow (Allows kind n) KINDS
 
 -- the two as tests
 abbrev pub is_of_kind : ℕ → Kind → Bool

@@ -31,30 +31,30 @@ fn allows_length(kinds: &[Kind], kind: u8, length: usize) -> bool
     kinds.iter().any(|row| row.byte == kind && row.least <= length && length <= row.greatest)
 }
 
-/// Whether frames of this kind are read.
-fn is_kind(kind: u8) -> bool
-    ensures { IsTrue result ↔ IsKind kind }
+/// Whether frames of this kind are read, where `kinds` is the greatest that is.
+fn is_kind(kinds: u8, kind: u8) -> bool
+    ensures { IsTrue result ↔ IsKind kinds kind }
 {
-    has_kind(&KINDS, kind)
+    kind <= kinds && has_kind(&KINDS, kind)
 }
 
-/// Whether the payload of a frame of this kind may have this length.
-fn is_length(kind: u8, length: usize) -> bool
-    ensures { IsTrue result ↔ IsLength kind length }
+/// Whether the payload of a frame of this kind, which is read, may have this length.
+fn is_length(kinds: u8, kind: u8, length: usize) -> bool
+    ensures { IsTrue result ↔ IsLength kinds kind length }
 {
-    allows_length(&KINDS, kind, length)
+    kind <= kinds && allows_length(&KINDS, kind, length)
 }
 
 /// The frame at the front: a kind byte, a length of 4 bytes, low byte first, and the payload.
-pub(crate) fn front_of(bytes: &[u8]) -> Front<'_>
-    ensures { IsFront bytes.now result }
+pub(crate) fn front_of(kinds: u8, bytes: &[u8]) -> Front<'_>
+    ensures { IsFront kinds bytes.now result }
 {
     match bytes {
         [] => Front::Partial,
-        [kind, ..] if !is_kind(*kind) => Front::Bad,
+        [kind, ..] if !is_kind(kinds, *kind) => Front::Bad,
         [kind, a, b, c, d, payload @ ..] => {
             let length = u32::from_le_bytes([*a, *b, *c, *d]) as usize;
-            if !is_length(*kind, length) {
+            if !is_length(kinds, *kind, length) {
                 Front::Bad
             } else if payload.len() < length {
                 Front::Partial

@@ -1,6 +1,6 @@
 use nmc_base::LONGEST_BLOCK;
 
-/// A kind of frame that is read, and the least and the greatest length of its payload.
+/// A kind of frame, and the least and the greatest length of its payload.
 #[derive(Clone, Copy, PartialEq, Eq, Debug)]
 pub struct Kind {
     pub byte: u8,
@@ -14,7 +14,7 @@ pub const LONGEST_MESSAGE: usize = 65_535;
 /// No kind of frame has a longer payload.
 pub const LONGEST_PAYLOAD: usize = LONGEST_BLOCK;
 
-/// The kinds of frames that are read. A kind that is to be read too is one row more.
+/// The kinds of frames, by their numbers from 1 on. Who reads frames reads those up to a number; a kind more is one row more.
 pub const KINDS: [Kind; 3] = [
     // a block that is to join the chain
     Kind {

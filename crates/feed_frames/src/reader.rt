@@ -31,6 +31,7 @@ pub struct BadFrame {
 /// All its memory is taken at once, 8,454,149 bytes. A frame lies in it in one piece, and is given without a copy.
 #[derive(Drop)]
 pub struct Frames {
+    kinds: u8,
     bytes: Vec<u8>,
     start: usize,
     end: usize,
@@ -45,17 +46,18 @@ impl Model for Frames {
 
     ghost Value = { Feed };
 
-    ghost view = { λ f. record { offset = f.offset; left = between f.start f.end f.bytes.items } };
+    ghost view = { λ f. record { kinds = f.kinds; offset = f.offset; left = between f.start f.end f.bytes.items } };
 
     ghost invariant = { λ f. (f.start ≤ f.end) × (f.end ≤ CAPACITY) × (length f.bytes.items ≡ CAPACITY) × (f.offset + (f.end - f.start) < 2 ^ 63) };
 }
 
 impl Frames {
-    /// A reader that nothing was fed to.
-    pub fn new(alloc: Global) -> Result<Frames, NoMemory>
-        ensures { IfOk result (λ frames. frames ≡ fresh_feed) }
+    /// A reader of the kinds up to this number, which nothing was fed to.
+    pub fn new(alloc: Global, kinds: u8) -> Result<Frames, NoMemory>
+        ensures { IfOk result (λ frames. frames ≡ fresh_feed kinds) }
     {
         Ok(Frames {
+            kinds,
             bytes: vec![in alloc; 0; CAPACITY]?,
             start: 0,
             end: 0,
@@ -66,7 +68,7 @@ impl Frames {
     /// How many bytes may be fed now.
     pub fn room(&self) -> usize
         ensures room { result ≡ CAPACITY - length self.now.left }
-        ensures piece { IsPartialFrame self.now.left → PIECE ≤ result }
+        ensures piece { IsPartialFrame self.now.kinds self.now.left → PIECE ≤ result }
     {
         CAPACITY - (self.end - self.start)
     }
@@ -89,7 +91,7 @@ impl Frames {
     pub fn next(&mut self) -> Result<Option<Frame<'_>>, BadFrame>
         ensures* ends { sem 𝓛 (ends_as self.entry result) }
     {
-        match front_of(&self.bytes[self.start..self.end]) {
+        match front_of(self.kinds, &self.bytes[self.start..self.end]) {
             Front::Bad => Err(BadFrame {
                 offset: self.offset,
             }),
@@ -112,23 +114,31 @@ impl Frames {
 
     /// Where the frame begins of which only a part was fed, counted from the first byte fed.
     pub fn cut_at(&self) -> Option<u64>
-        ensures some { IfSome result (λ at. (at ≡ self.now.offset) × IsPartialFrame self.now.left × (0 < length self.now.left)) }
-        ensures found { IsPartialFrame self.now.left → 0 < length self.now.left → result ≡ Some self.now.offset }
+        ensures some { IfSome result (λ at. (at ≡ self.now.offset) × IsPartialFrame self.now.kinds self.now.left × (0 < length self.now.left)) }
+        ensures found { IsPartialFrame self.now.kinds self.now.left → 0 < length self.now.left → result ≡ Some self.now.offset }
     {
         let left = self.pending();
         if left.is_empty() {
             return None;
         }
-        match front_of(left) {
+        match front_of(self.kinds, left) {
             Front::Partial => Some(self.offset),
             Front::Whole(_) => None,
             Front::Bad => None,
         }
     }
 
+    /// Forgets all that was fed. From now on the kinds up to this number are read.
+    pub fn restart(&mut self, kinds: u8)
+        ensures { self.new ≡ fresh_feed kinds }
+    {
+        self.kinds = kinds;
+        self.reset();
+    }
+
     /// Forgets all that was fed.
     pub fn reset(&mut self)
-        ensures { self.new ≡ fresh_feed }
+        ensures { self.new ≡ fresh_feed self.old.kinds }
     {
         self.start = 0;
         self.end = 0;

@@ -30,7 +30,7 @@ fn three(alloc: Global, front: &[u8], rest: &[u8]) -> Result<Vec<u8>, NoMemory>
     requires { length front.now + length rest.now ≤ 1000 }
 {
     let mut out = Vec::new(alloc);
-    let mut frames = Frames::new(alloc)?;
+    let mut frames = Frames::new(alloc, 3)?;
     frames.feed(front);
     frames.feed(rest);
     tell(&mut frames, &mut out)?;
@@ -103,7 +103,7 @@ fn a_part_of_a_frame_is_none(rt: HostRuntime) -> Result<(), Fail> {
 
 #[test]
 fn tells_the_room_and_the_cut_frame(rt: HostRuntime) -> Result<(), Fail> {
-    let mut frames = Frames::new(rt.alloc())?;
+    let mut frames = Frames::new(rt.alloc(), 3)?;
     assert!(rt; frames.room() == 8_454_149 && frames.cut_at().is_none());
     frames.feed(&[1, 0, 0, 0, 0, 2]);
     let is_whole = matches!(frames.next(), Ok(Some(_)));

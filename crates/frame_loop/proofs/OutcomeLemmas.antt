@@ -11,7 +11,8 @@ use Rattle.feed_frames.proofs.SplittingLemmas.{SameSplitting, are_parts, same_sp
 use Rattle.frame_loop.specs.Causes.{SinkCause, failing, stalling}
 use Rattle.frame_loop.specs.Answering.{SoFar}
 use Rattle.frame_loop.specs.Transcript.{Streams, Transcript}
-use Rattle.frame_loop.specs.Outcome.{NothingFailed, IsDetermined, IsComplete, Outcome, EndsWell}
+use Rattle.frame_loop.specs.Outcome.{NothingFailed, IsDetermined, IsComplete, IsOutcome, whole, cut, over, broken, EndsWell, all_answered, ended_before}
+use Rattle.frame_loop.specs.Outcome as outcomes
 use Rattle.frame_loop.specs.declared.following.Ending.{Ending}
 use Rattle.frame_loop.specs.declared.following.Ending.TheVariants.{Done, BadFrame, CutFrame, SourceFault, SinkFault, Ended, InputLimit}
 
@@ -42,74 +43,73 @@ read_all (Some before) (Some left) bytes read e given end =
     let same : before ≡ bytes = cc in
     sym same ∙ given ∙ ap (λ (q : List ℕ). read ++ q) end ∙ append-nil read
 
--- the splitting of the bytes up to the limit is that of the bytes read, where these are they
-pub same_as_read : {X : Type 0} {Reached : List Frame → List Reply → X → Type 0} {now : X} {written : List ℕ} (front read left : List ℕ) (s : HasSplitting front)
-    → (answered : SoFar Reached read left written now) → front ≡ read → IsRest left → SameSplitting s.frames s.rest answered.frames left
-same_as_read front read left s answered same is-left =
-    same_splitting s.frames s.rest answered.frames left (are_parts s.frames s.rest s.splits.framed s.is_rest) (are_parts answered.frames left answered.split.framed is-left) (sym s.splits.whole ∙ same ∙ answered.split.whole)
-
 no_cause : (old new : Streams) → SinkCause old.sink new.sink → NothingFailed old new → ⊥
 no_cause old new (failing f rose) well = well.sink rose
 no_cause old new (stalling s) well = let e : true ≡ false = sym s ∙ well.moving in cc
 
-pub determined : {X : Type 0} (Reached Broken : List Frame → List Reply → X → Type 0) (old new : Streams) (limit : ℕ) (how : Ending) (now : X)
-    → Transcript Reached Broken old new limit how now → IsDetermined old new limit how
-determined Reached Broken old new limit Done now t = λ bytes frames rest told split is-rest well.
-    let e = t.ending in
-    let all = read_all old.source.left new.source.left bytes t.read told t.given e.at_end in
-    let front = take_all limit bytes (omega (arith, ap length all, e.below_limit)) ∙ all in
-    let same = same_as_read (take limit bytes) t.read [] (splitting frames rest split is-rest) e.answered front (partial (nothing refl)) in
-    record { no_rest = same.rest; below_limit = omega (arith, ap length all, e.below_limit) }
-determined Reached Broken old new limit (BadFrame offset) now t = λ bytes frames rest told split is-rest well.
-    let e = t.ending in
-    let f = read_front limit old.source.left new.source.left bytes t.read told t.given t.within in
-    let more = take (limit - length t.read) f.left in
-    let longer = splits_more t.read e.answered.frames e.rest more e.answered.split in
-    let same = same_splitting frames rest e.answered.frames (e.rest ++ more) (are_parts frames rest split.framed is-rest) (are_parts e.answered.frames (e.rest ++ more) longer.framed (bad (bad_then e.rest more e.bad))) (sym split.whole ∙ f.front_is ∙ longer.whole) in
-    record {
-      bad = subst (λ (q : List ℕ). IsBadFrame q) (sym same.rest) (bad_then e.rest more e.bad);
-      offset_is = omega (arith, e.offset_is, ap length e.answered.split.whole, length-append (frames_text e.answered.frames) e.rest, ap (λ (x : List Frame). length (frames_text x)) same.frames);
-    }
-determined Reached Broken old new limit (CutFrame offset) now t = λ bytes frames rest told split is-rest well.
-    let e = t.ending in
-    let all = read_all old.source.left new.source.left bytes t.read told t.given e.at_end in
-    let front = take_all limit bytes (omega (arith, ap length all, e.below_limit)) ∙ all in
-    let same = same_as_read (take limit bytes) t.read e.rest (splitting frames rest split is-rest) e.answered front (partial e.partial) in
-    record {
-      partial = subst (λ (q : List ℕ). IsPartialFrame q) (sym same.rest) e.partial;
-      some_left = omega (arith, e.some_left, ap length same.rest);
-      below_limit = omega (arith, ap length all, e.below_limit);
-      offset_is = omega (arith, e.offset_is, ap length e.answered.split.whole, length-append (frames_text e.answered.frames) e.rest, ap (λ (x : List Frame). length (frames_text x)) same.frames);
-    }
-determined Reached Broken old new limit InputLimit now t = λ bytes frames rest told split is-rest well.
-    let e = t.ending in
-    let f = read_front limit old.source.left new.source.left bytes t.read told t.given t.within in
-    let none : limit - length t.read ≡ 0 = omega (arith, e.at_limit) in
-    let front : take limit bytes ≡ t.read = f.front_is ∙ ap (λ (n : ℕ). t.read ++ take n f.left) none ∙ append-nil t.read in
-    let same = same_as_read (take limit bytes) t.read e.rest (splitting frames rest split is-rest) e.answered front (partial e.partial) in
-    record {
-      partial = subst (λ (q : List ℕ). IsPartialFrame q) (sym same.rest) e.partial;
-      reached = omega (arith, e.at_limit, ap length f.bytes_are, length-append t.read f.left);
-    }
-determined Reached Broken old new limit Ended now t = λ bytes frames rest told split is-rest well. tt
-determined Reached Broken old new limit SourceFault now t = λ bytes frames rest told split is-rest well. well.source t.ending.cause.rose
-determined Reached Broken old new limit SinkFault now t = λ bytes frames rest told split is-rest well. no_cause old new t.ending.cause well
+module _ {kinds : ℕ} where
+  -- the splitting kinds of the bytes up to the limit is that of the bytes read, where these are they
+  pub same_as_read : {X : Type 0} {Reached : List Frame → List Reply → X → Type 0} {now : X} {written : List ℕ} (front read left : List ℕ) (s : HasSplitting kinds front)
+      → (answered : SoFar kinds Reached read left written now) → front ≡ read → IsRest kinds left → SameSplitting s.frames s.rest answered.frames left
+  same_as_read front read left s answered same is-left =
+      same_splitting kinds s.frames s.rest answered.frames left (are_parts kinds s.frames s.rest s.splits.framed s.is_rest) (are_parts kinds answered.frames left answered.split.framed is-left) (sym s.splits.whole ∙ same ∙ answered.split.whole)
 
-empty_is_not_bad : IsBadFrame [] → ⊥
-empty_is_not_bad (unknown_kind kind rest e odd) = cc
-empty_is_not_bad (wrong_length kind n rest e fits is-kind odd) = cc
+  pub determined : {X : Type 0} (Reached Broken : List Frame → List Reply → X → Type 0) (old new : Streams) (limit : ℕ) (how : Ending) (now : X)
+      → Transcript kinds Reached Broken old new limit how now → IsDetermined kinds old new limit how
+  determined Reached Broken old new limit Done now t = λ bytes frames rest told split is-rest well.
+      let e = t.ending in
+      let all = read_all old.source.left new.source.left bytes t.read told t.given e.at_end in
+      let front = take_all limit bytes (omega (arith, ap length all, e.below_limit)) ∙ all in
+      let same = same_as_read (take limit bytes) t.read [] (splitting kinds frames rest split is-rest) e.answered front (partial (nothing refl)) in
+      whole (record { no_rest = same.rest; below_limit = omega (arith, ap length all, e.below_limit) })
+  determined Reached Broken old new limit (BadFrame offset) now t = λ bytes frames rest told split is-rest well.
+      let e = t.ending in
+      let f = read_front limit old.source.left new.source.left bytes t.read told t.given t.within in
+      let more = take (limit - length t.read) f.left in
+      let longer = splits_more kinds t.read e.answered.frames e.rest more e.answered.split in
+      let same = same_splitting kinds frames rest e.answered.frames (e.rest ++ more) (are_parts kinds frames rest split.framed is-rest) (are_parts kinds e.answered.frames (e.rest ++ more) longer.framed (bad (bad_then kinds e.rest more e.bad))) (sym split.whole ∙ f.front_is ∙ longer.whole) in
+      outcomes.bad offset (record {
+        bad = subst (λ (q : List ℕ). IsBadFrame kinds q) (sym same.rest) (bad_then kinds e.rest more e.bad);
+        offset_is = omega (arith, e.offset_is, ap length e.answered.split.whole, length-append (frames_text e.answered.frames) e.rest, ap (λ (x : List Frame). length (frames_text x)) same.frames);
+      })
+  determined Reached Broken old new limit (CutFrame offset) now t = λ bytes frames rest told split is-rest well.
+      let e = t.ending in
+      let all = read_all old.source.left new.source.left bytes t.read told t.given e.at_end in
+      let front = take_all limit bytes (omega (arith, ap length all, e.below_limit)) ∙ all in
+      let same = same_as_read (take limit bytes) t.read e.rest (splitting kinds frames rest split is-rest) e.answered front (partial e.partial) in
+      cut offset (record {
+        partial = subst (λ (q : List ℕ). IsPartialFrame kinds q) (sym same.rest) e.partial;
+        some_left = omega (arith, e.some_left, ap length same.rest);
+        below_limit = omega (arith, ap length all, e.below_limit);
+        offset_is = omega (arith, e.offset_is, ap length e.answered.split.whole, length-append (frames_text e.answered.frames) e.rest, ap (λ (x : List Frame). length (frames_text x)) same.frames);
+      })
+  determined Reached Broken old new limit InputLimit now t = λ bytes frames rest told split is-rest well.
+      let e = t.ending in
+      let f = read_front limit old.source.left new.source.left bytes t.read told t.given t.within in
+      let none : limit - length t.read ≡ 0 = omega (arith, e.at_limit) in
+      let front : take limit bytes ≡ t.read = f.front_is ∙ ap (λ (n : ℕ). t.read ++ take n f.left) none ∙ append-nil t.read in
+      let same = same_as_read (take limit bytes) t.read e.rest (splitting kinds frames rest split is-rest) e.answered front (partial e.partial) in
+      over (record {
+        partial = subst (λ (q : List ℕ). IsPartialFrame kinds q) (sym same.rest) e.partial;
+        reached = omega (arith, e.at_limit, ap length f.bytes_are, length-append t.read f.left);
+      })
+  determined Reached Broken old new limit Ended now t = λ bytes frames rest told split is-rest well. broken
+  determined Reached Broken old new limit SourceFault now t = λ bytes frames rest told split is-rest well. absurd (well.source t.ending.cause.rose)
+  determined Reached Broken old new limit SinkFault now t = λ bytes frames rest told split is-rest well. absurd (no_cause old new t.ending.cause well)
 
--- an outcome of whole frames below the limit
-ends_well : (limit : ℕ) (bytes : List ℕ) (frames : List Frame) (how : Ending) → length bytes < limit → Outcome limit bytes frames [] how → EndsWell how
-ends_well limit bytes frames Done below o = tt
-ends_well limit bytes frames (BadFrame offset) below o = empty_is_not_bad o.bad
-ends_well limit bytes frames (CutFrame offset) below o = omega (arith, o.some_left)
-ends_well limit bytes frames SourceFault below o = o
-ends_well limit bytes frames SinkFault below o = o
-ends_well limit bytes frames Ended below o = tt
-ends_well limit bytes frames InputLimit below o = omega (arith, o.reached)
+  empty_is_not_bad : IsBadFrame kinds [] → ⊥
+  empty_is_not_bad (unknown_kind kind rest e odd) = cc
+  empty_is_not_bad (wrong_length kind n rest e fits is-kind odd) = cc
 
-pub complete : (old new : Streams) (limit : ℕ) (how : Ending) → IsDetermined old new limit how → IsComplete old new limit how
-complete old new limit how d = λ bytes frames told split below well.
-    let front : take limit bytes ≡ bytes = take_all limit bytes (omega arith) in
-    ends_well limit bytes frames how below (d bytes frames [] told (subst (λ (q : List ℕ). Splits q frames []) (sym front) split) (partial (nothing refl)) well)
+  -- an outcome of whole frames below the limit
+  ends_well : {limit : ℕ} {bytes : List ℕ} {frames : List Frame} {how : Ending} → length bytes < limit → IsOutcome kinds limit bytes frames [] how → EndsWell how
+  ends_well below (whole o) = all_answered
+  ends_well below (outcomes.bad offset o) = absurd (empty_is_not_bad o.bad)
+  ends_well below (cut offset o) = absurd (omega (arith, o.some_left))
+  ends_well below (over o) = absurd (omega (arith, o.reached))
+  ends_well below broken = ended_before
+
+  pub complete : (old new : Streams) (limit : ℕ) (how : Ending) → IsDetermined kinds old new limit how → IsComplete kinds old new limit how
+  complete old new limit how d = λ bytes frames told split below well.
+      let front : take limit bytes ≡ bytes = take_all limit bytes (omega arith) in
+      ends_well below (d bytes frames [] told (subst (λ (q : List ℕ). Splits kinds q frames []) (sym front) split) (partial (nothing refl)) well)

@@ -20,312 +20,319 @@ use Rattle.frame_loop.proofs.DeliveryLemmas.{since}
 use Rattle.frame_loop.proofs.DeskLemmas.{failed_since}
 
 -- what was read and written from one start on
-pub record Since {X : Type 0} (Reached : List Frame → List Reply → X → Type 0) (old : Streams) (source : SourceSeen) (now : Desk X) : Type 0 where
+pub record Since {X : Type 0} (kinds : ℕ) (Reached : List Frame → List Reply → X → Type 0) (old : Streams) (source : SourceSeen) (now : Desk X) : Type 0 where
   pub read : List ℕ
   pub written : List ℕ
   pub given : Consumes old.source.left source.left read
   pub took : Appends old.sink.taken now.sink.taken written
   pub counted : length read ≡ fed_to now.feed
-  pub so_far : SoFar Reached read now.feed.left written now.now
+  pub so_far : SoFar kinds Reached read now.feed.left written now.now
 
 -- the bytes up to the limit were read, of which some aren't dealt with
-pub record IsAt {Start X : Type 0} (Reached : Start → List Frame → List Reply → X → Type 0) (old : Streams) (limit : ℕ) (first : X) (source : SourceSeen) (now : Desk X) : Type 0 where
+pub record IsAt {Start X : Type 0} (kinds : ℕ) (Reached : Start → List Frame → List Reply → X → Type 0) (old : Streams) (limit : ℕ) (first : X) (source : SourceSeen) (now : Desk X) : Type 0 where
+  pub reads : now.feed.kinds ≡ kinds
   pub within : fed_to now.feed ≤ limit
   pub source_later : NeverFell old.source.faults source.faults
   pub sink_later : NeverFell old.sink.faults now.sink.faults
-  pub since : (start : Start) → Reached start [] [] first → Since (Reached start) old source now
+  pub since : (start : Start) → Reached start [] [] first → Since kinds (Reached start) old source now
 
 -- a part of a frame, and one piece behind it
-pub record IsFresh (rest : List ℕ) : Type 0 where
+pub record IsFresh (kinds : ℕ) (rest : List ℕ) : Type 0 where
   pub partial : List ℕ
   pub piece : List ℕ
   pub rest_is : rest ≡ partial ++ piece
-  pub cut : IsPartialFrame partial
+  pub cut : IsPartialFrame kinds partial
   pub one_piece : length piece ≤ PIECE
 
 -- the same before the frames behind the last piece are answered
-pub record Arrives {Start X : Type 0} (Reached : Start → List Frame → List Reply → X → Type 0) (old : Streams) (limit count : ℕ) (first : X) (source : SourceSeen) (now : Desk X) : Type 0 where
-  pub at : IsAt Reached old limit first source now
+pub record Arrives {Start X : Type 0} (kinds : ℕ) (Reached : Start → List Frame → List Reply → X → Type 0) (old : Streams) (limit count : ℕ) (first : X) (source : SourceSeen) (now : Desk X) : Type 0 where
+  pub at : IsAt kinds Reached old limit first source now
   pub counted : count ≡ fed_to now.feed
-  pub fresh : IsFresh now.feed.left
-
-pub begins : {Start X : Type 0} (Reached : Start → List Frame → List Reply → X → Type 0) (old : Streams) (limit : ℕ) (first : X) (feed : Feed) → feed ≡ fresh_feed
-    → Arrives Reached old limit 0 first old.source (desk old.sink feed first)
-begins Reached old limit first feed fresh = subst (λ (f : Feed). Arrives Reached old limit 0 first old.source (desk old.sink f first)) (sym fresh) (record {
-  at = record {
-    within = omega arith;
-    source_later = NeverFell_refl old.source.faults;
-    sink_later = NeverFell_refl old.sink.faults;
-    since = λ start there. record {
-      read = [];
-      written = [];
-      given = Consumes_nothing old.source.left;
-      took = Appends_nothing old.sink.taken;
-      counted = refl;
-      so_far = record { frames = []; replies = []; split = splits_nothing; reached = there; told = refl };
-    };
-  };
-  counted = refl;
-  fresh = record { partial = []; piece = []; rest_is = refl; cut = nothing refl; one_piece = omega arith };
-})
-
--- the whole frames were answered
-pub moves : {Start X : Type 0} {Reached : Start → List Frame → List Reply → X → Type 0} {old : Streams} {limit : ℕ} {first : X} {source : SourceSeen} {a b : Desk X}
-    → IsAt Reached old limit first source a → Continues Reached a b → IsAt Reached old limit first source b
-moves {old = old} {limit = limit} {source = source} {a = a} {b = b} at continues = record {
-  within = omega (arith, at.within, continues.fed);
-  source_later = at.source_later;
-  sink_later = NeverFell_trans old.sink.faults a.sink.faults b.sink.faults at.sink_later continues.later;
-  since = λ start there.
-      let s = at.since start there in
-      let g = continues.leads start s.read s.written s.so_far in
-      record {
-        read = s.read;
-        written = s.written ++ g.more;
-        given = s.given;
-        took = Appends_append old.sink.taken a.sink.taken b.sink.taken s.written g.more s.took g.took;
-        counted = s.counted ∙ sym continues.fed;
-        so_far = g.then;
-      };
-}
+  pub fresh : IsFresh kinds now.feed.left
 
 fed_more : (before after : Feed) (piece : List ℕ) → after ≡ after_piece before piece → fed_to after ≡ fed_to before + length piece
 fed_more before after piece grown = omega (arith, ap fed_to grown, length-append before.left piece)
 
--- one more piece was read
-pub reads_on : {Start X : Type 0} {Reached : Start → List Frame → List Reply → X → Type 0} {old : Streams} {limit : ℕ} {first : X} {mid new : SourceSeen} {now : Desk X} {feed : Feed} {count most n : ℕ}
-    → IsAt Reached old limit first mid now → IsPartialFrame now.feed.left → FillsPiece mid new most now.feed feed n → count ≡ fed_to now.feed → most ≤ PIECE → count + most ≤ limit
-    → Arrives Reached old limit (count + n) first new (desk now.sink feed now.now)
-reads_on {Reached = Reached} {old = old} {mid = mid} {new = new} {now = now} {feed = feed} at cut f counted one_piece below =
-    let more = fed_more now.feed feed f.piece f.grown in
-    let left : feed.left ≡ now.feed.left ++ f.piece = ap (λ (g : Feed). g.left) f.grown in
-    record {
-      at = record {
-        within = omega (arith, more, counted, f.length_is, f.within);
-        source_later = NeverFell_trans old.source.faults mid.faults new.faults at.source_later f.later;
-        sink_later = at.sink_later;
-        since = λ start there.
-            let s = at.since start there in
-            record {
-              read = s.read ++ f.piece;
-              written = s.written;
-              given = Consumes_append old.source.left mid.left new.left s.read f.piece s.given f.given;
-              took = s.took;
-              counted = omega (arith, s.counted, more, length-append s.read f.piece);
-              so_far = record {
-                frames = s.so_far.frames;
-                replies = s.so_far.replies;
-                split = subst (λ (q : List ℕ). Splits (s.read ++ f.piece) s.so_far.frames q) (sym left) (splits_more s.read s.so_far.frames now.feed.left f.piece s.so_far.split);
-                reached = s.so_far.reached;
-                told = s.so_far.told;
-              };
-            };
-      };
-      counted = omega (arith, more, counted, f.length_is);
-      fresh = record { partial = now.feed.left; piece = f.piece; rest_is = left; cut = cut; one_piece = omega (arith, f.length_is, f.within) };
-    }
-
--- ---- endings
-
-pub at_bad_frame : {Start X : Type 0} {Reached Broken : Start → List Frame → List Reply → X → Type 0} {old : Streams} {limit : ℕ} {first : X} {source : SourceSeen} {a b : Desk X} {offset : ℕ}
-    → IsAt Reached old limit first source a → HaltsAtBad Reached a b offset → Follows Reached Broken old (streams source b.sink) limit first (BadFrame offset) b.now
-at_bad_frame {b = b} before halts =
-    let at = moves before halts.continues in
-    record {
-      source_later = at.source_later;
-      sink_later = at.sink_later;
-      transcript = λ start there.
-          let s = at.since start there in
-          record {
-            read = s.read;
-            written = s.written;
-            given = s.given;
-            took = s.took;
-            within = omega (arith, s.counted, at.within);
-            ending = record { rest = b.feed.left; answered = s.so_far; bad = halts.bad; offset_is = omega (arith, s.counted, halts.offset_is) };
-          };
-    }
-
-pub at_limit : {Start X : Type 0} {Ready : X → Type 0} {Reached Broken : Start → List Frame → List Reply → X → Type 0} {old : Streams} {limit : ℕ} {first : X} {source : SourceSeen} {a b : Desk X}
-    → IsAt Reached old limit first source a → HaltsAtPart Ready Reached a b → limit ≤ fed_to a.feed → Follows Reached Broken old (streams source b.sink) limit first InputLimit b.now
-at_limit {b = b} before halts full =
-    let at = moves before halts.continues in
-    record {
-      source_later = at.source_later;
-      sink_later = at.sink_later;
-      transcript = λ start there.
-          let s = at.since start there in
-          record {
-            read = s.read;
-            written = s.written;
-            given = s.given;
-            took = s.took;
-            within = omega (arith, s.counted, at.within);
-            ending = record { rest = b.feed.left; answered = s.so_far; partial = halts.partial; at_limit = omega (arith, s.counted, at.within, halts.continues.fed) };
-          };
-    }
-
-pub at_sink : {Start X : Type 0} {Reached Broken : Start → List Frame → List Reply → X → Type 0} {old : Streams} {limit count : ℕ} {first : X} {source : SourceSeen} {a b : Desk X}
-    → Arrives Reached old limit count first source a → Breaks Reached a b → Follows Reached Broken old (streams source b.sink) limit first SinkFault b.now
-at_sink {old = old} {a = a} {b = b} arrives broke =
-    let at = arrives.at in
-    let fresh = arrives.fresh in
-    record {
-      source_later = at.source_later;
-      sink_later = NeverFell_trans old.sink.faults a.sink.faults b.sink.faults at.sink_later broke.leads.later;
-      transcript = λ start there.
-          let s = at.since start there in
-          let g = broke.leads.leads start s.read s.written s.so_far in
-          record {
-            read = s.read;
-            written = s.written ++ g.more;
-            given = s.given;
-            took = Appends_append old.sink.taken a.sink.taken b.sink.taken s.written g.more s.took g.took;
-            within = omega (arith, s.counted, at.within);
-            ending = record {
-              rest = b.feed.left;
-              interrupted = g.then;
-              one_piece = omega (arith, broke.behind.shorter fresh.partial fresh.piece fresh.rest_is fresh.cut, fresh.one_piece);
-              cause = since old.sink a.sink b.sink at.sink_later broke.cause;
-            };
-          };
-    }
-
-pub at_its_end : {Start X : Type 0} {Reached Broken : Start → List Frame → List Reply → X → Type 0} {old : Streams} {limit count : ℕ} {first : X} {source : SourceSeen} {a b : Desk X}
-    → Arrives Reached old limit count first source a → EndsThere Reached Broken a b → Follows Reached Broken old (streams source b.sink) limit first Ended b.now
-at_its_end {old = old} {a = a} {b = b} arrives ends =
-    let at = arrives.at in
-    let fresh = arrives.fresh in
-    record {
-      source_later = at.source_later;
-      sink_later = NeverFell_trans old.sink.faults a.sink.faults b.sink.faults at.sink_later ends.leads.later;
-      transcript = λ start there.
-          let s = at.since start there in
-          let g = ends.leads.leads start s.read s.written s.so_far in
-          record {
-            read = s.read;
-            written = s.written ++ g.more;
-            given = s.given;
-            took = Appends_append old.sink.taken a.sink.taken b.sink.taken s.written g.more s.took g.took;
-            within = omega (arith, s.counted, at.within);
-            ending = record {
-              rest = b.feed.left;
-              broken_off = failed_since old.sink a.sink b.sink at.sink_later g.then;
-              one_piece = omega (arith, ends.behind.shorter fresh.partial fresh.piece fresh.rest_is fresh.cut, fresh.one_piece);
-            };
-          };
-    }
-
-pub at_source : {Start X : Type 0} {Reached Broken : Start → List Frame → List Reply → X → Type 0} {old : Streams} {limit : ℕ} {first : X} {mid new : SourceSeen} {now : Desk X} {feed : Feed}
-    → IsAt Reached old limit first mid now → IsPartialFrame now.feed.left → fed_to now.feed < limit → FillBreaks mid new now.feed feed → Follows Reached Broken old (streams new now.sink) limit first SourceFault now.now
-at_source {old = old} {mid = mid} {new = new} {now = now} at cut below f = record {
-  source_later = NeverFell_trans old.source.faults mid.faults new.faults at.source_later f.later;
-  sink_later = at.sink_later;
-  transcript = λ start there.
-      let s = at.since start there in
-      record {
-        read = s.read;
-        written = s.written;
-        given = subst (λ (q : List ℕ). Consumes old.source.left new.left q) (append-nil s.read) (Consumes_append old.source.left mid.left new.left s.read [] s.given f.given);
-        took = s.took;
-        within = omega (arith, s.counted, at.within);
-        ending = record {
-          rest = now.feed.left;
-          answered = s.so_far;
-          partial = cut;
-          below_limit = omega (arith, s.counted);
-          cause = record { last_failed = f.cause.last_failed; rose = stayed_then_Rose old.source.faults mid.faults new.faults at.source_later f.cause.rose };
-        };
-      };
-}
-
 -- an empty piece was read
-pub record ReadNothing {Start X : Type 0} (Reached : Start → List Frame → List Reply → X → Type 0) (old : Streams) (limit : ℕ) (first : X) (source : SourceSeen) (now : Desk X) (feed : Feed) : Type 0 where
-  pub at : IsAt Reached old limit first source now
+pub record ReadNothing {Start X : Type 0} (kinds : ℕ) (Reached : Start → List Frame → List Reply → X → Type 0) (old : Streams) (limit : ℕ) (first : X) (source : SourceSeen) (now : Desk X) (feed : Feed) : Type 0 where
+  pub at : IsAt kinds Reached old limit first source now
   pub same : feed ≡ now.feed
   pub at_end : IsAtEnd source.left
-
-pub reads_nothing : {Start X : Type 0} {Reached : Start → List Frame → List Reply → X → Type 0} {old : Streams} {limit : ℕ} {first : X} {mid new : SourceSeen} {now : Desk X} {feed : Feed} {most n : ℕ}
-    → IsAt Reached old limit first mid now → FillsPiece mid new most now.feed feed n → n ≡ 0 → 0 < most → ReadNothing Reached old limit first new now feed
-reads_nothing {Reached = Reached} {old = old} {mid = mid} {new = new} {now = now} {feed = feed} at f none some =
-    let empty : f.piece ≡ [] = nil_from_length f.piece (f.length_is ∙ none) in
-    record {
-      at = record {
-        within = at.within;
-        source_later = NeverFell_trans old.source.faults mid.faults new.faults at.source_later f.later;
-        sink_later = at.sink_later;
-        since = λ start there.
-            let s = at.since start there in
-            record {
-              read = s.read;
-              written = s.written;
-              given = subst (λ (q : List ℕ). Consumes old.source.left new.left q) (ap (λ (p : List ℕ). s.read ++ p) empty ∙ append-nil s.read) (Consumes_append old.source.left mid.left new.left s.read f.piece s.given f.given);
-              took = s.took;
-              counted = s.counted;
-              so_far = s.so_far;
-            };
-      };
-      same = f.grown ∙ ap (after_piece now.feed) empty ∙ ap (with_left now.feed.offset) (append-nil now.feed.left);
-      at_end = f.ended none some;
-    } where
-      with_left : ℕ → List ℕ → Feed
-      with_left offset left = record { offset = offset; left = left }
 
 -- a part of a frame of which no place is told is none at all
 nothing_there : (rest : List ℕ) (offset : ℕ) → (0 < length rest → None ≡ Some offset) → rest ≡ []
 nothing_there [] offset told = refl
 nothing_there (x ∷ xs) offset told = absurd (let e : None ≡ Some offset = told (omega arith) in cc)
 
-pub at_done : {Start X : Type 0} {Reached Broken : Start → List Frame → List Reply → X → Type 0} {old : Streams} {limit : ℕ} {first : X} {source : SourceSeen} {now : Desk X} {feed : Feed}
-    → ReadNothing Reached old limit first source now feed → fed_to now.feed < limit → IsPartialFrame now.feed.left → (IsPartialFrame feed.left → 0 < length feed.left → None ≡ Some feed.offset) → Follows Reached Broken old (streams source now.sink) limit first Done now.now
-at_done {Reached = Reached} {now = now} {feed = feed} r below cut told =
-    let at = r.at in
-    let left : now.feed.left ≡ feed.left = sym (ap (λ (f : Feed). f.left) r.same) in
-    let empty : now.feed.left ≡ [] = left ∙ nothing_there feed.left feed.offset (told (subst IsPartialFrame left cut)) in
-    record {
-      source_later = at.source_later;
-      sink_later = at.sink_later;
-      transcript = λ start there.
-          let s = at.since start there in
-          record {
-            read = s.read;
-            written = s.written;
-            given = s.given;
-            took = s.took;
-            within = omega (arith, s.counted, at.within);
-            ending = record {
-              answered = subst (λ (q : List ℕ). SoFar (Reached start) s.read q s.written now.now) empty s.so_far;
-              at_end = r.at_end;
-              below_limit = omega (arith, s.counted);
-            };
-          };
-    }
+module _ {kinds : ℕ} where
+  pub begins : {Start X : Type 0} (Reached : Start → List Frame → List Reply → X → Type 0) (old : Streams) (limit : ℕ) (first : X) (feed : Feed) → feed ≡ fresh_feed kinds
+      → Arrives kinds Reached old limit 0 first old.source (desk old.sink feed first)
+  begins Reached old limit first feed fresh = subst (λ (f : Feed). Arrives kinds Reached old limit 0 first old.source (desk old.sink f first)) (sym fresh) (record {
+    at = record {
+      reads = refl;
+      within = omega arith;
+      source_later = NeverFell_refl old.source.faults;
+      sink_later = NeverFell_refl old.sink.faults;
+      since = λ start there. record {
+        read = [];
+        written = [];
+        given = Consumes_nothing old.source.left;
+        took = Appends_nothing old.sink.taken;
+        counted = refl;
+        so_far = record { frames = []; replies = []; split = splits_nothing kinds; reached = there; told = refl };
+      };
+    };
+    counted = refl;
+    fresh = record { partial = []; piece = []; rest_is = refl; cut = nothing refl; one_piece = omega arith };
+  })
 
-pub in_frame : {Start X : Type 0} {Reached Broken : Start → List Frame → List Reply → X → Type 0} {old : Streams} {limit : ℕ} {first : X} {source : SourceSeen} {now : Desk X} {feed : Feed} {offset : ℕ}
-    → ReadNothing Reached old limit first source now feed → fed_to now.feed < limit → offset ≡ feed.offset → IsPartialFrame feed.left → 0 < length feed.left
-    → Follows Reached Broken old (streams source now.sink) limit first (CutFrame offset) now.now
-in_frame {now = now} {feed = feed} r below offset-is cut some =
-    let at = r.at in
-    let left : feed.left ≡ now.feed.left = ap (λ (f : Feed). f.left) r.same in
-    record {
-      source_later = at.source_later;
-      sink_later = at.sink_later;
-      transcript = λ start there.
-          let s = at.since start there in
-          record {
-            read = s.read;
-            written = s.written;
-            given = s.given;
-            took = s.took;
-            within = omega (arith, s.counted, at.within);
-            ending = record {
-              rest = now.feed.left;
-              answered = s.so_far;
-              partial = subst IsPartialFrame left cut;
-              some_left = omega (arith, ap length left);
-              offset_is = omega (arith, s.counted, offset-is, ap (λ (f : Feed). f.offset) r.same);
-              at_end = r.at_end;
-              below_limit = omega (arith, s.counted);
+  -- the whole frames were answered
+  pub moves : {Start X : Type 0} {Reached : Start → List Frame → List Reply → X → Type 0} {old : Streams} {limit : ℕ} {first : X} {source : SourceSeen} {a b : Desk X}
+      → IsAt kinds Reached old limit first source a → Continues kinds Reached a b → IsAt kinds Reached old limit first source b
+  moves {old = old} {limit = limit} {source = source} {a = a} {b = b} at continues = record {
+    reads = continues.kinds_are ∙ at.reads;
+    within = omega (arith, at.within, continues.fed);
+    source_later = at.source_later;
+    sink_later = NeverFell_trans old.sink.faults a.sink.faults b.sink.faults at.sink_later continues.later;
+    since = λ start there.
+        let s = at.since start there in
+        let g = continues.leads start s.read s.written s.so_far in
+        record {
+          read = s.read;
+          written = s.written ++ g.more;
+          given = s.given;
+          took = Appends_append old.sink.taken a.sink.taken b.sink.taken s.written g.more s.took g.took;
+          counted = s.counted ∙ sym continues.fed;
+          so_far = g.then;
+        };
+  }
+
+  -- one more piece was read
+  pub reads_on : {Start X : Type 0} {Reached : Start → List Frame → List Reply → X → Type 0} {old : Streams} {limit : ℕ} {first : X} {mid new : SourceSeen} {now : Desk X} {feed : Feed} {count most n : ℕ}
+      → IsAt kinds Reached old limit first mid now → IsPartialFrame kinds now.feed.left → FillsPiece mid new most now.feed feed n → count ≡ fed_to now.feed → most ≤ PIECE → count + most ≤ limit
+      → Arrives kinds Reached old limit (count + n) first new (desk now.sink feed now.now)
+  reads_on {Reached = Reached} {old = old} {mid = mid} {new = new} {now = now} {feed = feed} at cut f counted one_piece below =
+      let more = fed_more now.feed feed f.piece f.grown in
+      let left : feed.left ≡ now.feed.left ++ f.piece = ap (λ (g : Feed). g.left) f.grown in
+      record {
+        at = record {
+          reads = ap (λ (g : Feed). g.kinds) f.grown ∙ at.reads;
+          within = omega (arith, more, counted, f.length_is, f.within);
+          source_later = NeverFell_trans old.source.faults mid.faults new.faults at.source_later f.later;
+          sink_later = at.sink_later;
+          since = λ start there.
+              let s = at.since start there in
+              record {
+                read = s.read ++ f.piece;
+                written = s.written;
+                given = Consumes_append old.source.left mid.left new.left s.read f.piece s.given f.given;
+                took = s.took;
+                counted = omega (arith, s.counted, more, length-append s.read f.piece);
+                so_far = record {
+                  frames = s.so_far.frames;
+                  replies = s.so_far.replies;
+                  split = subst (λ (q : List ℕ). Splits kinds (s.read ++ f.piece) s.so_far.frames q) (sym left) (splits_more kinds s.read s.so_far.frames now.feed.left f.piece s.so_far.split);
+                  reached = s.so_far.reached;
+                  told = s.so_far.told;
+                };
+              };
+        };
+        counted = omega (arith, more, counted, f.length_is);
+        fresh = record { partial = now.feed.left; piece = f.piece; rest_is = left; cut = cut; one_piece = omega (arith, f.length_is, f.within) };
+      }
+
+  -- ---- endings
+
+  pub at_bad_frame : {Start X : Type 0} {Reached Broken : Start → List Frame → List Reply → X → Type 0} {old : Streams} {limit : ℕ} {first : X} {source : SourceSeen} {a b : Desk X} {offset : ℕ}
+      → IsAt kinds Reached old limit first source a → HaltsAtBad kinds Reached a b offset → Follows kinds Reached Broken old (streams source b.sink) limit first (BadFrame offset) b.now
+  at_bad_frame {b = b} before halts =
+      let at = moves before halts.continues in
+      record {
+        source_later = at.source_later;
+        sink_later = at.sink_later;
+        transcript = λ start there.
+            let s = at.since start there in
+            record {
+              read = s.read;
+              written = s.written;
+              given = s.given;
+              took = s.took;
+              within = omega (arith, s.counted, at.within);
+              ending = record { rest = b.feed.left; answered = s.so_far; bad = halts.bad; offset_is = omega (arith, s.counted, halts.offset_is) };
             };
+      }
+
+  pub at_limit : {Start X : Type 0} {Ready : X → Type 0} {Reached Broken : Start → List Frame → List Reply → X → Type 0} {old : Streams} {limit : ℕ} {first : X} {source : SourceSeen} {a b : Desk X}
+      → IsAt kinds Reached old limit first source a → HaltsAtPart kinds Ready Reached a b → limit ≤ fed_to a.feed → Follows kinds Reached Broken old (streams source b.sink) limit first InputLimit b.now
+  at_limit {b = b} before halts full =
+      let at = moves before halts.continues in
+      record {
+        source_later = at.source_later;
+        sink_later = at.sink_later;
+        transcript = λ start there.
+            let s = at.since start there in
+            record {
+              read = s.read;
+              written = s.written;
+              given = s.given;
+              took = s.took;
+              within = omega (arith, s.counted, at.within);
+              ending = record { rest = b.feed.left; answered = s.so_far; partial = halts.partial; at_limit = omega (arith, s.counted, at.within, halts.continues.fed) };
+            };
+      }
+
+  pub at_sink : {Start X : Type 0} {Reached Broken : Start → List Frame → List Reply → X → Type 0} {old : Streams} {limit count : ℕ} {first : X} {source : SourceSeen} {a b : Desk X}
+      → Arrives kinds Reached old limit count first source a → Breaks kinds Reached a b → Follows kinds Reached Broken old (streams source b.sink) limit first SinkFault b.now
+  at_sink {old = old} {a = a} {b = b} arrives broke =
+      let at = arrives.at in
+      let fresh = arrives.fresh in
+      record {
+        source_later = at.source_later;
+        sink_later = NeverFell_trans old.sink.faults a.sink.faults b.sink.faults at.sink_later broke.leads.later;
+        transcript = λ start there.
+            let s = at.since start there in
+            let g = broke.leads.leads start s.read s.written s.so_far in
+            record {
+              read = s.read;
+              written = s.written ++ g.more;
+              given = s.given;
+              took = Appends_append old.sink.taken a.sink.taken b.sink.taken s.written g.more s.took g.took;
+              within = omega (arith, s.counted, at.within);
+              ending = record {
+                rest = b.feed.left;
+                interrupted = g.then;
+                one_piece = omega (arith, broke.behind.shorter fresh.partial fresh.piece fresh.rest_is fresh.cut, fresh.one_piece);
+                cause = since old.sink a.sink b.sink at.sink_later broke.cause;
+              };
+            };
+      }
+
+  pub at_its_end : {Start X : Type 0} {Reached Broken : Start → List Frame → List Reply → X → Type 0} {old : Streams} {limit count : ℕ} {first : X} {source : SourceSeen} {a b : Desk X}
+      → Arrives kinds Reached old limit count first source a → EndsThere kinds Reached Broken a b → Follows kinds Reached Broken old (streams source b.sink) limit first Ended b.now
+  at_its_end {old = old} {a = a} {b = b} arrives ends =
+      let at = arrives.at in
+      let fresh = arrives.fresh in
+      record {
+        source_later = at.source_later;
+        sink_later = NeverFell_trans old.sink.faults a.sink.faults b.sink.faults at.sink_later ends.leads.later;
+        transcript = λ start there.
+            let s = at.since start there in
+            let g = ends.leads.leads start s.read s.written s.so_far in
+            record {
+              read = s.read;
+              written = s.written ++ g.more;
+              given = s.given;
+              took = Appends_append old.sink.taken a.sink.taken b.sink.taken s.written g.more s.took g.took;
+              within = omega (arith, s.counted, at.within);
+              ending = record {
+                rest = b.feed.left;
+                broken_off = failed_since old.sink a.sink b.sink at.sink_later g.then;
+                one_piece = omega (arith, ends.behind.shorter fresh.partial fresh.piece fresh.rest_is fresh.cut, fresh.one_piece);
+              };
+            };
+      }
+
+  pub at_source : {Start X : Type 0} {Reached Broken : Start → List Frame → List Reply → X → Type 0} {old : Streams} {limit : ℕ} {first : X} {mid new : SourceSeen} {now : Desk X} {feed : Feed}
+      → IsAt kinds Reached old limit first mid now → IsPartialFrame kinds now.feed.left → fed_to now.feed < limit → FillBreaks mid new now.feed feed → Follows kinds Reached Broken old (streams new now.sink) limit first SourceFault now.now
+  at_source {old = old} {mid = mid} {new = new} {now = now} at cut below f = record {
+    source_later = NeverFell_trans old.source.faults mid.faults new.faults at.source_later f.later;
+    sink_later = at.sink_later;
+    transcript = λ start there.
+        let s = at.since start there in
+        record {
+          read = s.read;
+          written = s.written;
+          given = subst (λ (q : List ℕ). Consumes old.source.left new.left q) (append-nil s.read) (Consumes_append old.source.left mid.left new.left s.read [] s.given f.given);
+          took = s.took;
+          within = omega (arith, s.counted, at.within);
+          ending = record {
+            rest = now.feed.left;
+            answered = s.so_far;
+            partial = cut;
+            below_limit = omega (arith, s.counted);
+            cause = record { last_failed = f.cause.last_failed; rose = stayed_then_Rose old.source.faults mid.faults new.faults at.source_later f.cause.rose };
           };
-    }
+        };
+  }
+
+  pub reads_nothing : {Start X : Type 0} {Reached : Start → List Frame → List Reply → X → Type 0} {old : Streams} {limit : ℕ} {first : X} {mid new : SourceSeen} {now : Desk X} {feed : Feed} {most n : ℕ}
+      → IsAt kinds Reached old limit first mid now → FillsPiece mid new most now.feed feed n → n ≡ 0 → 0 < most → ReadNothing kinds Reached old limit first new now feed
+  reads_nothing {Reached = Reached} {old = old} {mid = mid} {new = new} {now = now} {feed = feed} at f none some =
+      let empty : f.piece ≡ [] = nil_from_length f.piece (f.length_is ∙ none) in
+      record {
+        at = record {
+          reads = at.reads;
+          within = at.within;
+          source_later = NeverFell_trans old.source.faults mid.faults new.faults at.source_later f.later;
+          sink_later = at.sink_later;
+          since = λ start there.
+              let s = at.since start there in
+              record {
+                read = s.read;
+                written = s.written;
+                given = subst (λ (q : List ℕ). Consumes old.source.left new.left q) (ap (λ (p : List ℕ). s.read ++ p) empty ∙ append-nil s.read) (Consumes_append old.source.left mid.left new.left s.read f.piece s.given f.given);
+                took = s.took;
+                counted = s.counted;
+                so_far = s.so_far;
+              };
+        };
+        same = f.grown ∙ ap (after_piece now.feed) empty ∙ ap (with_left now.feed) (append-nil now.feed.left);
+        at_end = f.ended none some;
+      } where
+        with_left : Feed → List ℕ → Feed
+        with_left feed left = record { kinds = feed.kinds; offset = feed.offset; left = left }
+
+  pub at_done : {Start X : Type 0} {Reached Broken : Start → List Frame → List Reply → X → Type 0} {old : Streams} {limit : ℕ} {first : X} {source : SourceSeen} {now : Desk X} {feed : Feed}
+      → ReadNothing kinds Reached old limit first source now feed → fed_to now.feed < limit → IsPartialFrame kinds now.feed.left → (IsPartialFrame feed.kinds feed.left → 0 < length feed.left → None ≡ Some feed.offset) → Follows kinds Reached Broken old (streams source now.sink) limit first Done now.now
+  at_done {Reached = Reached} {now = now} {feed = feed} r below cut told =
+      let at = r.at in
+      let left : now.feed.left ≡ feed.left = sym (ap (λ (f : Feed). f.left) r.same) in
+      let of_feed = subst (λ (k : ℕ). IsPartialFrame k feed.left) (sym (ap (λ (f : Feed). f.kinds) r.same ∙ at.reads)) in
+      let empty : now.feed.left ≡ [] = left ∙ nothing_there feed.left feed.offset (told (of_feed (subst (IsPartialFrame kinds) left cut))) in
+      record {
+        source_later = at.source_later;
+        sink_later = at.sink_later;
+        transcript = λ start there.
+            let s = at.since start there in
+            record {
+              read = s.read;
+              written = s.written;
+              given = s.given;
+              took = s.took;
+              within = omega (arith, s.counted, at.within);
+              ending = record {
+                answered = subst (λ (q : List ℕ). SoFar kinds (Reached start) s.read q s.written now.now) empty s.so_far;
+                at_end = r.at_end;
+                below_limit = omega (arith, s.counted);
+              };
+            };
+      }
+
+  pub in_frame : {Start X : Type 0} {Reached Broken : Start → List Frame → List Reply → X → Type 0} {old : Streams} {limit : ℕ} {first : X} {source : SourceSeen} {now : Desk X} {feed : Feed} {offset : ℕ}
+      → ReadNothing kinds Reached old limit first source now feed → fed_to now.feed < limit → offset ≡ feed.offset → IsPartialFrame feed.kinds feed.left → 0 < length feed.left
+      → Follows kinds Reached Broken old (streams source now.sink) limit first (CutFrame offset) now.now
+  in_frame {now = now} {feed = feed} r below offset-is cut some =
+      let at = r.at in
+      let left : feed.left ≡ now.feed.left = ap (λ (f : Feed). f.left) r.same in
+      record {
+        source_later = at.source_later;
+        sink_later = at.sink_later;
+        transcript = λ start there.
+            let s = at.since start there in
+            record {
+              read = s.read;
+              written = s.written;
+              given = s.given;
+              took = s.took;
+              within = omega (arith, s.counted, at.within);
+              ending = record {
+                rest = now.feed.left;
+                answered = s.so_far;
+                partial = subst (IsPartialFrame kinds) left (subst (λ (k : ℕ). IsPartialFrame k feed.left) (ap (λ (f : Feed). f.kinds) r.same ∙ at.reads) cut);
+                some_left = omega (arith, ap length left);
+                offset_is = omega (arith, s.counted, offset-is, ap (λ (f : Feed). f.offset) r.same);
+                at_end = r.at_end;
+                below_limit = omega (arith, s.counted);
+              };
+            };
+      }

@@ -1,4 +1,4 @@
-ghost use Rattle.std.specs.Prelude.{List};
+ghost use Rattle.std.specs.Prelude.{ℕ, List};
 ghost use Rattle.feed_frames.specs.Frames.{Frame as Framed};
 ghost use Rattle.feed_frames.specs.Replies.{Reply};
 ghost use Rattle.feed_frames.specs.Front.{frame_of};
@@ -19,6 +19,11 @@ pub struct Over;
 
 /// What answers frames, one by one, by means of a world that it is lent: the disk with its files, or nothing.
 pub trait Answerer<W> {
+    /// The frames that it answers are those of the kinds up to this number.
+    const KINDS: u8;
+
+    ghost KINDS: { ℕ };
+
     // what a run begins at
     ghost Start: { Type 0 };
 
@@ -41,7 +46,7 @@ pub trait Answerer<W> {
         reply: &mut ReplyBuf,
         steps: &mut Steps<L>,
     ) -> Result<(), Over>
-        requires askable { IsAskable (frame_of frame) }
+        requires askable { IsAskable KINDS (frame_of frame) }
         requires ready { ready (self.old, world.old) }
         ensures { Turns ready reached broken (self.old, world.old) (frame_of frame.entry) reply.new (self.new, world.new) result };
 }

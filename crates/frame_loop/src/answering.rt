@@ -1,3 +1,4 @@
+ghost use Rattle.std.specs.Prelude.{◌≡◌};
 ghost use Rattle.frame_loop.specs.Answering.{Answers, AnswersAll, desk};
 
 use crate::answerer::{Answerer, Over};
@@ -32,8 +33,9 @@ fn answer_next<W, T: Answerer<W>, K: Sink, L: Ledger>(
     sink: &mut K,
     steps: &mut Steps<L>,
 ) -> Result<(), Halted>
-    requires { T.ready (answerer.old, world.old) }
-    ensures { Answers T.ready T.reached T.broken (desk (K.seen sink.old) frames.old (answerer.old, world.old)) (desk (K.seen sink.new) frames.new (answerer.new, world.new)) result }
+    requires reads { frames.old.kinds ≡ T.KINDS }
+    requires ready { T.ready (answerer.old, world.old) }
+    ensures { Answers T.KINDS T.ready T.reached T.broken (desk (K.seen sink.old) frames.old (answerer.old, world.old)) (desk (K.seen sink.new) frames.new (answerer.new, world.new)) result }
 {
     let turned = match frames.next() {
         Ok(Some(frame)) => answerer.turn(alloc, world, frame, reply, steps),
@@ -62,8 +64,9 @@ pub(crate) fn answer_all<W, T: Answerer<W>, K: Sink, L: Ledger>(
     sink: &mut K,
     steps: &mut Steps<L>,
 ) -> Halted
-    requires { T.ready (answerer.old, world.old) }
-    ensures { AnswersAll T.ready T.reached T.broken (desk (K.seen sink.old) frames.old (answerer.old, world.old)) (desk (K.seen sink.new) frames.new (answerer.new, world.new)) result }
+    requires reads { frames.old.kinds ≡ T.KINDS }
+    requires ready { T.ready (answerer.old, world.old) }
+    ensures { AnswersAll T.KINDS T.ready T.reached T.broken (desk (K.seen sink.old) frames.old (answerer.old, world.old)) (desk (K.seen sink.new) frames.new (answerer.new, world.new)) result }
 {
     'frames: loop {
         match answer_next(alloc, answerer, world, frames, reply, sink, steps) {

@@ -70,7 +70,7 @@ pub(crate) fn fill<S: Source>(
     source: &mut S,
     most: usize,
 ) -> Result<usize, Failed>
-    requires answered { IsPartialFrame frames.old.left }
+    requires answered { IsPartialFrame frames.old.kinds frames.old.left }
     requires most { most ≤ PIECE }
     requires short { frames.old.offset + length frames.old.left + most < 2 ^ 63 }
     ensures { Fills (S.seen source.old) (S.seen source.new) most frames.old frames.new result }
@@ -97,7 +97,7 @@ impl Buffers {
     /// Room for the longest frame and a piece behind it, for a read, and for a reply.
     pub fn new(alloc: Global) -> Result<Buffers, NoMemory> {
         Ok(Buffers {
-            frames: Frames::new(alloc)?,
+            frames: Frames::new(alloc, 0)?,
             piece: Piece::new(alloc)?,
             reply: ReplyBuf::new(alloc)?,
         })

@@ -45,10 +45,10 @@ pub fn follow<W, T: Answerer<W>, S: Source, K: Sink, L: Ledger>(
 ) -> Ending
     requires limit { limit < 2 ^ 63 }
     requires ready { T.ready (answerer.old, world.old) }
-    ensures { Follows T.reached T.broken (streams (S.seen source.old) (K.seen sink.old)) (streams (S.seen source.new) (K.seen sink.new)) limit (answerer.old, world.old) result (answerer.new, world.new) }
+    ensures { Follows T.KINDS T.reached T.broken (streams (S.seen source.old) (K.seen sink.old)) (streams (S.seen source.new) (K.seen sink.new)) limit (answerer.old, world.old) result (answerer.new, world.new) }
 {
     let mut read: u64 = 0;
-    buffers.frames.reset();
+    buffers.frames.restart(T::KINDS);
     'pieces: loop {
         match answer_all(
             alloc,

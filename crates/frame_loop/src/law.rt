@@ -11,7 +11,7 @@ use crate::answerer::Answerer;
 /// frames alone, in fewer bytes than the limit, are all answered.
 pub fn one_ending<W, T: Answerer<W>>()
     ensures determined { (start : T.Start) (old new : Streams) (limit : ℕ) (how : Ending) (now : T × W)
-        → Transcript (T.reached start) (T.broken start) old new limit how now → IsDetermined old new limit how }
+        → Transcript T.KINDS (T.reached start) (T.broken start) old new limit how now → IsDetermined T.KINDS old new limit how }
     ensures complete { (start : T.Start) (old new : Streams) (limit : ℕ) (how : Ending) (now : T × W)
-        → Transcript (T.reached start) (T.broken start) old new limit how now → IsComplete old new limit how }
+        → Transcript T.KINDS (T.reached start) (T.broken start) old new limit how now → IsComplete T.KINDS old new limit how }
 {}

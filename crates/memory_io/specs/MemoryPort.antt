@@ -1,6 +1,6 @@
 -- What contracts see of the port in memory.
 use Rattle.std.specs.Prelude.{◌≡◌, ℕ, ◌⊎◌, Bool, true, false, if◌then◌else◌, List, [], ◌∷◌, ◌++◌, drop, Option, Some, None}
-use Rattle.fault_counts.specs.Counts.{Counts, faults_of, fresh_counts, is_next_listed}
+use Rattle.fault_counts.specs.Counts.{Counts, after_refusal, faults_of, fresh_counts, is_next_listed}
 use Rattle.byte_io.specs.Port.{Got, nothing, fault, Note, PortSeen}
 
 -- the notes of its calls, and whether each call found memory for its note
@@ -30,9 +30,18 @@ memory_seen s = record { bound = s.bound; notes = told s.log; faults = faults_of
 abbrev pub noted : Log → Note → Log
 noted log note = if log.is_whole then record { notes = log.notes ++ note ∷ []; is_whole = true } else log
 
--- the call is noted, or it found no memory for its note
-abbrev pub Logs : (old new : Log) → Note → Type 0
-Logs old new note = (new ≡ noted old note) ⊎ (new ≡ record { notes = old.notes; is_whole = false })
+-- the notes, where the last of them was lost: none is noted any more
+abbrev pub cut_short : Log → Log
+cut_short log = record { notes = log.notes; is_whole = false }
+
+abbrev pub Logs : (old new : Log) → Note → (is_noted : Bool) → Type 0
+Logs old new note true = new ≡ noted old note
+Logs old new note false = new ≡ cut_short old
+
+-- the call is noted, and the calls came to this; or there was no memory for its note, which counts as a refusal
+pub data NotedOrRefused (old new : PortView) (note : Note) (calls : Counts) : Type 0 where
+  is_noted : new.log ≡ noted old.log note → new.counts ≡ calls → NotedOrRefused old new note calls
+  is_refused : new.log ≡ cut_short old.log → new.counts ≡ after_refusal calls → NotedOrRefused old new note calls
 
 -- what the next poll brings: a fault where its number is listed, or else the first that comes; past the last, nothing
 abbrev pub first_coming : List Got → Got
@@ -49,6 +58,5 @@ left_coming s = if is_next_listed s.counts then s.coming else drop 1 s.coming
 -- a call was noted. From then on these polls come, and the calls came to this
 pub record IsNoted (old new : PortView) (note : Note) (left : List Got) (calls : Counts) : Type 0 where
   pub coming : new.coming ≡ left
-  pub log : Logs old.log new.log note
   pub bound : new.bound ≡ old.bound
-  pub counts : new.counts ≡ calls
+  pub noted_or_refused : NotedOrRefused old new note calls

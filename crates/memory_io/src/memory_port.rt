@@ -1,7 +1,7 @@
 ghost use Rattle.std.specs.Prelude.{◌≡◌, ◌∷◌, ◌++◌, [], drop, length, slice_get, Some, IfOk, OnOk, OnErr, is_err, is_ok, if◌then◌else◌};
 ghost use Rattle.std.specs.Option.{option_map};
-ghost use Rattle.fault_counts.specs.Counts.{after_call, faults_of, is_next_listed};
-ghost use Rattle.fault_counts.specs.Faults.{HasCause, no_faults};
+ghost use Rattle.fault_counts.specs.Counts.{after_call, after_refusal, faults_of, is_next_listed};
+ghost use Rattle.fault_counts.specs.Faults.{HasCause, NeverFell, no_faults};
 ghost use Rattle.byte_io.specs.declared.port.TheConstants.{POLL_ROOM};
 ghost use Rattle.byte_io.specs.Port.{IsBound, Binds, Polls, Sends, Notes, polled, replied, fed_back, closed};
 ghost use Rattle.memory_io.specs.Kept.{Fits, Shows, brought, outgoing, seen_poll, seen_send, sent_note};
@@ -19,7 +19,7 @@ use std::marker::Model;
 /// A port whose polls are added beforehand, which keeps what is sent, and whose listed calls fail.
 ///
 /// The calls that count are binds, polls and sends. No other fails: a call that finds no memory for its note does what
-/// it is to do, and from then on the port tells nothing of its calls.
+/// it is to do, and counts a refusal; from then on the port tells nothing of its calls.
 #[derive(Drop)]
 pub struct MemoryPort {
     alloc: Global,
@@ -93,14 +93,31 @@ impl MemoryPort {
         self.coming.pop_front().unwrap_or(KeptPoll::Nothing)
     }
 
+    /// Counts a refusal, unless the call was noted.
+    fn count_note(&mut self, is_noted: bool)
+        ensures counted { self.new ≡ record {
+          coming = self.old.coming;
+          log = self.old.log;
+          bound = self.old.bound;
+          counts = (if is_noted then self.old.counts else after_refusal self.old.counts);
+        } }
+        ensures later { NeverFell (faults_of self.old.counts) (faults_of self.new.counts) }
+    {
+        if !is_noted {
+            self.counts.refuse();
+        }
+    }
+
     /// Counts a send, notes it, and answers whether it was sent.
+    #[tactic(auto, using(fault_counts::proofs::FaultLemmas::NeverFell_trans, fault_counts::proofs::FaultLemmas::Rose_then_stayed))]
     fn send(&mut self, to: Recipient, bytes: &[u8]) -> Result<(), Failed>
         ensures listed { is_err result ≡ is_next_listed self.old.counts }
         ensures noted { IsNoted self.old self.new (seen_send to bytes.now (is_ok result)) self.old.coming (after_call self.old.counts) }
         ensures cause { HasCause (faults_of self.old.counts) (faults_of self.new.counts) result }
     {
         let is_failed = self.counts.next_call();
-        self.log.note_send(to, bytes, !is_failed);
+        let is_noted = self.log.note_send(to, bytes, !is_failed);
+        self.count_note(is_noted);
         if is_failed { Err(Failed) } else { Ok(()) }
     }
 }
@@ -127,6 +144,7 @@ impl Port for MemoryPort {
 
     /// Brings the first of the polls that are left, or nothing past the last. A poll fails exactly where its number is in
     /// the list, and then it takes none of them.
+    #[tactic(auto, using(fault_counts::proofs::FaultLemmas::NeverFell_trans, fault_counts::proofs::FaultLemmas::Rose_then_stayed))]
     fn poll(&mut self, buf: &mut [u8]) -> Polled
         requires bound { IsBound (memory_seen self.old) }
         requires room { length buf.old ≡ POLL_ROOM }
@@ -136,12 +154,14 @@ impl Port for MemoryPort {
         ensures noted { IsNoted self.old self.new (polled (next_got self.old)) (left_coming self.old) (after_call self.old.counts) }
     {
         if self.counts.next_call() {
-            self.log.note(KeptNote::FailedPoll);
+            let is_noted = self.log.note(KeptNote::FailedPoll);
+            self.count_note(is_noted);
             return Polled::Failed;
         }
         let poll = self.take_next();
         let answer = poll.put(buf);
-        self.log.note(KeptNote::Polled(poll));
+        let is_noted = self.log.note(KeptNote::Polled(poll));
+        self.count_note(is_noted);
         answer
     }
 
@@ -163,11 +183,13 @@ impl Port for MemoryPort {
         self.send(Recipient::Feed, bytes)
     }
 
+    #[tactic(auto, using(fault_counts::proofs::FaultLemmas::NeverFell_trans, fault_counts::proofs::FaultLemmas::Rose_then_stayed))]
     fn close_feed(&mut self)
         requires { IsBound (memory_seen self.old) }
         ensures notes { Notes (memory_seen self.old) (memory_seen self.new) (closed ∷ []) }
         ensures noted { IsNoted self.old self.new closed self.old.coming self.old.counts }
     {
-        self.log.note(KeptNote::Closed);
+        let is_noted = self.log.note(KeptNote::Closed);
+        self.count_note(is_noted);
     }
 }

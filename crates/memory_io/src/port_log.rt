@@ -35,20 +35,27 @@ impl PortLog {
         }
     }
 
-    pub(crate) fn note(&mut self, note: KeptNote)
-        ensures { Logs self.old self.new (seen_note note) }
+    /// Notes a call, and answers whether there was memory for the note.
+    pub(crate) fn note(&mut self, note: KeptNote) -> bool
+        ensures { Logs self.old self.new (seen_note note) result }
     {
-        if self.is_whole {
-            self.is_whole = self.notes.push(note).is_ok();
+        if !self.is_whole {
+            return true;
         }
+        self.is_whole = self.notes.push(note).is_ok();
+        self.is_whole
     }
 
-    pub(crate) fn note_send(&mut self, to: Recipient, bytes: &[u8], is_sent: bool)
-        ensures { Logs self.old self.new (seen_send to bytes.now is_sent) }
+    /// The same of a send.
+    pub(crate) fn note_send(&mut self, to: Recipient, bytes: &[u8], is_sent: bool) -> bool
+        ensures { Logs self.old self.new (seen_send to bytes.now is_sent) result }
     {
         match Vec::from_slice(*self.notes.allocator(), bytes) {
             Ok(bytes) => self.note(KeptNote::Send { to, bytes, is_sent }),
-            Err(_) => self.is_whole = false,
+            Err(_) => {
+                self.is_whole = false;
+                false
+            }
         }
     }
 

@@ -1,12 +1,16 @@
+use Rattle.std.proofs.Common.{◌∙◌}
 use Rattle.frame_loop.specs.Answering.{desk}
 use Rattle.frame_loop.proofs.DeskLemmas.{stays, one_more, finishes}
 use Rattle.frame_loop.proofs.answering.answer_all.Goals as goal
 
 pub frames-init : goal.frames-init
-frames-init g c = (c.requires, stays g.T.Answerer.reached (desk (g.K.Sink.seen c.args.sink.now) c.args.frames.now (c.args.answerer.now, c.args.world.now)))
+frames-init g c = (c.requires.ready, stays g.T.Answerer.reached (desk (g.K.Sink.seen c.args.sink.now) c.args.frames.now (c.args.answerer.now, c.args.world.now)))
 
-pub answer_next-requires : goal.answer_next-requires
-answer_next-requires g c = c.frames.invariant.0
+pub answer_next-requires-clause-reads : goal.answer_next-requires-clause-reads
+answer_next-requires-clause-reads g c = c.frames.invariant.1.kinds_are ∙ c.requires.reads
+
+pub answer_next-requires-clause-ready : goal.answer_next-requires-clause-ready
+answer_next-requires-clause-ready g c = c.frames.invariant.0
 
 pub returns-in-Err : goal.returns-in-Err
 returns-in-Err g c =

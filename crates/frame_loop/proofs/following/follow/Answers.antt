@@ -1,11 +1,18 @@
-use Rattle.std.proofs.Common.{◌∙◌, sym, arith}
+use Rattle.std.proofs.Common.{◌∙◌, ℕ, sym, ap, subst, arith}
+use Rattle.feed_frames.specs.Feed.{fresh_feed}
+use Rattle.feed_frames.specs.Frames.{IsPartialFrame}
 use Rattle.frame_loop.specs.Answering.{desk}
 use Rattle.frame_loop.specs.Transcript.{streams}
 use Rattle.frame_loop.proofs.StreamLemmas.{begins, moves, reads_on, at_bad_frame, at_limit, at_sink, at_its_end, at_source, reads_nothing, at_done, in_frame}
 use Rattle.frame_loop.proofs.following.follow.Goals as goal
 
+pub fill-requires-clause-answered : goal.fill-requires-clause-answered
+fill-requires-clause-answered g c =
+    let continues = c.in-Partial.ensures.continues in
+    subst (λ (k : ℕ). IsPartialFrame k c.answer_all.new.frames.left) (sym (continues.kinds_are ∙ c.pieces.invariant.1.at.reads)) c.in-Partial.ensures.partial
+
 pub pieces-init : goal.pieces-init
-pieces-init g c = (c.requires.ready, begins g.T.Answerer.reached (streams (g.S.Source.seen c.args.source.now) (g.K.Sink.seen c.args.sink.now)) c.args.limit (c.args.answerer.now, c.args.world.now) c.reset.new.self c.reset.ensures)
+pieces-init g c = (c.requires.ready, begins g.T.Answerer.reached (streams (g.S.Source.seen c.args.source.now) (g.K.Sink.seen c.args.sink.now)) c.args.limit (c.args.answerer.now, c.args.world.now) c.restart.new.self (c.restart.ensures ∙ ap fresh_feed c.KINDS.ensures))
 
 pub returns-in-Bad : goal.returns-in-Bad
 returns-in-Bad g c = at_bad_frame c.pieces.invariant.1.at c.in-Bad.ensures

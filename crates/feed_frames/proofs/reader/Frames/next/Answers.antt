@@ -10,4 +10,4 @@ pub returns-in-Partial : goal.returns-in-Partial
 returns-in-Partial c = rw (← c.self.view_is) ((refl, λ _. tt, record { same = refl; partial = rw c.deref.ensures.value at c.in-Partial.ensures }), record { ends = tt })
 
 pub returns-in-Whole : goal.returns-in-Whole
-returns-in-Whole c = rw (← c.self.view_is) ((refl, λ _. tt, taken c.self.inside.bytes.items c.self.inside.start c.self.inside.end c.self.inside.offset (frame_of c.in-Whole.frame) c.self.invariant.0 (rw c.deref.ensures.value at c.in-Whole.ensures)), record { ends = tt })
+returns-in-Whole c = rw (← c.self.view_is) ((refl, λ _. tt, taken c.self.inside.kinds c.self.inside.bytes.items c.self.inside.start c.self.inside.end c.self.inside.offset (frame_of c.in-Whole.frame) c.self.invariant.0 (rw c.deref.ensures.value at c.in-Whole.ensures)), record { ends = tt })
