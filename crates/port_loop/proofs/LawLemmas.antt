@@ -5,32 +5,11 @@ use Rattle.byte_io.specs.Port.{Note, polled, replied, fed_back, closed, Got, dat
 use Rattle.feed_frames.specs.Frames.{Frame, IsPartialFrame, bad, partial}
 use Rattle.feed_frames.specs.Replies.{Reply}
 use Rattle.feed_frames.proofs.SplittingLemmas.{splitting, one_splitting, bad_or_partial}
-use Rattle.port_loop.specs.Polls.{Brings, from_client, from_feed, at_bad_frame, at_end, at_nothing, at_fault}
-use Rattle.port_loop.specs.Sends.{to_client, sends_of, Replied, none, one, closing}
+use Rattle.port_loop.specs.Polls.{Parts, Closing, the_feed, Brings, from_client, from_feed, at_bad_frame, at_end, at_nothing, at_fault}
+use Rattle.port_loop.specs.Sends.{to_client, sends_of, Replied, none, one, closings}
 use Rattle.port_loop.specs.Transcript.{DealsWith, DealsWithAll, none_yet, one_more}
 use Rattle.port_loop.specs.Laws.{BringsSame, IsInItsPlace, polls_in}
 use Rattle.port_loop.specs.declared.sending.TheConstants.{DROPPED}
-
--- ---- one reading of a poll
-
-pub one_reading : (part : List ℕ) (got : Got) (frames others : List Frame) (after behind : List ℕ) (is_bad was_bad : Bool)
-    → Brings part got frames after is_bad → Brings part got others behind was_bad → BringsSame frames others after behind is_bad was_bad
-one_reading part _ _ _ _ _ _ _ (from_client client message) (from_client _ _) = record { frames_are = refl; after_is = refl; closing_is = refl }
-one_reading part _ _ _ _ _ _ _ (from_feed bytes frames rest s p) (from_feed _ others behind t q) =
-    let same = one_splitting (part ++ bytes) (splitting frames rest s (partial p)) (splitting others behind t (partial q)) in
-    record { frames_are = same.frames; after_is = same.rest; closing_is = refl }
-one_reading part _ _ _ _ _ _ _ (from_feed bytes frames rest s p) (at_bad_frame _ others behind t b) =
-    let same = one_splitting (part ++ bytes) (splitting frames rest s (partial p)) (splitting others behind t (bad b)) in
-    absurd (bad_or_partial behind b (subst IsPartialFrame same.rest p))
-one_reading part _ _ _ _ _ _ _ (at_bad_frame bytes frames rest s b) (from_feed _ others behind t q) =
-    let same = one_splitting (part ++ bytes) (splitting frames rest s (bad b)) (splitting others behind t (partial q)) in
-    absurd (bad_or_partial rest b (subst IsPartialFrame (sym same.rest) q))
-one_reading part _ _ _ _ _ _ _ (at_bad_frame bytes frames rest s b) (at_bad_frame _ others behind t d) =
-    let same = one_splitting (part ++ bytes) (splitting frames rest s (bad b)) (splitting others behind t (bad d)) in
-    record { frames_are = same.frames; after_is = refl; closing_is = refl }
-one_reading part _ _ _ _ _ _ _ at_end at_end = record { frames_are = refl; after_is = refl; closing_is = refl }
-one_reading part _ _ _ _ _ _ _ at_nothing at_nothing = record { frames_are = refl; after_is = refl; closing_is = refl }
-one_reading part _ _ _ _ _ _ _ at_fault at_fault = record { frames_are = refl; after_is = refl; closing_is = refl }
 
 -- ---- the place of each send
 
@@ -61,24 +40,6 @@ sends_then got more none rest = rest
 sends_then got more (one frame reply is_sent frames replies notes others) rest =
     subst (λ (q : List Note). IsInItsPlace got q) (sym (append_assoc (sends_of got reply is_sent) notes more)) (send_then got reply is_sent (notes ++ more) (sends_then got more others rest))
 
--- the feed is closed behind a piece alone
-closing_behind : {part after : List ℕ} {got : Got} {frames : List Frame} {is_bad : Bool} → Brings part got frames after is_bad → IsInItsPlace got (closing is_bad)
-closing_behind (from_client client message) = tt
-closing_behind (from_feed bytes frames rest s p) = tt
-closing_behind (at_bad_frame bytes frames rest s b) = (tt, tt)
-closing_behind at_end = tt
-closing_behind at_nothing = tt
-closing_behind at_fault = tt
-
-place_more : {part after : List ℕ} {frames : List Frame} {replies : List Reply} (notes added : List Note) → DealsWith part after frames replies added → IsInItsPlace nothing notes → IsInItsPlace nothing (notes ++ added)
-place_more notes added d before =
-    subst (λ (q : List Note). IsInItsPlace nothing (notes ++ q)) (sym d.notes_are)
-    (place_then nothing notes d.got (d.sends ++ closing d.is_bad) before (sends_then d.got (closing d.is_bad) d.replied (closing_behind d.brings)))
-
-pub in_place : (polls : ℕ) (part : List ℕ) (frames : List Frame) (replies : List Reply) (notes : List Note) → DealsWithAll polls part frames replies notes → IsInItsPlace nothing notes
-in_place _ _ _ _ _ none_yet = tt
-in_place _ _ _ _ _ (one_more polls part after {frames = frames} {replies = replies} {notes = notes} {added = added} before d) = place_more notes added d (in_place polls part frames replies notes before)
-
 -- ---- the number of polls
 
 polls_in-append : (notes more : List Note) → polls_in (notes ++ more) ≡ polls_in notes + polls_in more
@@ -105,20 +66,63 @@ no_poll_among got none = refl
 no_poll_among got (one frame reply is_sent frames replies notes others) =
     omega (arith, polls_in-append (sends_of got reply is_sent) notes, no_poll_in got reply is_sent, no_poll_among got others)
 
-closing_is_none : (is_bad : Bool) → polls_in (closing is_bad) ≡ 0
-closing_is_none true = refl
-closing_is_none false = refl
+closing_is_none : (shut : List Closing) → polls_in (closings shut) ≡ 0
+closing_is_none [] = refl
+closing_is_none (the_feed ∷ shut) = closing_is_none shut
 
-one_poll : {part after : List ℕ} {frames : List Frame} {replies : List Reply} (added : List Note) → DealsWith part after frames replies added → polls_in added ≡ 1
-one_poll added d =
-    let sends = no_poll_among d.got d.replied in
-    let close = closing_is_none d.is_bad in
-    let behind = polls_in-append d.sends (closing d.is_bad) in
-    ap polls_in d.notes_are ∙ ap suc (omega (arith, sends, close, behind))
+abbrev parts : List ℕ → Parts
+parts feed = record { feed = feed }
 
-polls_more : {part after : List ℕ} {frames : List Frame} {replies : List Reply} (polls : ℕ) (notes added : List Note) → DealsWith part after frames replies added → polls_in notes ≡ polls → polls_in (notes ++ added) ≡ suc polls
-polls_more polls notes added d before = omega (arith, polls_in-append notes added, one_poll added d, before)
+module _ {kinds : ℕ} where
+  -- ---- one reading of a poll
 
-pub counted : (polls : ℕ) (part : List ℕ) (frames : List Frame) (replies : List Reply) (notes : List Note) → DealsWithAll polls part frames replies notes → polls_in notes ≡ polls
-counted _ _ _ _ _ none_yet = refl
-counted _ _ _ _ _ (one_more polls part after {frames = frames} {replies = replies} {notes = notes} {added = added} before d) = polls_more polls notes added d (counted polls part frames replies notes before)
+  pub one_reading : (part : Parts) (got : Got) (frames others : List Frame) (after behind : Parts) (shut others_shut : List Closing)
+      → Brings kinds part got frames after shut → Brings kinds part got others behind others_shut → BringsSame frames others after behind shut others_shut
+  one_reading part _ _ _ _ _ _ _ (from_client client message) (from_client _ _) = record { frames_are = refl; after_is = refl; shut_are = refl }
+  one_reading part _ _ _ _ _ _ _ (from_feed bytes frames rest s p) (from_feed _ others behind t q) =
+      let same = one_splitting kinds (part.feed ++ bytes) (splitting kinds frames rest s (partial p)) (splitting kinds others behind t (partial q)) in
+      record { frames_are = same.frames; after_is = ap (λ (q : List ℕ). parts q) same.rest; shut_are = refl }
+  one_reading part _ _ _ _ _ _ _ (from_feed bytes frames rest s p) (at_bad_frame _ others behind t b) =
+      let same = one_splitting kinds (part.feed ++ bytes) (splitting kinds frames rest s (partial p)) (splitting kinds others behind t (bad b)) in
+      absurd (bad_or_partial kinds behind b (subst (IsPartialFrame kinds) same.rest p))
+  one_reading part _ _ _ _ _ _ _ (at_bad_frame bytes frames rest s b) (from_feed _ others behind t q) =
+      let same = one_splitting kinds (part.feed ++ bytes) (splitting kinds frames rest s (bad b)) (splitting kinds others behind t (partial q)) in
+      absurd (bad_or_partial kinds rest b (subst (IsPartialFrame kinds) (sym same.rest) q))
+  one_reading part _ _ _ _ _ _ _ (at_bad_frame bytes frames rest s b) (at_bad_frame _ others behind t d) =
+      let same = one_splitting kinds (part.feed ++ bytes) (splitting kinds frames rest s (bad b)) (splitting kinds others behind t (bad d)) in
+      record { frames_are = same.frames; after_is = refl; shut_are = refl }
+  one_reading part _ _ _ _ _ _ _ at_end at_end = record { frames_are = refl; after_is = refl; shut_are = refl }
+  one_reading part _ _ _ _ _ _ _ at_nothing at_nothing = record { frames_are = refl; after_is = refl; shut_are = refl }
+  one_reading part _ _ _ _ _ _ _ at_fault at_fault = record { frames_are = refl; after_is = refl; shut_are = refl }
+
+  -- the feed is closed behind a piece alone
+  closing_behind : {part after : Parts} {got : Got} {frames : List Frame} {shut : List Closing} → Brings kinds part got frames after shut → IsInItsPlace got (closings shut)
+  closing_behind (from_client client message) = tt
+  closing_behind (from_feed bytes frames rest s p) = tt
+  closing_behind (at_bad_frame bytes frames rest s b) = (tt, tt)
+  closing_behind at_end = tt
+  closing_behind at_nothing = tt
+  closing_behind at_fault = tt
+
+  place_more : {part after : Parts} {frames : List Frame} {replies : List Reply} (notes added : List Note) → DealsWith kinds part after frames replies added → IsInItsPlace nothing notes → IsInItsPlace nothing (notes ++ added)
+  place_more notes added d before =
+      subst (λ (q : List Note). IsInItsPlace nothing (notes ++ q)) (sym d.notes_are)
+      (place_then nothing notes d.got (d.sends ++ closings d.shut) before (sends_then d.got (closings d.shut) d.replied (closing_behind d.brings)))
+
+  pub in_place : (polls : ℕ) (part : Parts) (frames : List Frame) (replies : List Reply) (notes : List Note) → DealsWithAll kinds polls part frames replies notes → IsInItsPlace nothing notes
+  in_place _ _ _ _ _ none_yet = tt
+  in_place _ _ _ _ _ (one_more polls part after {frames = frames} {replies = replies} {notes = notes} {added = added} before d) = place_more notes added d (in_place polls part frames replies notes before)
+
+  one_poll : {part after : Parts} {frames : List Frame} {replies : List Reply} (added : List Note) → DealsWith kinds part after frames replies added → polls_in added ≡ 1
+  one_poll added d =
+      let sends = no_poll_among d.got d.replied in
+      let close = closing_is_none d.shut in
+      let behind = polls_in-append d.sends (closings d.shut) in
+      ap polls_in d.notes_are ∙ ap suc (omega (arith, sends, close, behind))
+
+  polls_more : {part after : Parts} {frames : List Frame} {replies : List Reply} (polls : ℕ) (notes added : List Note) → DealsWith kinds part after frames replies added → polls_in notes ≡ polls → polls_in (notes ++ added) ≡ suc polls
+  polls_more polls notes added d before = omega (arith, polls_in-append notes added, one_poll added d, before)
+
+  pub counted : (polls : ℕ) (part : Parts) (frames : List Frame) (replies : List Reply) (notes : List Note) → DealsWithAll kinds polls part frames replies notes → polls_in notes ≡ polls
+  counted _ _ _ _ _ none_yet = refl
+  counted _ _ _ _ _ (one_more polls part after {frames = frames} {replies = replies} {notes = notes} {added = added} before d) = polls_more polls notes added d (counted polls part frames replies notes before)

@@ -46,44 +46,45 @@ abbrev pub fed_to : Feed → ℕ
 fed_to feed = feed.offset + length feed.left
 
 -- the frames at the front of the feed were answered, each before the next, and each reply was sent
-pub record Answered {Start X : Type 0} (Reached After : Start → List Frame → List Reply → X → Type 0) (old new : Desk X) : Type 0 where
+pub record Answered {Start X : Type 0} (kinds : ℕ) (Reached After : Start → List Frame → List Reply → X → Type 0) (old new : Desk X) : Type 0 where
   pub frames : List Frame
   pub replies : List Reply
   pub sends : List Note
-  pub split : Splits old.feed.left frames new.feed.left
+  pub split : Splits kinds old.feed.left frames new.feed.left
+  pub kinds_are : new.feed.kinds ≡ old.feed.kinds
   pub fed : fed_to new.feed ≡ fed_to old.feed
   pub replied : Replied to_feed frames replies sends
   pub noted : Notes old.port new.port sends
   pub leads : LeadsTo Reached After old.now frames replies new.now
 
 -- one frame was answered
-pub record AnswersOne {Start X : Type 0} (Ready : X → Type 0) (Reached : Start → List Frame → List Reply → X → Type 0) (old new : Desk X) : Type 0 where
-  pub answered : Answered Reached Reached old new
+pub record AnswersOne {Start X : Type 0} (kinds : ℕ) (Ready : X → Type 0) (Reached : Start → List Frame → List Reply → X → Type 0) (old new : Desk X) : Type 0 where
+  pub answered : Answered kinds Reached Reached old new
   pub ready : Ready new.now
   pub less : length new.feed.left < length old.feed.left
 
 -- all whole frames were answered
-pub record HaltsAtPart {Start X : Type 0} (Ready : X → Type 0) (Reached : Start → List Frame → List Reply → X → Type 0) (old new : Desk X) : Type 0 where
-  pub answered : Answered Reached Reached old new
+pub record HaltsAtPart {Start X : Type 0} (kinds : ℕ) (Ready : X → Type 0) (Reached : Start → List Frame → List Reply → X → Type 0) (old new : Desk X) : Type 0 where
+  pub answered : Answered kinds Reached Reached old new
   pub ready : Ready new.now
-  pub partial : IsPartialFrame new.feed.left
+  pub partial : IsPartialFrame kinds new.feed.left
 
 -- what is left begins no frame
-pub record HaltsAtBad {Start X : Type 0} (Ready : X → Type 0) (Reached : Start → List Frame → List Reply → X → Type 0) (old new : Desk X) : Type 0 where
-  pub answered : Answered Reached Reached old new
+pub record HaltsAtBad {Start X : Type 0} (kinds : ℕ) (Ready : X → Type 0) (Reached : Start → List Frame → List Reply → X → Type 0) (old new : Desk X) : Type 0 where
+  pub answered : Answered kinds Reached Reached old new
   pub ready : Ready new.now
-  pub bad : IsBadFrame new.feed.left
+  pub bad : IsBadFrame kinds new.feed.left
 
 -- the last reply ended the run
-pub record EndsThere {Start X : Type 0} (Reached Broken : Start → List Frame → List Reply → X → Type 0) (old new : Desk X) : Type 0 where
-  pub answered : Answered Reached Broken old new
+pub record EndsThere {Start X : Type 0} (kinds : ℕ) (Reached Broken : Start → List Frame → List Reply → X → Type 0) (old new : Desk X) : Type 0 where
+  pub answered : Answered kinds Reached Broken old new
   pub some : 0 < length answered.frames
 
-abbrev pub AnswersAll : {Start X : Type 0} (Ready : X → Type 0) (Reached Broken : Start → List Frame → List Reply → X → Type 0) (old new : Desk X) → Halted → Type 0
-AnswersAll Ready Reached Broken old new Partial = HaltsAtPart Ready Reached old new
-AnswersAll Ready Reached Broken old new Bad = HaltsAtBad Ready Reached old new
-AnswersAll Ready Reached Broken old new Ended = EndsThere Reached Broken old new
+abbrev pub AnswersAll : {Start X : Type 0} (kinds : ℕ) (Ready : X → Type 0) (Reached Broken : Start → List Frame → List Reply → X → Type 0) (old new : Desk X) → Halted → Type 0
+AnswersAll kinds Ready Reached Broken old new Partial = HaltsAtPart kinds Ready Reached old new
+AnswersAll kinds Ready Reached Broken old new Bad = HaltsAtBad kinds Ready Reached old new
+AnswersAll kinds Ready Reached Broken old new Ended = EndsThere kinds Reached Broken old new
 
-abbrev pub AnswersNext : {Start X A : Type 0} (Ready : X → Type 0) (Reached Broken : Start → List Frame → List Reply → X → Type 0) (old new : Desk X) → Result A Halted → Type 0
-AnswersNext Ready Reached Broken old new (Ok done) = AnswersOne Ready Reached old new
-AnswersNext Ready Reached Broken old new (Err halted) = AnswersAll Ready Reached Broken old new halted
+abbrev pub AnswersNext : {Start X A : Type 0} (kinds : ℕ) (Ready : X → Type 0) (Reached Broken : Start → List Frame → List Reply → X → Type 0) (old new : Desk X) → Result A Halted → Type 0
+AnswersNext kinds Ready Reached Broken old new (Ok done) = AnswersOne kinds Ready Reached old new
+AnswersNext kinds Ready Reached Broken old new (Err halted) = AnswersAll kinds Ready Reached Broken old new halted

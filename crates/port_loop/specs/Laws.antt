@@ -1,13 +1,14 @@
 -- What a reader may check of a transcript.
-use Rattle.std.specs.Prelude.{◌≡◌, ℕ, suc, Bool, List, [], ◌∷◌}
+use Rattle.std.specs.Prelude.{◌≡◌, ℕ, suc, List, [], ◌∷◌}
 use Rattle.byte_io.specs.Port.{Note, polled, replied, fed_back, closed, Got, datagram, piece, feed_end, nothing, fault}
 use Rattle.feed_frames.specs.Frames.{Frame}
+use Rattle.port_loop.specs.Polls.{Parts, Closing}
 
 -- what two readings of a poll bring is the same
-pub record BringsSame (frames others : List Frame) (after behind : List ℕ) (is_bad was_bad : Bool) : Type 0 where
+pub record BringsSame (frames others : List Frame) (after behind : Parts) (shut others_shut : List Closing) : Type 0 where
   pub frames_are : frames ≡ others
   pub after_is : after ≡ behind
-  pub closing_is : is_bad ≡ was_bad
+  pub shut_are : shut ≡ others_shut
 
 -- the poll brought a datagram of this client
 abbrev pub IsOf : ℕ → Got → Type 0

@@ -1,8 +1,9 @@
 -- Where replies go.
-use Rattle.std.specs.Prelude.{ℕ, Bool, true, false, ◌==◌, if◌then◌else◌, List, [], ◌∷◌, ◌++◌}
+use Rattle.std.specs.Prelude.{ℕ, Bool, map, ◌==◌, if◌then◌else◌, List, [], ◌∷◌, ◌++◌}
 use Rattle.byte_io.specs.Port.{Note, replied, fed_back, closed, Got, datagram, piece, feed_end, nothing, fault, PortSeen, Notes}
 use Rattle.feed_frames.specs.Frames.{Frame}
 use Rattle.feed_frames.specs.Replies.{Reply, reply_text}
+use Rattle.port_loop.specs.Polls.{Closing, the_feed}
 use Rattle.port_loop.specs.declared.sending.TheConstants.{DROPPED}
 use Rattle.port_loop.specs.declared.sending.Destination.{Destination}
 use Rattle.port_loop.specs.declared.sending.Destination.TheVariants.{Client, Feed}
@@ -36,10 +37,12 @@ pub data Replied (sends : Reply → Bool → List Note) : List Frame → List Re
   one : (frame : Frame) (reply : Reply) (is_sent : Bool) (frames : List Frame) (replies : List Reply) (notes : List Note)
       → Replied sends frames replies notes → Replied sends (frame ∷ frames) (reply ∷ replies) (sends reply is_sent ++ notes)
 
--- the feed is closed, or it isn't
-abbrev pub closing : Bool → List Note
-closing true = closed ∷ []
-closing false = []
+-- what is asked for what is to be closed
+abbrev pub closing : Closing → Note
+closing the_feed = closed
+
+abbrev pub closings : List Closing → List Note
+closings = map closing
 
 -- a reply was sent, or the send failed
 pub record SendsOne (old new : PortSeen) (sends : Bool → List Note) : Type 0 where

@@ -3,71 +3,71 @@ use Rattle.std.specs.Prelude.{◌≡◌, ℕ, suc, ◌<◌, Bool, List, [], ◌�
 use Rattle.byte_io.specs.Port.{Note, polled, Got, PortSeen, Notes}
 use Rattle.feed_frames.specs.Frames.{Frame}
 use Rattle.feed_frames.specs.Replies.{Reply}
-use Rattle.port_loop.specs.Polls.{Brings, BringsFirst}
-use Rattle.port_loop.specs.Sends.{sends_of, Replied, closing}
+use Rattle.port_loop.specs.Polls.{Parts, no_parts, Closing, Brings, BringsFirst}
+use Rattle.port_loop.specs.Sends.{sends_of, Replied, closings}
 use Rattle.port_loop.specs.declared.attending.Ending.{Ending}
 use Rattle.port_loop.specs.declared.attending.Ending.TheVariants.{Done, Ended}
 
 -- one poll that was dealt with: each of its frames was answered, and each reply sent, in order; and then the feed was closed,
 -- if a bad frame stood there
-pub record DealsWith (part after : List ℕ) (frames : List Frame) (replies : List Reply) (notes : List Note) : Type 0 where
+pub record DealsWith (kinds : ℕ) (part after : Parts) (frames : List Frame) (replies : List Reply) (notes : List Note) : Type 0 where
   pub got : Got
-  pub is_bad : Bool
+  pub shut : List Closing
   pub sends : List Note
-  pub brings : Brings part got frames after is_bad
+  pub brings : Brings kinds part got frames after shut
   pub replied : Replied (sends_of got) frames replies sends
-  pub notes_are : notes ≡ polled got ∷ (sends ++ closing is_bad)
+  pub notes_are : notes ≡ polled got ∷ (sends ++ closings shut)
 
 -- one poll of which some frames were answered, the last with the reply that ended the run. Nothing was asked behind its send
-pub record BreaksOff (part : List ℕ) (frames : List Frame) (replies : List Reply) (notes : List Note) : Type 0 where
+pub record BreaksOff (kinds : ℕ) (part : Parts) (frames : List Frame) (replies : List Reply) (notes : List Note) : Type 0 where
   pub got : Got
   pub sends : List Note
-  pub brings : BringsFirst part got frames
+  pub brings : BringsFirst kinds part got frames
   pub some : 0 < length frames
   pub replied : Replied (sends_of got) frames replies sends
   pub notes_are : notes ≡ polled got ∷ sends
 
 -- so many polls were made, each dealt with before the next: what of the feed is a part of a frame, the frames, the replies, and what the port noted
-pub data DealsWithAll : ℕ → List ℕ → List Frame → List Reply → List Note → Type 0 where
-  none_yet : DealsWithAll 0 [] [] [] []
-  one_more : (polls : ℕ) (part after : List ℕ) {frames more : List Frame} {replies answers : List Reply} {notes added : List Note}
-      → DealsWithAll polls part frames replies notes → DealsWith part after more answers added
-      → DealsWithAll (suc polls) after (frames ++ more) (replies ++ answers) (notes ++ added)
+pub data DealsWithAll (kinds : ℕ) : ℕ → Parts → List Frame → List Reply → List Note → Type 0 where
+  none_yet : DealsWithAll kinds 0 no_parts [] [] []
+  one_more : (polls : ℕ) (part after : Parts) {frames more : List Frame} {replies answers : List Reply} {notes added : List Note}
+      → DealsWithAll kinds polls part frames replies notes → DealsWith kinds part after more answers added
+      → DealsWithAll kinds (suc polls) after (frames ++ more) (replies ++ answers) (notes ++ added)
 
 -- whatever came before, these frames and replies lead on from there
 pub record LeadsTo {Start X : Type 0} (Reached After : Start → List Frame → List Reply → X → Type 0) (old : X) (frames : List Frame) (replies : List Reply) (new : X) : Type 0 where
   pub from : (start : Start) (before : List Frame) (answered : List Reply) → Reached start before answered old → After start (before ++ frames) (answered ++ replies) new
 
 -- all polls were made and dealt with
-pub record IsDone {Start X : Type 0} (Reached : Start → List Frame → List Reply → X → Type 0) (turns : ℕ) (notes : List Note) (first now : X) : Type 0 where
-  pub part : List ℕ
+pub record IsDone {Start X : Type 0} (kinds : ℕ) (Reached : Start → List Frame → List Reply → X → Type 0) (turns : ℕ) (notes : List Note) (first now : X) : Type 0 where
+  pub part : Parts
   pub frames : List Frame
   pub replies : List Reply
-  pub dealt : DealsWithAll turns part frames replies notes
+  pub dealt : DealsWithAll kinds turns part frames replies notes
   pub leads : LeadsTo Reached Reached first frames replies now
 
 -- the polls before the last were dealt with, and the last reply ended the run
-pub record HasEnded {Start X : Type 0} (Reached Broken : Start → List Frame → List Reply → X → Type 0) (turns : ℕ) (notes : List Note) (first now : X) : Type 0 where
+pub record HasEnded {Start X : Type 0} (kinds : ℕ) (Reached Broken : Start → List Frame → List Reply → X → Type 0) (turns : ℕ) (notes : List Note) (first now : X) : Type 0 where
   pub polls : ℕ
-  pub part : List ℕ
+  pub part : Parts
   pub frames : List Frame
   pub replies : List Reply
   pub before : List Note
   pub fewer : polls < turns
-  pub dealt : DealsWithAll polls part frames replies before
+  pub dealt : DealsWithAll kinds polls part frames replies before
   pub last_frames : List Frame
   pub last_replies : List Reply
   pub last_notes : List Note
-  pub last : BreaksOff part last_frames last_replies last_notes
+  pub last : BreaksOff kinds part last_frames last_replies last_notes
   pub notes_are : notes ≡ before ++ last_notes
   pub leads : LeadsTo Reached Broken first (frames ++ last_frames) (replies ++ last_replies) now
 
-abbrev pub Transcript : {Start X : Type 0} (Reached Broken : Start → List Frame → List Reply → X → Type 0) (turns : ℕ) (notes : List Note) (first : X) → Ending → X → Type 0
-Transcript Reached Broken turns notes first Done now = IsDone Reached turns notes first now
-Transcript Reached Broken turns notes first Ended now = HasEnded Reached Broken turns notes first now
+abbrev pub Transcript : {Start X : Type 0} (kinds : ℕ) (Reached Broken : Start → List Frame → List Reply → X → Type 0) (turns : ℕ) (notes : List Note) (first : X) → Ending → X → Type 0
+Transcript kinds Reached Broken turns notes first Done now = IsDone kinds Reached turns notes first now
+Transcript kinds Reached Broken turns notes first Ended now = HasEnded kinds Reached Broken turns notes first now
 
 -- what the port noted, which stays bound, and how the run ended
-pub record Attends {Start X : Type 0} (Reached Broken : Start → List Frame → List Reply → X → Type 0) (old new : PortSeen) (turns : ℕ) (first : X) (how : Ending) (now : X) : Type 0 where
+pub record Attends {Start X : Type 0} (kinds : ℕ) (Reached Broken : Start → List Frame → List Reply → X → Type 0) (old new : PortSeen) (turns : ℕ) (first : X) (how : Ending) (now : X) : Type 0 where
   pub notes : List Note
   pub noted : Notes old new notes
-  pub transcript : Transcript Reached Broken turns notes first how now
+  pub transcript : Transcript kinds Reached Broken turns notes first how now

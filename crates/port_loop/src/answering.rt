@@ -1,3 +1,4 @@
+ghost use Rattle.std.specs.Prelude.{◌≡◌};
 ghost use Rattle.byte_io.specs.Port.{IsBound};
 ghost use Rattle.feed_frames.specs.Front.{frame_of};
 ghost use Rattle.frame_loop.specs.Turns.{IsAskable};
@@ -23,7 +24,7 @@ pub(crate) fn answer<W, T: Answerer<W>, P: Port, L: Ledger>(
     port: &mut P,
     steps: &mut Steps<L>,
 ) -> Result<(), Over>
-    requires askable { IsAskable (frame_of frame) }
+    requires askable { IsAskable T.KINDS (frame_of frame) }
     requires bound { IsBound (P.seen port.old) }
     requires ready { T.ready (answerer.old, world.old) }
     ensures { Answers T.ready T.reached T.broken (sends_to destination) (frame_of frame.entry) (held (P.seen port.old) (answerer.old, world.old)) (held (P.seen port.new) (answerer.new, world.new)) result }
@@ -54,9 +55,10 @@ fn answer_next<W, T: Answerer<W>, P: Port, L: Ledger>(
     port: &mut P,
     steps: &mut Steps<L>,
 ) -> Result<(), Halted>
+    requires reads { frames.old.kinds ≡ T.KINDS }
     requires bound { IsBound (P.seen port.old) }
     requires ready { T.ready (answerer.old, world.old) }
-    ensures { AnswersNext T.ready T.reached T.broken (desk (P.seen port.old) frames.old (answerer.old, world.old)) (desk (P.seen port.new) frames.new (answerer.new, world.new)) result }
+    ensures { AnswersNext T.KINDS T.ready T.reached T.broken (desk (P.seen port.old) frames.old (answerer.old, world.old)) (desk (P.seen port.new) frames.new (answerer.new, world.new)) result }
 {
     let answered = match frames.next() {
         Ok(Some(frame)) => answer(
@@ -88,9 +90,10 @@ pub(crate) fn answer_all<W, T: Answerer<W>, P: Port, L: Ledger>(
     port: &mut P,
     steps: &mut Steps<L>,
 ) -> Halted
+    requires reads { frames.old.kinds ≡ T.KINDS }
     requires bound { IsBound (P.seen port.old) }
     requires ready { T.ready (answerer.old, world.old) }
-    ensures { AnswersAll T.ready T.reached T.broken (desk (P.seen port.old) frames.old (answerer.old, world.old)) (desk (P.seen port.new) frames.new (answerer.new, world.new)) result }
+    ensures { AnswersAll T.KINDS T.ready T.reached T.broken (desk (P.seen port.old) frames.old (answerer.old, world.old)) (desk (P.seen port.new) frames.new (answerer.new, world.new)) result }
 {
     'frames: loop {
         match answer_next(alloc, answerer, world, frames, reply, port, steps) {

@@ -33,10 +33,10 @@ pub fn attend<W, T: Answerer<W>, P: Port, L: Ledger>(
 ) -> Ending
     requires bound { IsBound (P.seen port.old) }
     requires ready { T.ready (answerer.old, world.old) }
-    ensures { Attends T.reached T.broken (P.seen port.old) (P.seen port.new) turns (answerer.old, world.old) result (answerer.new, world.new) }
+    ensures { Attends T.KINDS T.reached T.broken (P.seen port.old) (P.seen port.new) turns (answerer.old, world.old) result (answerer.new, world.new) }
 {
     let mut polls: u32 = 0;
-    buffers.frames.reset();
+    buffers.frames.restart(T::KINDS);
     while polls < turns {
         match answer_poll(alloc, answerer, world, buffers, port, steps) {
             Ok(()) => {}

@@ -1,4 +1,4 @@
-ghost use Rattle.std.specs.Prelude.{◌<◌, ◌+◌, ◌^◌};
+ghost use Rattle.std.specs.Prelude.{◌≡◌, ◌<◌, ◌+◌, ◌^◌};
 ghost use Rattle.byte_io.specs.Port.{IsBound};
 ghost use Rattle.byte_io.specs.declared.port.TheConstants.{POLL_ROOM};
 ghost use Rattle.feed_frames.specs.Frames.{IsPartialFrame};
@@ -27,7 +27,7 @@ impl PollBuffers {
     /// Room for the longest frame and a piece behind it, for what a poll brings, and for a reply.
     pub fn new(alloc: Global) -> Result<PollBuffers, NoMemory> {
         Ok(PollBuffers {
-            frames: Frames::new(alloc)?,
+            frames: Frames::new(alloc, 0)?,
             room: PollRoom::new(alloc)?,
             reply: ReplyBuf::new(alloc)?,
         })
@@ -44,9 +44,10 @@ fn answer_piece<W, T: Answerer<W>, P: Port, L: Ledger>(
     port: &mut P,
     steps: &mut Steps<L>,
 ) -> Result<(), Over>
+    requires reads { frames.old.kinds ≡ T.KINDS }
     requires bound { IsBound (P.seen port.old) }
     requires ready { T.ready (answerer.old, world.old) }
-    ensures { AnswersPiece T.ready T.reached T.broken (desk (P.seen port.old) frames.old (answerer.old, world.old)) (desk (P.seen port.new) frames.new (answerer.new, world.new)) result }
+    ensures { AnswersPiece T.KINDS T.ready T.reached T.broken (desk (P.seen port.old) frames.old (answerer.old, world.old)) (desk (P.seen port.new) frames.new (answerer.new, world.new)) result }
 {
     match answer_all(alloc, answerer, world, frames, reply, port, steps) {
         Halted::Partial => Ok(()),
@@ -69,9 +70,10 @@ pub(crate) fn answer_poll<W, T: Answerer<W>, P: Port, L: Ledger>(
 ) -> Result<(), Over>
     requires bound { IsBound (P.seen port.old) }
     requires ready { T.ready (answerer.old, world.old) }
-    requires answered { IsPartialFrame buffers.old.frames.left }
+    requires reads { buffers.old.frames.kinds ≡ T.KINDS }
+    requires answered { IsPartialFrame T.KINDS buffers.old.frames.left }
     requires short { fed_to buffers.old.frames + POLL_ROOM < 2 ^ 63 }
-    ensures { AnswersPoll T.ready T.reached T.broken (desk (P.seen port.old) buffers.old.frames (answerer.old, world.old)) (desk (P.seen port.new) buffers.new.frames (answerer.new, world.new)) result }
+    ensures { AnswersPoll T.KINDS T.ready T.reached T.broken (desk (P.seen port.old) buffers.old.frames (answerer.old, world.old)) (desk (P.seen port.new) buffers.new.frames (answerer.new, world.new)) result }
 {
     let PollBuffers {
         frames,

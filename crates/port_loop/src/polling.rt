@@ -57,7 +57,7 @@ impl PollRoom {
 
 /// Feeds so many bytes of what was brought to the reader of frames. All whole frames before them were answered.
 pub(crate) fn feed_front(frames: &mut Frames, room: &PollRoom, count: usize)
-    requires answered { IsPartialFrame frames.old.left }
+    requires answered { IsPartialFrame frames.old.kinds frames.old.left }
     requires count { count ≤ length room.now }
     requires short { fed_to frames.old + POLL_ROOM < 2 ^ 63 }
     ensures grown { frames.new ≡ after_piece frames.old (take count room.now) }

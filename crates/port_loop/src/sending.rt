@@ -47,7 +47,7 @@ pub(crate) fn send<P: Port>(port: &mut P, destination: Destination, reply: &Repl
 pub(crate) fn drop_feed<P: Port>(frames: &mut Frames, port: &mut P)
     requires { IsBound (P.seen port.old) }
     ensures closed { Notes (P.seen port.old) (P.seen port.new) (closed ∷ []) }
-    ensures forgotten { frames.new ≡ fresh_feed }
+    ensures forgotten { frames.new ≡ fresh_feed frames.old.kinds }
 {
     port.close_feed();
     frames.reset();

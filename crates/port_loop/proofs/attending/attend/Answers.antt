@@ -1,11 +1,12 @@
-use Rattle.std.proofs.Common.{arith}
+use Rattle.std.proofs.Common.{◌∙◌, ap, arith}
+use Rattle.feed_frames.specs.Feed.{fresh_feed}
 use Rattle.port_loop.specs.Answering.{desk}
 use Rattle.port_loop.proofs.RunLemmas.{begins, goes_on, is_done, has_ended}
 use Rattle.port_loop.proofs.attending.attend.Goals as goal
 
 pub loop-polls-init : goal.loop-polls-init
 loop-polls-init g c =
-    (omega arith, begins g.T.Answerer.ready g.T.Answerer.reached (g.P.Port.seen c.args.port.now) (c.args.answerer.now, c.args.world.now) c.reset.new.self c.requires.bound c.requires.ready c.reset.ensures)
+    (omega arith, begins g.T.Answerer.ready g.T.Answerer.reached (g.P.Port.seen c.args.port.now) (c.args.answerer.now, c.args.world.now) c.restart.new.self c.requires.bound c.requires.ready (c.restart.ensures ∙ ap fresh_feed c.KINDS.ensures))
 
 pub returns-in-Err : goal.returns-in-Err
 returns-in-Err g c =

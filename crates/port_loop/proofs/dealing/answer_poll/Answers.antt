@@ -1,19 +1,23 @@
-use Rattle.std.proofs.Common.{take}
+use Rattle.std.proofs.Common.{ℕ, take, sym, subst}
+use Rattle.feed_frames.specs.Frames.{IsPartialFrame}
 use Rattle.byte_io.specs.Port.{nothing, fault}
 use Rattle.port_loop.specs.Polls.{at_nothing, at_fault}
 use Rattle.port_loop.specs.Answering.{desk}
 use Rattle.port_loop.proofs.PollLemmas.{brings_nothing, brings_end, query_dealt, piece_dealt}
 use Rattle.port_loop.proofs.dealing.answer_poll.Goals as goal
 
+pub feed_front-requires-clause-answered : goal.feed_front-requires-clause-answered
+feed_front-requires-clause-answered g c = subst (λ (k : ℕ). IsPartialFrame k c.args.buffers.now.frames.left) (sym c.requires.reads) c.requires.answered
+
 pub returns-in-Query : goal.returns-in-Query
 returns-in-Query g c =
-    query_dealt g.T.Answerer.ready g.T.Answerer.reached g.T.Answerer.broken (desk (g.P.Port.seen c.args.port.now) c.args.buffers.now.frames (c.args.answerer.now, c.args.world.now))
+    query_dealt g.T.Answerer.KINDS g.T.Answerer.ready g.T.Answerer.reached g.T.Answerer.broken (desk (g.P.Port.seen c.args.port.now) c.args.buffers.now.frames (c.args.answerer.now, c.args.world.now))
     (record { port = g.P.Port.seen c.poll.new.port; client = c.in-Query.client; message = take c.in-Query.len c.poll.new.self }) (g.P.Port.seen c.answer.new.port) (c.answer.new.answerer, c.answer.new.world) c.answer.result
     c.in-Query.ensures.noted c.requires.answered (rw c.front.ensures.value at c.answer.ensures)
 
 pub returns-in-Feed : goal.returns-in-Feed
 returns-in-Feed g c =
-    piece_dealt g.T.Answerer.ready g.T.Answerer.reached g.T.Answerer.broken (desk (g.P.Port.seen c.args.port.now) c.args.buffers.now.frames (c.args.answerer.now, c.args.world.now))
+    piece_dealt g.T.Answerer.KINDS g.T.Answerer.ready g.T.Answerer.reached g.T.Answerer.broken (desk (g.P.Port.seen c.args.port.now) c.args.buffers.now.frames (c.args.answerer.now, c.args.world.now))
     (take c.in-Feed.len c.poll.new.self) (record { port = g.P.Port.seen c.poll.new.port; feed = c.feed_front.new.frames })
     (desk (g.P.Port.seen c.answer_piece.new.port) c.answer_piece.new.frames (c.answer_piece.new.answerer, c.answer_piece.new.world)) c.answer_piece.result
     (record { noted = c.in-Feed.ensures.noted; grown = c.feed_front.ensures.grown; within = c.feed_front.ensures.within }) c.answer_piece.ensures
