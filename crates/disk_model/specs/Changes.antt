@@ -28,10 +28,22 @@ pub record AfterSync (old new : FileState) : Type 0 where
   pub no_shorter : old.least ≤ new.least
   pub no_longer : new.greatest ≤ old.greatest
 
+-- all that was settled of each file is settled still, and no file may be longer or shorter than before: as syncs leave them
+abbrev pub KeepsSettled : Files → Files → Type 0
+KeepsSettled old new = (file : ℕ) → AfterSync (old file) (new file)
+
+-- the files but this one are as they were
+abbrev pub LeavesOthers : ℕ → Files → Files → Type 0
+LeavesOthers file old new = (other : ℕ) → other ≢ file → new other ≡ old other
+
+-- the files from this one on are as they were
+abbrev pub LeavesFrom : ℕ → Files → Files → Type 0
+LeavesFrom first old new = (file : ℕ) → first ≤ file → new file ≡ old file
+
 -- this file has changed so, and the others are as they were
 pub record Changes (file : ℕ) (change : FileState → FileState → Type 0) (old new : Files) : Type 0 where
   pub here : change (old file) (new file)
-  pub others : (other : ℕ) → other ≢ file → new other ≡ old other
+  pub others : LeavesOthers file old new
 
 -- each file is as it was
 abbrev pub Unchanged : Files → Files → Type 0

@@ -1,29 +1,31 @@
 ghost use Rattle.std.specs.Prelude.{◌≡◌, ◌⊎◌, ℕ, ◌≤◌, List, IsTrue};
 ghost use Rattle.disk_model.specs.FileState.{IsFileImage, IsSettled};
 ghost use Rattle.disk_model.specs.Moments.{Files, Moments, EachMoment, IsImage, LeftSince, clock};
-ghost use Rattle.disk_model.specs.Changes.{Changes, AfterSync};
+ghost use Rattle.disk_model.specs.Changes.{Changes, AfterSync, KeepsSettled};
 ghost use Rattle.disk_model.specs.DiskSeen.{file_in, bytes_in};
 
 use crate::disk::Disk;
 
-/// A fact about the files of a disk. Contracts give its meaning; it is never called.
+/// A fact that a value tells about the files of a disk. Contracts give its meaning; it is never called.
 pub trait OfFiles {
     ghost use Rattle.disk_model.specs.Moments.{Files};
 
-    ghost holds: { Files → Type 0 };
+    ghost holds: { Self → Files → Type 0 };
 }
 
 /// The law of moments. Where a fact holds of the files at each moment from an old one to a new one, time did
 /// not run back, each image that a crash since an earlier time may have left then it may have left still, and
 /// it may have left no other but an image of files that have the fact.
-pub fn images_of_moments<P: OfFiles>()
-    ensures later { (old new : Moments) → EachMoment P.holds old new → clock old ≤ clock new }
+pub fn images_of_moments<P: OfFiles>(fact: &P)
+    ensures later { (old new : Moments) → EachMoment (P.holds fact.now) old new → clock old ≤ clock new }
     ensures kept { (old new : Moments) (time : ℕ) (image : ℕ → List ℕ)
-        → EachMoment P.holds old new → LeftSince old time image → LeftSince new time image }
+        → EachMoment (P.holds fact.now) old new → LeftSince old time image → LeftSince new time image }
     ensures nothing_else { (old new : Moments) (time : ℕ) (image : ℕ → List ℕ)
-        → EachMoment P.holds old new → LeftSince new time image
-        → LeftSince old time image ⊎ ((files : Files) × P.holds files × IsImage files image) }
-{}
+        → EachMoment (P.holds fact.now) old new → LeftSince new time image
+        → LeftSince old time image ⊎ ((files : Files) × P.holds fact.now files × IsImage files image) }
+{
+    let _ = fact;
+}
 
 /// The law of images. What reads give is one of the images that a crash now may leave, and of a file that
 /// is settled, as after a sync, it is the only one.
@@ -36,9 +38,9 @@ pub fn images_of_a_disk<D: Disk>(disk: &D)
     let _ = disk;
 }
 
-/// The law of syncs. A sync, done or failed, adds no image: what a crash may leave then, it may have left
-/// before.
+/// The law of syncs. A sync of one file, done or failed, keeps all that was settled of each. Where that is kept, no image is
+/// added: what a crash may leave then, it may have left before.
 pub fn images_after_a_sync()
-    ensures { (file : ℕ) (old new : Files) (image : ℕ → List ℕ)
-        → Changes file AfterSync old new → IsImage new image → IsImage old image }
+    ensures kept { (file : ℕ) (old new : Files) → Changes file AfterSync old new → KeepsSettled old new }
+    ensures none_more { (old new : Files) (image : ℕ → List ℕ) → KeepsSettled old new → IsImage new image → IsImage old image }
 {}

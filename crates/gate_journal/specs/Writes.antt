@@ -2,7 +2,7 @@
 use Rattle.std.specs.Prelude.{◌≡◌, ◌≢◌, ◌⊎◌, ℕ, ◌<◌, ◌≤◌, IsTrue, List, [], ◌∷◌, length, slice_index}
 use Rattle.disk_model.specs.FileState.{FileState, IsFileImage, put}
 use Rattle.disk_model.specs.Moments.{Files}
-use Rattle.disk_model.specs.Changes.{Changes, AfterSync, StaysSettled}
+use Rattle.disk_model.specs.Changes.{Changes, AfterSync, LeavesOthers, StaysSettled}
 use Rattle.gate_journal.specs.Gate.{ClosedAfter}
 
 -- the first n bytes stay as they were: what is settled of them stays so
@@ -20,7 +20,7 @@ pub record IsSettledBut (gate : ℕ) (bytes : List ℕ) (file : FileState) : Typ
 -- A crash at this moment leaves the journal with its text as before or as after, and no other file has changed.
 pub record IsBeforeOrAfter (file : ℕ) (before after : List ℕ) (old files : Files) : Type 0 where
   pub image : (image : List ℕ) → IsFileImage (files file) image → ClosedAfter before image ⊎ ClosedAfter after image
-  pub others : (other : ℕ) → other ≢ file → files other ≡ old other
+  pub others : LeavesOthers file old files
 
 -- While a gate is opened: nothing but a sync has come to the file, or each byte but the gate's is settled.
 abbrev pub OpensSettled : ℕ → ℕ → List ℕ → Files → Files → Type 0
@@ -34,4 +34,4 @@ IsOpenedOrClosed gate bytes image = (image ≡ put bytes gate (1 ∷ [])) ⊎ ((
 -- has changed.
 pub record HoldsGate (file gate : ℕ) (bytes : List ℕ) (old files : Files) : Type 0 where
   pub image : (image : List ℕ) → IsFileImage (files file) image → IsOpenedOrClosed gate bytes image
-  pub others : (other : ℕ) → other ≢ file → files other ≡ old other
+  pub others : LeavesOthers file old files

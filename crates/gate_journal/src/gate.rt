@@ -1,10 +1,9 @@
 // Gates, and their opening.
 ghost use Rattle.std.specs.Prelude.{◌≡◌, ◌<◌, ◌∷◌, [], length, IsTrue, OnOk};
-ghost use Rattle.fault_counts.specs.Faults.{HasCause};
 ghost use Rattle.disk_model.specs.FileState.{IsSettled, put};
 ghost use Rattle.disk_model.specs.Moments.{EachMoment};
 ghost use Rattle.disk_model.specs.Changes.{Changes};
-ghost use Rattle.disk_model.specs.DiskSeen.{file_in, bytes_in};
+ghost use Rattle.disk_model.specs.DiskSeen.{Ends, file_in, bytes_in};
 ghost use Rattle.gate_journal.specs.Calls.{OpensGate};
 ghost use Rattle.gate_journal.specs.Writes.{IsSettledBut, OpensSettled};
 
@@ -37,7 +36,7 @@ pub fn open_behind<D: Disk>(disk: &mut D, file: u8, gate: u64) -> Result<(), Fai
     ensures settled { IsTrue D.tells → OnOk result (IsSettled (file_in (D.seen disk.new) file)) }
     ensures any_moment { IsTrue D.tells → EachMoment
         (OpensSettled file gate (bytes_in (D.seen disk.old) file) (D.seen disk.old).moments.now) (D.seen disk.old).moments (D.seen disk.new).moments }
-    ensures cause { HasCause (D.seen disk.old).faults (D.seen disk.new).faults result }
+    ensures ends { Ends (D.seen disk.old) (D.seen disk.new) result }
 {
     disk.sync(file)?;
     write_gate(disk, file, gate)
@@ -52,7 +51,7 @@ fn write_gate<D: Disk>(disk: &mut D, file: u8, gate: u64) -> Result<(), Failed>
     ensures settled { IsTrue D.tells → OnOk result (IsSettled (file_in (D.seen disk.new) file)) }
     ensures any_moment { IsTrue D.tells → EachMoment (Changes file (λ _ new. IsSettledBut gate (bytes_in (D.seen disk.old) file) new) (D.seen disk.old).moments.now)
         (D.seen disk.old).moments (D.seen disk.new).moments }
-    ensures cause { HasCause (D.seen disk.old).faults (D.seen disk.new).faults result }
+    ensures ends { Ends (D.seen disk.old) (D.seen disk.new) result }
 {
     disk.write_at(file, gate, &[OPEN])?;
     disk.sync(file)

@@ -1,10 +1,9 @@
 // Reading the start of a record: its gate and its length.
-ghost use Rattle.std.specs.Prelude.{◌≡◌, ◌<◌, ◌≤◌, ◌+◌, ◌^◌, length, IsTrue, IsErrOf, IfOk, IfSome};
+ghost use Rattle.std.specs.Prelude.{◌≡◌, ◌<◌, ◌≤◌, ◌+◌, ◌^◌, length, IsTrue, IfOk, IfSome};
 ghost use Rattle.std.specs.Int.{w32, from_le_bytes, to_le_bytes};
-ghost use Rattle.fault_counts.specs.Faults.{NeverFell, Rose};
 ghost use Rattle.disk_model.specs.Moments.{EachMoment};
 ghost use Rattle.disk_model.specs.Changes.{Unchanged};
-ghost use Rattle.disk_model.specs.DiskSeen.{bytes_in};
+ghost use Rattle.disk_model.specs.DiskSeen.{EndsWith, bytes_in};
 ghost use Rattle.gate_journal.specs.Gate.{field_of};
 ghost use Rattle.gate_journal.specs.Answers.{StartAnswer};
 
@@ -24,8 +23,8 @@ pub fn record_size<D: Disk>(
     ensures answer { IsTrue D.tells → StartAnswer (bytes_in (D.seen disk.old) file) gate limit result }
     ensures fits { IfOk result (λ found. IfSome found (λ size. (gate + 5 + size < limit) × (size < 2 ^ 32))) }
     ensures unchanged { IsTrue D.tells → EachMoment (Unchanged (D.seen disk.old).moments.now) (D.seen disk.old).moments (D.seen disk.new).moments }
-    ensures later { NeverFell (D.seen disk.old).faults (D.seen disk.new).faults }
-    ensures fault { IsErrOf result JournalFault.DiskFault → Rose (D.seen disk.old).faults (D.seen disk.new).faults }
+    ensures ends { EndsWith JournalFault.DiskFault (D.seen disk.old) (D.seen disk.new) result }
+    ensures reads { (D.seen disk.new).changes ≡ (D.seen disk.old).changes }
 {
     let mut start = [0; 5];
     let count = disk.read(file, gate, &mut start)?;

@@ -1,11 +1,10 @@
 // The writes of an append behind the closed gate.
 ghost use Rattle.std.specs.Prelude.{◌≡◌, ◌<◌, ◌≤◌, ◌+◌, ◌^◌, ◌∷◌, ◌++◌, [], length, take, IsTrue, OnOk};
 ghost use Rattle.std.specs.Int.{w32, to_le_bytes};
-ghost use Rattle.fault_counts.specs.Faults.{HasCause};
 ghost use Rattle.disk_model.specs.FileState.{put};
 ghost use Rattle.disk_model.specs.Moments.{EachMoment};
 ghost use Rattle.disk_model.specs.Changes.{Changes};
-ghost use Rattle.disk_model.specs.DiskSeen.{bytes_in};
+ghost use Rattle.disk_model.specs.DiskSeen.{Ends, bytes_in};
 ghost use Rattle.gate_journal.specs.Gate.{behind_gate};
 ghost use Rattle.gate_journal.specs.Writes.{KeepsBelow};
 
@@ -53,7 +52,7 @@ pub fn write_behind<D: Disk>(
     ensures written { IsTrue D.tells → OnOk result (bytes_in (D.seen disk.new) file
         ≡ put (bytes_in (D.seen disk.old) file) at (to_le_bytes w32 (length head.now + length body.now) ++ head.now ++ (body.now ++ 0 ∷ []))) }
     ensures any_moment { IsTrue D.tells → EachMoment (Changes file (KeepsBelow at) (D.seen disk.old).moments.now) (D.seen disk.old).moments (D.seen disk.new).moments }
-    ensures cause { HasCause (D.seen disk.old).faults (D.seen disk.new).faults result }
+    ensures ends { Ends (D.seen disk.old) (D.seen disk.new) result }
 {
     let mut small = [0; 4112];
     let start = add_start(&mut small, (head.len() + body.len()) as u32, head);
@@ -79,7 +78,7 @@ fn write_large<D: Disk>(
     ensures written { IsTrue D.tells → OnOk result (bytes_in (D.seen disk.new) file
         ≡ put (bytes_in (D.seen disk.old) file) at (start.now ++ (body.now ++ 0 ∷ []))) }
     ensures any_moment { IsTrue D.tells → EachMoment (Changes file (KeepsBelow at) (D.seen disk.old).moments.now) (D.seen disk.old).moments (D.seen disk.new).moments }
-    ensures cause { HasCause (D.seen disk.old).faults (D.seen disk.new).faults result }
+    ensures ends { Ends (D.seen disk.old) (D.seen disk.new) result }
 {
     disk.write_at(file, at, start)?;
     let body_at = at + start.len() as u64;

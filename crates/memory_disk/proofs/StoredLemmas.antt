@@ -266,14 +266,14 @@ stored_failed bytes first was is_now file failed fails = elim fails.keeps [
 ]
 
 -- the disk that keeps them
-abbrev pub log_of : List (List ℕ) → Keeping → Counts → DiskLog
-log_of first keeping counts = record { first = first; calls = calls_of keeping.calls; together = (if keeping.is_full then Some (touched_in keeping.touched) else None); counts = counts }
+abbrev pub log_of : List (List ℕ) → Keeping → Counts → ℕ → DiskLog
+log_of first keeping counts changes = record { first = first; calls = calls_of keeping.calls; together = (if keeping.is_full then Some (touched_in keeping.touched) else None); counts = counts; changes = changes }
 
 -- and is kept as what it named
-pub kept_failed : (bytes first : List (List ℕ)) (was is_now : Keeping) (file : ℕ) (failed : FailedEffect) → FailsAt bytes first was is_now file failed → (counts : Counts)
-    → KeptInList (call_on file (failed_effect failed)) (log_of first was counts) (log_of first is_now counts)
-    ⊎ KeptTogether (call_on file (failed_effect failed)) (log_of first was counts) (log_of first is_now counts)
-kept_failed bytes first was is_now file failed fails counts = elim fails.keeps [
+pub kept_failed : (bytes first : List (List ℕ)) (was is_now : Keeping) (file : ℕ) (failed : FailedEffect) → FailsAt bytes first was is_now file failed → (counts : Counts) (changes : ℕ)
+    → KeptInList (call_on file (failed_effect failed)) (log_of first was counts changes) (log_of first is_now counts changes)
+    ⊎ KeptTogether (call_on file (failed_effect failed)) (log_of first was counts changes) (log_of first is_now counts changes)
+kept_failed bytes first was is_now file failed fails counts changes = elim fails.keeps [
   | inl put_in ↦ inl (record {
     calls = ap calls_of put_in.calls ∙ map-append call_of was.calls (record { file = file; effect = Failed failed } ∷ []);
     had_room = ap (λ b. if b then Some (touched_in was.touched) else None) put_in.had_room;

@@ -1,5 +1,6 @@
 -- What a call does to the file that it names, and how the moments of a disk follow from its calls.
 use Rattle.std.specs.Prelude.{ℕ, ◌+◌, ◌==◌, ◌&&◌, ◌||◌, nat_lt, nat_le, min, max, if◌then◌else◌, Bool, List, [], ◌∷◌, length, take}
+use Rattle.fault_counts.specs.Counts.{raised}
 use Rattle.disk_model.specs.FileState.{FileState, synced_file, put}
 use Rattle.disk_model.specs.Moments.{Moments, Files, after}
 
@@ -11,6 +12,15 @@ pub data Effect : Type 0 where
   cut_to : (count : ℕ) → Effect
   cut_failed : (count : ℕ) → Effect
   synced : Effect
+
+-- how many writes and cuts were asked for, where it was that many before the call that was to do this
+abbrev pub asked_by : Effect → ℕ → ℕ
+asked_by looked changes = changes
+asked_by (written at bytes) changes = raised changes
+asked_by (write_failed at count) changes = raised changes
+asked_by (cut_to count) changes = raised changes
+asked_by (cut_failed count) changes = raised changes
+asked_by synced changes = changes
 
 -- a call to one of the files
 pub record DiskCall : Type 0 where

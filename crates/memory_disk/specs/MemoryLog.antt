@@ -4,20 +4,22 @@ use Rattle.fault_counts.specs.Counts.{Counts, faults_of, fresh_counts, is_next_l
 use Rattle.disk_model.specs.FileState.{synced_file}
 use Rattle.disk_model.specs.Moments.{Files, Moments, instead}
 use Rattle.disk_model.specs.DiskSeen.{DiskSeen}
-use Rattle.memory_disk.specs.Calls.{DiskCall, after_call, moments_from, last_sync}
+use Rattle.memory_disk.specs.Calls.{DiskCall, asked_by, after_call, moments_from, last_sync}
 use Rattle.memory_disk.specs.Touched.{Touched, touch_each}
 
 -- The calls that are kept one by one. From the first one on that the list had no room for, the list stays as it
--- is and every call fails: of these calls the disk keeps what they touched together.
+-- is and every call fails: of these calls the disk keeps what they touched together. Beside them stands how many writes and cuts
+-- were asked for, in the list or not.
 pub record DiskLog : Type 0 where
   pub first : List (List ℕ)
   pub calls : List DiskCall
   pub together : Option (List Touched)
   pub counts : Counts
+  pub changes : ℕ
 
 -- a disk whose files hold these bytes, all of them settled, before any call
 abbrev pub fresh_log : List (List ℕ) → List ℕ → DiskLog
-fresh_log first fail = record { first = first; calls = []; together = None; counts = fresh_counts fail }
+fresh_log first fail = record { first = first; calls = []; together = None; counts = fresh_counts fail; changes = 0 }
 
 -- the files before any call
 abbrev pub first_files : List (List ℕ) → Files
@@ -37,7 +39,7 @@ moments_of log = moments_touched log.together (moments_after log.first log.calls
 
 -- the disk as contracts on any disk see it
 abbrev pub memory_seen : DiskLog → DiskSeen
-memory_seen log = record { moments = moments_of log; faults = faults_of log.counts }
+memory_seen log = record { moments = moments_of log; faults = faults_of log.counts; failed = log.counts.failed; changes = log.changes }
 
 -- The files after so many of the calls. A number above those in the list means all calls, those that are kept
 -- together too.
@@ -81,5 +83,6 @@ pub record HasFailed (failed : DiskCall) (old new : DiskLog) : Type 0 where
 -- Each call is kept: as done at Ok, as failed at Err.
 pub record KeepsCall {T E : Type 0} (done failed : DiskCall) (old new : DiskLog) (result : Result T E) : Type 0 where
   pub first : new.first ≡ old.first
+  pub changes : new.changes ≡ asked_by done.effect old.changes
   pub ok : OnOk result (WasDone done old new)
   pub err : OnErr result (HasFailed failed old new)

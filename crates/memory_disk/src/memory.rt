@@ -1,9 +1,7 @@
 ghost use Rattle.std.specs.Prelude.{◌≡◌, ◌⊎◌, ◌<◌, ◌≤◌, ◌∷◌, ◌&&◌, true, false, [], ℕ, nat_lt, length, take, map, slice_index_or, OnOk, OnErr, IfOk};
-ghost use Rattle.fault_counts.specs.Counts.{faults_of};
-ghost use Rattle.fault_counts.specs.Faults.{HasCause};
 ghost use Rattle.disk_model.specs.Moments.{IsImage};
 ghost use Rattle.disk_model.specs.Reads.{seen, IsRead};
-ghost use Rattle.disk_model.specs.DiskSeen.{bytes_in, Measures, ReadsAt, WritesAt, CutsTo, Syncs};
+ghost use Rattle.disk_model.specs.DiskSeen.{bytes_in, Ends, Measures, ReadsAt, WritesAt, CutsTo, Syncs};
 ghost use Rattle.memory_disk.specs.Calls.{call_on, after_call, looked, written, write_failed, cut_to, cut_failed, synced};
 ghost use Rattle.memory_disk.specs.Kept.{failed_effect, touched_in, EndsInRange};
 ghost use Rattle.memory_disk.specs.Stored.{IsStored};
@@ -36,6 +34,7 @@ pub struct MemoryDisk {
     is_full: bool,
     touched: [TouchedFile; 3],
     counts: FaultCounts,
+    changes: u64,
 }
 
 impl Model for MemoryDisk {
@@ -51,6 +50,7 @@ impl Model for MemoryDisk {
       calls = calls_of d.calls.items;
       together = if d.is_full then Some (touched_in d.touched) else None;
       counts = d.counts;
+      changes = d.changes;
     } };
 
     ghost invariant = { λ d. IsStored (map (λ v. v.items) d.files) (map (λ v. v.items) d.first) (calls_of d.calls.items) d.is_full (touched_in d.touched) };
@@ -75,6 +75,7 @@ impl MemoryDisk {
                 TouchedFile::of_nothing(alloc),
             ],
             counts,
+            changes: 0,
         })
     }
 
@@ -138,6 +139,7 @@ impl MemoryDisk {
             is_full: false,
             touched,
             counts,
+            changes: 0,
         })
     }
 }
@@ -149,6 +151,7 @@ impl MemoryDisk {
         requires range { EndsInRange failed }
         ensures first { self.new.first ≡ self.old.first }
         ensures counts { self.new.counts ≡ self.old.counts }
+        ensures changes { self.new.changes ≡ self.old.changes }
         ensures kept { KeptInList (call_on file (failed_effect failed)) self.old self.new ⊎ KeptTogether (call_on file (failed_effect failed)) self.old self.new }
     {
         keep_failed(
@@ -164,7 +167,7 @@ impl MemoryDisk {
     fn look(&mut self, file: u8) -> Result<(), Failed>
         requires { file < 3 }
         ensures kept { KeepsCall (call_on file looked) (call_on file looked) self.old self.new result }
-        ensures cause { HasCause (faults_of self.old.counts) (faults_of self.new.counts) result }
+        ensures ends { Ends (memory_seen self.old) (memory_seen self.new) result }
     {
         if !begin(&mut self.counts, &mut self.calls, self.is_full) {
             self.fail(file, FailedEffect::FailedLook);
@@ -178,9 +181,10 @@ impl MemoryDisk {
         requires file { file < 3 }
         requires inside { at ≤ length (seen (moments_of self.old) file) }
         ensures kept { KeepsCall (call_on file (written at bytes.now)) (call_on file (write_failed at (length bytes.now))) self.old self.new result }
-        ensures cause { HasCause (faults_of self.old.counts) (faults_of self.new.counts) result }
+        ensures ends { Ends (memory_seen self.old) (memory_seen self.new) result }
     {
         let failed = FailedEffect::FailedWrite(at, bytes.len() as u64);
+        self.changes = self.changes.saturating_add(1);
         if !begin(&mut self.counts, &mut self.calls, self.is_full) {
             self.fail(file, failed);
             return Err(Failed);
@@ -202,8 +206,9 @@ impl MemoryDisk {
     fn keep_cut(&mut self, file: u8, len: u64) -> Result<(), Failed>
         requires { file < 3 }
         ensures kept { KeepsCall (call_on file (cut_to len)) (call_on file (cut_failed len)) self.old self.new result }
-        ensures cause { HasCause (faults_of self.old.counts) (faults_of self.new.counts) result }
+        ensures ends { Ends (memory_seen self.old) (memory_seen self.new) result }
     {
+        self.changes = self.changes.saturating_add(1);
         if !begin(&mut self.counts, &mut self.calls, self.is_full) {
             self.fail(file, FailedEffect::FailedCut(len));
             return Err(Failed);
@@ -216,7 +221,7 @@ impl MemoryDisk {
     fn keep_sync(&mut self, file: u8) -> Result<(), Failed>
         requires { file < 3 }
         ensures kept { KeepsCall (call_on file synced) (call_on file looked) self.old self.new result }
-        ensures cause { HasCause (faults_of self.old.counts) (faults_of self.new.counts) result }
+        ensures ends { Ends (memory_seen self.old) (memory_seen self.new) result }
     {
         if !begin(&mut self.counts, &mut self.calls, self.is_full) {
             self.fail(file, FailedEffect::FailedLook);

@@ -2,7 +2,6 @@ pub mod Views
 pub mod Standing
 pub mod Stages
 pub mod GivenUp
-pub mod StagesBack
 pub mod Costs
 pub mod Host
 pub mod Faults
@@ -17,5 +16,6 @@ pub mod Opening
 pub mod Reading
 pub mod Making
 pub mod MakingSteps
+pub mod Outcomes
 pub mod Connecting
 pub mod Disconnecting

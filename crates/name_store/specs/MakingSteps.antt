@@ -1,10 +1,9 @@
 -- What each step of making the files leaves: the area, the closed gate of the header, and what stands behind that gate.
-use Rattle.std.specs.Prelude.{◌≡◌, ◌≢◌, ℕ, ◌≤◌, max, Bool, IsTrue, List, [], ◌∷◌, ◌++◌, Result, OnOk}
-use Rattle.fault_counts.specs.Faults.{HasCause}
+use Rattle.std.specs.Prelude.{◌≡◌, ℕ, ◌≤◌, max, Bool, IsTrue, List, [], ◌∷◌, ◌++◌, Result, OnOk}
 use Rattle.disk_model.specs.FileState.{FileState, IsSettled}
-use Rattle.disk_model.specs.Moments.{Files, EachMoment}
-use Rattle.disk_model.specs.Changes.{Changes}
-use Rattle.disk_model.specs.DiskSeen.{DiskSeen, file_in}
+use Rattle.disk_model.specs.Moments.{EachMoment}
+use Rattle.disk_model.specs.Changes.{Changes, LeavesOthers}
+use Rattle.disk_model.specs.DiskSeen.{DiskSeen, Ends, file_in}
 use Rattle.disk_model.specs.declared.disk.Failed.{Failed}
 use Rattle.nmc_base.specs.declared.chain_ends.Base.{Base}
 use Rattle.gate_journal.specs.Records.{image_front}
@@ -16,10 +15,6 @@ use Rattle.name_store.specs.Header.{header_fields}
 pub record HasSettled (bytes : List ℕ) (file : FileState) : Type 0 where
   pub settled : IsSettled file
   pub are : file.bytes ≡ bytes
-
--- no other file has changed
-abbrev pub LeavesOthers : ℕ → Files → Files → Type 0
-LeavesOthers file old files = (other : ℕ) → other ≢ file → files other ≡ old other
 
 -- the file has grown by a gate at most
 abbrev pub IsShort : FileState → FileState → Type 0
@@ -37,16 +32,16 @@ closed_header base host = 0 ∷ (header_fields base host ++ 0 ∷ [])
 pub record MakesArea {T : Type 0} (tells : Bool) (old new : DiskSeen) (result : Result T Failed) : Type 0 where
   pub made : IsTrue tells → OnOk result (HasSettled empty_area (file_in new area_file))
   pub any_moment : IsTrue tells → EachMoment (LeavesOthers area_file old.moments.now) old.moments new.moments
-  pub cause : HasCause old.faults new.faults result
+  pub ends : Ends old new result
 
 -- the header's file has a closed gate, and nothing behind it
 pub record MakesGate {T : Type 0} (tells : Bool) (old new : DiskSeen) (result : Result T Failed) : Type 0 where
   pub made : IsTrue tells → OnOk result (HasSettled (0 ∷ []) (file_in new header_file))
   pub any_moment : IsTrue tells → EachMoment (Changes header_file IsShort old.moments.now) old.moments new.moments
-  pub cause : HasCause old.faults new.faults result
+  pub ends : Ends old new result
 
 -- the fields stand behind the header's closed gate, and a closed gate behind them
 pub record MakesFields {T : Type 0} (tells : Bool) (base : Base) (host : List ℕ) (old new : DiskSeen) (result : Result T Failed) : Type 0 where
   pub made : IsTrue tells → OnOk result (HasSettled (closed_header base host) (file_in new header_file))
   pub any_moment : IsTrue tells → EachMoment (Changes header_file (KeepsBelow 1) old.moments.now) old.moments new.moments
-  pub cause : HasCause old.faults new.faults result
+  pub ends : Ends old new result

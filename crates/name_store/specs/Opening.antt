@@ -1,41 +1,39 @@
--- What opening answers.
-use Rattle.std.specs.Prelude.{◌≡◌, Result, Ok, Err, ⊤}
-use Rattle.disk_model.specs.DiskSeen.{DiskSeen, bytes_in}
-use Rattle.disk_model.specs.Moments.{Files, IsImage}
+-- What opening answers, and what it leaves of the disk.
+use Rattle.std.specs.Prelude.{◌≡◌, ℕ, ◌<◌, Result, Ok, Err, ⊤}
+use Rattle.disk_model.specs.FileState.{IsSettled}
+use Rattle.disk_model.specs.DiskSeen.{DiskSeen, file_in, bytes_in}
+use Rattle.disk_model.specs.Moments.{Files}
 use Rattle.chain_commands.specs.RunState.{RunState}
 use Rattle.name_store.specs.declared.faults.OpenFault.{OpenFault}
 use Rattle.name_store.specs.declared.faults.OpenFault.TheVariants.{Uninitialised, Damaged, DiskFault, NoMemory}
-use Rattle.name_store.specs.Header.{IsUninitialised}
+use Rattle.name_store.specs.Header.{IsInitialised, IsUninitialised}
 use Rattle.name_store.specs.Stands.{Bytes, Stands}
 use Rattle.name_store.specs.Damage.{IsDamaged}
 use Rattle.name_store.specs.Stored.{Stored, StandsFor, IsOn}
 
--- What reads give of the files that a store is kept in is as it was.
-pub record ReadsAlike (old new : DiskSeen) : Type 0 where
-  pub header : bytes_in new 0 ≡ bytes_in old 0
-  pub area : bytes_in new 1 ≡ bytes_in old 1
+-- Each of the three files was synced: it is settled, and reads give what they gave.
+pub record IsSynced (old new : DiskSeen) : Type 0 where
+  pub settled : (file : ℕ) → file < 3 → IsSettled (file_in new file)
+  pub alike : (file : ℕ) → file < 3 → bytes_in new file ≡ bytes_in old file
 
--- Each image of the new files was one of the old.
-abbrev pub AddsNoImage : Files → Files → Type 0
-AddsNoImage old new = (image : Bytes) → IsImage new image → IsImage old image
-
--- The store is on the disk, which stands for a run state, and the store stands for it too.
-pub record IsOpened (store : Stored) (files : Files) : Type 0 where
-  pub run : RunState
-  pub stands : Stands (λ file. (files file).bytes) run
-  pub follows : StandsFor store run
-  pub on_disk : IsOn store files
+-- The store is on the disk, whose files were neither uninitialised nor damaged; and of every run state that they stood for, it
+-- stands for it.
+pub record IsOpened (old : Bytes) (new : Files) (store : Stored) : Type 0 where
+  pub on_disk : IsOn store new
+  pub initialised : IsInitialised (old 0)
+  pub undamaged : (file at : ℕ) → ¬ (IsDamaged old file at)
+  pub follows : (run : RunState) → Stands old run → StandsFor store run
 
 -- The answers exclude one another, so each comes exactly where its case says; a fault of the disk has its cause beside, and
 -- want of memory may stand in the place of the store and of damage in a record.
 abbrev pub OpenAnswer : Bytes → Files → Result Stored OpenFault → Type 0
-OpenAnswer old new (Ok store) = IsOpened store new
+OpenAnswer old new (Ok store) = IsOpened old new store
 OpenAnswer old new (Err Uninitialised) = IsUninitialised (old 0)
 OpenAnswer old new (Err (Damaged file at)) = IsDamaged old file at
 OpenAnswer old new (Err DiskFault) = ⊤
 OpenAnswer old new (Err NoMemory) = ⊤
 
--- of files that stand for a run state
+-- So of files that stand for a run state, as `one_kind_of_files` tells.
 abbrev pub OpensFor : RunState → Result Stored OpenFault → Type 0
 OpensFor run (Ok store) = StandsFor store run
 OpensFor run (Err Uninitialised) = ⊥

@@ -1,10 +1,9 @@
 //! The front of the area, as it is read.
 ghost use Rattle.std.specs.Prelude.{◌≡◌, ◌↔◌, IsTrue, IfOk, IsErrOf};
-ghost use Rattle.fault_counts.specs.Faults.{NeverFell, Rose};
 ghost use Rattle.disk_model.specs.FileState.{IsSettled};
 ghost use Rattle.disk_model.specs.Moments.{EachMoment};
 ghost use Rattle.disk_model.specs.Changes.{Unchanged};
-ghost use Rattle.disk_model.specs.DiskSeen.{file_in, bytes_in};
+ghost use Rattle.disk_model.specs.DiskSeen.{EndsWith, file_in, bytes_in};
 ghost use Rattle.gate_journal.specs.Stand.{IsReadable};
 ghost use Rattle.name_store.specs.Damage.{HasNoImage};
 ghost use Rattle.name_store.specs.Reading.{AreaAnswer, first_gate};
@@ -32,8 +31,8 @@ pub fn open_area<D: Disk>(disk: &mut D) -> Result<Journal, OpenFault>
     ensures readable { IsTrue D.tells → IfOk result (λ journal. IsReadable journal (file_in (D.seen disk.new) 1)) }
     ensures memory { IsErrOf result OpenFault.NoMemory → ⊥ }
     ensures time { IsTrue D.tells → EachMoment (Unchanged (D.seen disk.old).moments.now) (D.seen disk.old).moments (D.seen disk.new).moments }
-    ensures later { NeverFell (D.seen disk.old).faults (D.seen disk.new).faults }
-    ensures fault { IsErrOf result OpenFault.DiskFault → Rose (D.seen disk.old).faults (D.seen disk.new).faults }
+    ensures reads { (D.seen disk.new).changes ≡ (D.seen disk.old).changes }
+    ensures ends { EndsWith OpenFault.DiskFault (D.seen disk.old) (D.seen disk.new) result }
 {
     let mut front = [0; FRONT];
     let count = disk.read(AREA_FILE, 0, &mut front)?;

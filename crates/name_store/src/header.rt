@@ -1,10 +1,9 @@
 //! The header of file 0, as it is read.
 ghost use Rattle.std.specs.Prelude.{◌≡◌, ◌↔◌, ◌<◌, ◌≤◌, length, take, drop, slice_index, IsTrue, IfOk, IsErrOf, MatchOption, MatchResult};
 ghost use Rattle.std.specs.Int.{w32, to_le_bytes};
-ghost use Rattle.fault_counts.specs.Faults.{NeverFell, Rose};
 ghost use Rattle.disk_model.specs.Moments.{EachMoment};
 ghost use Rattle.disk_model.specs.Changes.{Unchanged};
-ghost use Rattle.disk_model.specs.DiskSeen.{bytes_in};
+ghost use Rattle.disk_model.specs.DiskSeen.{EndsWith, bytes_in};
 ghost use Rattle.name_store.specs.Host.{IsHostOf};
 ghost use Rattle.name_store.specs.Header as headers;
 ghost use Rattle.name_store.specs.Header.{IsInitialised, IsShut, HasFields, HasHost};
@@ -164,8 +163,8 @@ pub fn read_header<D: Disk>(disk: &mut D) -> Result<Header, OpenFault>
     ensures begun { IfOk result (λ header. IsBegunBy header) }
     ensures memory { IsErrOf result OpenFault.NoMemory → ⊥ }
     ensures time { IsTrue D.tells → EachMoment (Unchanged (D.seen disk.old).moments.now) (D.seen disk.old).moments (D.seen disk.new).moments }
-    ensures later { NeverFell (D.seen disk.old).faults (D.seen disk.new).faults }
-    ensures fault { IsErrOf result OpenFault.DiskFault → Rose (D.seen disk.old).faults (D.seen disk.new).faults }
+    ensures reads { (D.seen disk.new).changes ≡ (D.seen disk.old).changes }
+    ensures ends { EndsWith OpenFault.DiskFault (D.seen disk.old) (D.seen disk.new) result }
 {
     let mut bytes = [0; LONGEST_HEADER];
     let count = disk.read(HEADER_FILE, 0, &mut bytes)?;

@@ -1,8 +1,7 @@
-ghost use Rattle.std.specs.Prelude.{◌↔◌, IsTrue, IfOk};
-ghost use Rattle.fault_counts.specs.Faults.{HasCause};
+ghost use Rattle.std.specs.Prelude.{◌↔◌, ◌≡◌, IsTrue, IfOk};
 ghost use Rattle.disk_model.specs.Moments.{EachMoment};
 ghost use Rattle.disk_model.specs.Changes.{Unchanged};
-ghost use Rattle.disk_model.specs.DiskSeen.{bytes_in};
+ghost use Rattle.disk_model.specs.DiskSeen.{Ends, bytes_in};
 ghost use Rattle.name_store.specs.Header.{IsInitialised};
 
 use crate::limits::{HEADER_FILE, OPEN, SHORTEST_HEADER};
@@ -13,7 +12,8 @@ use disk_model::{Disk, Failed};
 pub fn is_initialised<D: Disk>(disk: &mut D) -> Result<bool, Failed>
     ensures found { IsTrue D.tells → IfOk result (λ is. IsTrue is ↔ IsInitialised (bytes_in (D.seen disk.old) 0)) }
     ensures unchanged { IsTrue D.tells → EachMoment (Unchanged (D.seen disk.old).moments.now) (D.seen disk.old).moments (D.seen disk.new).moments }
-    ensures cause { HasCause (D.seen disk.old).faults (D.seen disk.new).faults result }
+    ensures reads { (D.seen disk.new).changes ≡ (D.seen disk.old).changes }
+    ensures ends { Ends (D.seen disk.old) (D.seen disk.new) result }
 {
     if disk.len(HEADER_FILE)? < SHORTEST_HEADER {
         return Ok(false);

@@ -4,11 +4,6 @@ ghost use Rattle.name_store.specs.Header.{IsUninitialised};
 ghost use Rattle.name_store.specs.Damage.{IsDamaged};
 ghost use Rattle.name_store.specs.Stands.{Bytes, Stands};
 
-/// The law of run states: files stand for at most one.
-pub fn one_run_state()
-    ensures { (files : Bytes) (run other : RunState) → Stands files run → Stands files other → run ≡ other }
-{}
-
 /// The law of what files are: of uninitialised, damaged, and standing for a run state, they are at most one.
 pub fn one_kind_of_files()
     ensures uninitialised_or_standing { (files : Bytes) (run : RunState) → IsUninitialised (files 0) → Stands files run → ⊥ }

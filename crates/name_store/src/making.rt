@@ -1,12 +1,11 @@
 ghost use Rattle.std.specs.Prelude.{◌≡◌, ◌≤◌, List, ℕ, length, IsTrue, OnOk, IsErrOf};
-ghost use Rattle.fault_counts.specs.Faults.{NeverFell, Rose};
 ghost use Rattle.disk_model.specs.Moments.{EachMoment};
-ghost use Rattle.disk_model.specs.Changes.{Unchanged};
-ghost use Rattle.disk_model.specs.DiskSeen.{file_in, bytes_in};
+ghost use Rattle.disk_model.specs.Changes.{LeavesFrom};
+ghost use Rattle.disk_model.specs.DiskSeen.{EndsWith, file_in, bytes_in};
 ghost use Rattle.nmc_base.specs.declared.limits.TheConstants.{HIGHEST_HEIGHT};
 ghost use Rattle.nmc_base.specs.declared.chain_ends.Profile.TheVariants.{Regtest};
 ghost use Rattle.name_store.specs.Host.{IsHostOf};
-ghost use Rattle.name_store.specs.Making.{CreateAnswer, IsEmpty, EachIsBegun};
+ghost use Rattle.name_store.specs.Making.{CreateAnswer, OnlyReads, IsEmpty, EachIsBegun};
 ghost use Rattle.name_store.specs.Stands.{EachStands, begun_on};
 
 use crate::faults::CreateFault;
@@ -31,19 +30,18 @@ fn whole(base: Base) -> Base
 ///
 /// Files that are initialised stay as they are. File 1 is made first; then file 0 with its gate closed, and last this gate
 /// is opened in a write of its own. So from an empty file 0 a crash leaves files that are uninitialised, or those of the
-/// base. The host is the name of an absolute host text, of at most 244 bytes on the wire; the header gets that text.
+/// base. At each moment file 2 is as it was. The host is the name of an absolute host text, of at most 244 bytes on the wire; the header gets that text.
 pub fn create<D: Disk>(disk: &mut D, base: &Base, host: &Name) -> Result<(), CreateFault>
     requires low { base.now.height ≤ HIGHEST_HEIGHT }
     requires host { (text : List ℕ) × IsHostOf text host.now }
     ensures answer { IsTrue D.tells → CreateAnswer (bytes_in (D.seen disk.old)) result }
-    ensures untouched { IsTrue D.tells → IsErrOf result CreateFault.Initialised
-        → EachMoment (Unchanged (D.seen disk.old).moments.now) (D.seen disk.old).moments (D.seen disk.new).moments }
+    ensures spared { IsErrOf result CreateFault.Initialised → OnlyReads D.tells (D.seen disk.old) (D.seen disk.new) }
     ensures made { IsTrue D.tells → base.now.profile ≡ Regtest → (text : List ℕ) → IsHostOf text host.now
         → OnOk result (EachStands (D.seen disk.new).moments.now (begun_on base.now text)) }
     ensures from_empty { IsTrue D.tells → base.now.profile ≡ Regtest → (text : List ℕ) → IsHostOf text host.now → IsEmpty (file_in (D.seen disk.old) 0)
         → EachMoment (EachIsBegun (begun_on base.now text)) (D.seen disk.old).moments (D.seen disk.new).moments }
-    ensures later { NeverFell (D.seen disk.old).faults (D.seen disk.new).faults }
-    ensures fault { IsErrOf result CreateFault.DiskFault → Rose (D.seen disk.old).faults (D.seen disk.new).faults }
+    ensures others { IsTrue D.tells → EachMoment (LeavesFrom 2 (D.seen disk.old).moments.now) (D.seen disk.old).moments (D.seen disk.new).moments }
+    ensures ends { EndsWith CreateFault.DiskFault (D.seen disk.old) (D.seen disk.new) result }
 {
     if is_initialised(disk)? {
         return Err(CreateFault::Initialised);

@@ -1,16 +1,11 @@
-ghost use Rattle.std.specs.Prelude.{◌≡◌, ◌<◌, ◌≤◌, IsTrue, IfOk, IsErrOf, OnOk};
-ghost use Rattle.fault_counts.specs.Faults.{HasCause, NeverFell, Rose};
-ghost use Rattle.disk_model.specs.FileState.{IsSettled};
+ghost use Rattle.std.specs.Prelude.{◌≡◌, ◌<◌, ◌≤◌, IsTrue, IfOk, OnOk};
 ghost use Rattle.disk_model.specs.Moments.{EachMoment};
-ghost use Rattle.disk_model.specs.Changes.{Unchanged};
-ghost use Rattle.disk_model.specs.DiskSeen.{bytes_in, file_in};
+ghost use Rattle.disk_model.specs.Changes.{Unchanged, KeepsSettled};
+ghost use Rattle.disk_model.specs.DiskSeen.{Ends, EndsWith, bytes_in, file_in};
 ghost use Rattle.gate_journal.specs.Stand.{IsReadable};
-ghost use Rattle.chain_commands.specs.RunState.{RunState};
-ghost use Rattle.name_store.specs.Opening.{OpenAnswer, OpensFor, AddsNoImage, ReadsAlike};
-ghost use Rattle.name_store.specs.Stands.{Stands};
+ghost use Rattle.name_store.specs.Opening.{OpenAnswer, IsSynced};
 ghost use Rattle.name_store.specs.Reading.{IsBegunBy, FollowsArea, IsInArea, first_gate};
 ghost use Rattle.name_store.specs.Damage.{HasNoImage};
-ghost use Rattle.name_store.specs.Stored.{StandsFor};
 ghost use Rattle.nmc_base.specs.Heights.{highest};
 
 use crate::area::open_area;
@@ -28,10 +23,10 @@ use std::sync::ledger::{Blank, Ledger};
 
 /// Syncs the three files.
 fn sync_all<D: Disk>(disk: &mut D) -> Result<(), Failed>
-    ensures settled { IsTrue D.tells → OnOk result (IsSettled (file_in (D.seen disk.new) 0) × IsSettled (file_in (D.seen disk.new) 1)) }
-    ensures same { IsTrue D.tells → OnOk result ((bytes_in (D.seen disk.new) 0 ≡ bytes_in (D.seen disk.old) 0) × (bytes_in (D.seen disk.new) 1 ≡ bytes_in (D.seen disk.old) 1)) }
-    ensures time { IsTrue D.tells → EachMoment (AddsNoImage (D.seen disk.old).moments.now) (D.seen disk.old).moments (D.seen disk.new).moments }
-    ensures cause { HasCause (D.seen disk.old).faults (D.seen disk.new).faults result }
+    ensures synced { IsTrue D.tells → OnOk result (IsSynced (D.seen disk.old) (D.seen disk.new)) }
+    ensures time { IsTrue D.tells → EachMoment (KeepsSettled (D.seen disk.old).moments.now) (D.seen disk.old).moments (D.seen disk.new).moments }
+    ensures reads { (D.seen disk.new).changes ≡ (D.seen disk.old).changes }
+    ensures ends { Ends (D.seen disk.old) (D.seen disk.new) result }
 {
     disk.sync(0)?;
     disk.sync(1)?;
@@ -57,8 +52,8 @@ fn follow_area<D: Disk, L: Ledger>(
     ensures follows { FollowsArea D.tells base (bytes_in (D.seen disk.old) 1) result }
     ensures in_area { IfOk result (λ reading. IsInArea reading.journal) }
     ensures time { IsTrue D.tells → EachMoment (Unchanged (D.seen disk.old).moments.now) (D.seen disk.old).moments (D.seen disk.new).moments }
-    ensures later { NeverFell (D.seen disk.old).faults (D.seen disk.new).faults }
-    ensures fault { IsErrOf result OpenFault.DiskFault → Rose (D.seen disk.old).faults (D.seen disk.new).faults }
+    ensures reads { (D.seen disk.new).changes ≡ (D.seen disk.old).changes }
+    ensures ends { EndsWith OpenFault.DiskFault (D.seen disk.old) (D.seen disk.new) result }
 {
     let chain = match Chain::at_base(alloc, base) {
         Ok(chain) => chain,
@@ -76,16 +71,14 @@ fn follow_area<D: Disk, L: Ledger>(
 impl Store {
     /// Opens the files: syncs them, and follows the commands of the area from the base on.
     ///
-    /// It writes nothing and cuts nothing. Memory is taken for the index and for one record at a time.
+    /// It asks for no write and no cut, and what was settled is settled at each moment. At Ok each of the three files is settled,
+    /// and reads give what they gave. Memory is taken for the index and for one record at a time.
     pub fn open<D: Disk>(alloc: Global, disk: &mut D) -> Result<Store, OpenFault>
-        ensures found { IfOk result (λ store. (run : RunState) × StandsFor store run) }
         ensures answer { IsTrue D.tells → OpenAnswer (bytes_in (D.seen disk.old)) (D.seen disk.new).moments.now result }
-        ensures follows { IsTrue D.tells → (run : RunState) → Stands (bytes_in (D.seen disk.old)) run → OpensFor run result }
-        ensures same { IsTrue D.tells → IfOk result (λ store. ReadsAlike (D.seen disk.old) (D.seen disk.new)) }
-        ensures untouched { IsTrue D.tells
-            → EachMoment (AddsNoImage (D.seen disk.old).moments.now) (D.seen disk.old).moments (D.seen disk.new).moments }
-        ensures later { NeverFell (D.seen disk.old).faults (D.seen disk.new).faults }
-        ensures fault { IsErrOf result OpenFault.DiskFault → Rose (D.seen disk.old).faults (D.seen disk.new).faults }
+        ensures synced { IsTrue D.tells → OnOk result (IsSynced (D.seen disk.old) (D.seen disk.new)) }
+        ensures time { IsTrue D.tells → EachMoment (KeepsSettled (D.seen disk.old).moments.now) (D.seen disk.old).moments (D.seen disk.new).moments }
+        ensures reads { (D.seen disk.new).changes ≡ (D.seen disk.old).changes }
+        ensures ends { EndsWith OpenFault.DiskFault (D.seen disk.old) (D.seen disk.new) result }
     {
         sync_all(disk)?;
         let header = read_header(disk)?;

@@ -1,9 +1,8 @@
 //! Reading the commands of the area, one after the other.
 ghost use Rattle.std.specs.Prelude.{◌≡◌, IsTrue, IfOk, IsErrOf};
-ghost use Rattle.fault_counts.specs.Faults.{NeverFell, Rose};
 ghost use Rattle.disk_model.specs.Moments.{EachMoment};
 ghost use Rattle.disk_model.specs.Changes.{Unchanged};
-ghost use Rattle.disk_model.specs.DiskSeen.{file_in, bytes_in};
+ghost use Rattle.disk_model.specs.DiskSeen.{EndsWith, file_in, bytes_in};
 ghost use Rattle.gate_journal.specs.Stand.{IsReadable};
 ghost use Rattle.name_store.specs.Reading.{StepsOn, ReadsAll, IsInArea, MovesOn, reading_of};
 
@@ -51,8 +50,8 @@ fn step<D: Disk, L: Ledger>(
     ensures moves { IfOk result (MovesOn reading.journal) }
     ensures readable { IsTrue D.tells → IfOk result (λ stepped. IsReadable (reading_of stepped).journal (file_in (D.seen disk.new) 1)) }
     ensures time { IsTrue D.tells → EachMoment (Unchanged (D.seen disk.old).moments.now) (D.seen disk.old).moments (D.seen disk.new).moments }
-    ensures later { NeverFell (D.seen disk.old).faults (D.seen disk.new).faults }
-    ensures fault { IsErrOf result OpenFault.DiskFault → Rose (D.seen disk.old).faults (D.seen disk.new).faults }
+    ensures reads { (D.seen disk.new).changes ≡ (D.seen disk.old).changes }
+    ensures ends { EndsWith OpenFault.DiskFault (D.seen disk.old) (D.seen disk.new) result }
 {
     let Reading {
         mut journal,
@@ -102,11 +101,11 @@ pub fn read_all<D: Disk, L: Ledger>(
 ) -> Result<Reading, OpenFault>
     requires area { IsInArea reading.journal }
     requires readable { IsTrue D.tells → IsReadable reading.journal (file_in (D.seen disk.old) 1) }
-    ensures reads { ReadsAll D.tells reading (bytes_in (D.seen disk.old) 1) result }
+    ensures follows { ReadsAll D.tells reading (bytes_in (D.seen disk.old) 1) result }
     ensures in_area { IfOk result (λ reading. IsInArea reading.journal) }
     ensures time { IsTrue D.tells → EachMoment (Unchanged (D.seen disk.old).moments.now) (D.seen disk.old).moments (D.seen disk.new).moments }
-    ensures later { NeverFell (D.seen disk.old).faults (D.seen disk.new).faults }
-    ensures fault { IsErrOf result OpenFault.DiskFault → Rose (D.seen disk.old).faults (D.seen disk.new).faults }
+    ensures reads { (D.seen disk.new).changes ≡ (D.seen disk.old).changes }
+    ensures ends { EndsWith OpenFault.DiskFault (D.seen disk.old) (D.seen disk.new) result }
 {
     let mut reading = reading;
     'records: loop {

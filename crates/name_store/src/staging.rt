@@ -1,9 +1,8 @@
 ghost use Rattle.std.specs.Prelude.{◌≤◌, ◌+◌, length};
 ghost use Rattle.nmc_base.specs.declared.limits.TheConstants.{LONGEST_BLOCK};
 ghost use Rattle.chain_state.specs.StageBack.{IsBackCheap};
-ghost use Rattle.name_store.specs.Stages.{StagesBytes, Fits};
+ghost use Rattle.name_store.specs.Stages.{StagesBytes, StagesHash, Fits, FitsBack, KeepsBase, KeepsBaseBack};
 ghost use Rattle.name_store.specs.GivenUp.{GivesUp};
-ghost use Rattle.name_store.specs.StagesBack.{StagesHash, FitsBack};
 ghost use Rattle.name_store.specs.Costs.{IsCheapBlock};
 
 use block_reader::read_block;
@@ -34,6 +33,7 @@ pub fn stage_bytes<L: Ledger>(
 ) -> StageOutcome
     requires { length bytes.now ≤ LONGEST_BLOCK }
     ensures stages { StagesBytes area most chain bytes.now result }
+    ensures base { KeepsBase chain.base result }
     ensures fits { Fits area most (6 + length bytes.now) result }
     ensures cost { IsCheapBlock bytes.now result steps.old steps.new }
 {
@@ -77,6 +77,7 @@ pub fn stage_hash<L: Ledger>(
     steps: &mut Steps<L>,
 ) -> BackOutcome
     ensures stages { StagesHash area most chain hash.0 result }
+    ensures base { KeepsBaseBack chain.base result }
     ensures fits { FitsBack area most result }
     ensures cost { IsBackCheap chain result steps.old steps.new }
 {

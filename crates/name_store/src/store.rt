@@ -1,8 +1,9 @@
 ghost use Rattle.std.specs.Prelude.{◌≡◌, ◌≤◌, length, IsTrue};
-ghost use Rattle.fault_counts.specs.Faults.{NeverFell, Rose};
 ghost use Rattle.nmc_base.specs.declared.limits.TheConstants.{LONGEST_BLOCK};
-ghost use Rattle.chain_commands.specs.RunState.{RunState, longest_area};
-ghost use Rattle.name_store.specs.Stored.{StandsFor, IsOn};
+ghost use Rattle.chain_commands.specs.RunState.{longest_area};
+ghost use Rattle.chain_commands.specs.Event.{Connect, Disconnect};
+ghost use Rattle.name_store.specs.Stored.{IsOn};
+ghost use Rattle.name_store.specs.Outcomes.{IfUndone, LeavesDisk, KeepsOn};
 ghost use Rattle.name_store.specs.declared.limits.TheConstants.{EMPTY_AREA};
 ghost use Rattle.name_store.specs.Connecting as connecting;
 ghost use Rattle.name_store.specs.Disconnecting as disconnecting;
@@ -10,7 +11,7 @@ ghost use Rattle.name_store.specs.Disconnecting as disconnecting;
 use crate::keeping::{CONNECT, DISCONNECT, keep};
 use crate::limits::LONGEST_AREA;
 use crate::staging::{stage_bytes, stage_hash};
-use chain_state::{BackRefusal, Chain, Refusal, StageOutcome, StagedBack, StagedChain};
+use chain_state::{BackOutcome, BackRefusal, Chain, Refusal, StageOutcome, StagedBack, StagedChain};
 use disk_model::Disk;
 use domain_text::Name;
 use nmc_base::{Hash32, Steps, Tip};
@@ -40,21 +41,13 @@ impl Model for Store {
     ghost invariant = { λ s. (EMPTY_AREA ≤ s.area) × (s.area ≤ longest_area) };
 }
 
-/// What came of a connect. A store that is handed back with a refusal, or for want of memory, stands for what it stood for.
-/// A fault of the disk hands none back: open the files again.
+/// What came of a command, whose refusals are of the type `R`. A store that is handed back with one of them, or for want of
+/// memory, stands for what it stood for. A fault of the disk hands none back: open the files again.
 #[derive(Drop)]
-pub enum Outcome {
+pub enum Outcome<R> {
+    /// It was done, and this is the tip now.
     Done(Store, Tip),
-    Refused(Store, Refusal),
-    NoMemory(Store),
-    Faulted,
-}
-
-/// What came of a disconnect, likewise.
-#[derive(Drop)]
-pub enum BackOutcome {
-    Done(Store, Tip),
-    Refused(Store, BackRefusal),
+    Refused(Store, R),
     NoMemory(Store),
     Faulted,
 }
@@ -89,25 +82,34 @@ impl Store {
         &self.host
     }
 
+    /// What a command came to that was done.
+    fn done<R>(chain: Chain, host: Name, area: u64) -> Outcome<R>
+        requires some { EMPTY_AREA ≤ area }
+        requires within { area ≤ longest_area }
+        ensures { result ≡ Outcome.Done (record { index = chain; host = host; area = area }) chain.tip }
+    {
+        let tip = chain.tip();
+        Outcome::Done(Store { chain, host, area }, tip)
+    }
+
     /// Connects a block: stages it, keeps it in the area, and then changes the index.
     ///
     /// The refusals are those of the machine, that of a full area last. Where the block is refused, and where memory is
-    /// wanting, the disk isn't asked. A crash at any moment leaves files that stand for the run state before or after.
+    /// wanting, the disk isn't asked. A crash at any moment leaves files that stand for the run state before or after, and the
+    /// other two files as they were.
     pub fn connect<D: Disk, L: Ledger>(
         self,
         alloc: Global,
         disk: &mut D,
         bytes: &[u8],
         steps: &mut Steps<L>,
-    ) -> Outcome
+    ) -> Outcome<Refusal>
         requires short { length bytes.now ≤ LONGEST_BLOCK }
         requires on_disk { IsTrue D.tells → IsOn self (D.seen disk.old).moments.now }
         ensures connects { connecting.Connects longest_area self bytes.now result }
-        ensures undone { connecting.IfUndone (disk.new ≡ disk.old) result }
-        ensures kept { IsTrue D.tells → (run : RunState) → StandsFor self run
-            → connecting.ConnectsOn run bytes.now (D.seen disk.old) (D.seen disk.new) result }
-        ensures later { NeverFell (D.seen disk.old).faults (D.seen disk.new).faults }
-        ensures fault { connecting.IfFaulted (Rose (D.seen disk.old).faults (D.seen disk.new).faults) result }
+        ensures undone { IfUndone (disk.new ≡ disk.old) result }
+        ensures leaves { LeavesDisk D.tells (D.seen disk.old) (D.seen disk.new) result }
+        ensures kept { KeepsOn D.tells self (Connect bytes.now) (D.seen disk.old) (D.seen disk.new) result }
         ensures cost { connecting.IsCheapIfDone bytes.now result steps.old steps.new }
     {
         let Store { chain, host, area } = self;
@@ -119,11 +121,7 @@ impl Store {
             StageOutcome::NoMemory(chain) => return Outcome::NoMemory(Store { chain, host, area }),
         };
         match keep(disk, area, CONNECT, bytes) {
-            Ok(area) => {
-                let chain = staged.commit(steps);
-                let tip = chain.tip();
-                Outcome::Done(Store { chain, host, area }, tip)
-            }
+            Ok(area) => Store::done(staged.commit(steps), host, area),
             Err(_) => {
                 let_go(staged);
                 Outcome::Faulted
@@ -140,37 +138,27 @@ impl Store {
         disk: &mut D,
         hash: Hash32,
         steps: &mut Steps<L>,
-    ) -> BackOutcome
+    ) -> Outcome<BackRefusal>
         requires on_disk { IsTrue D.tells → IsOn self (D.seen disk.old).moments.now }
         ensures disconnects { disconnecting.Disconnects longest_area self hash.0 result }
-        ensures undone { disconnecting.IfUndone (disk.new ≡ disk.old) result }
-        ensures kept { IsTrue D.tells → (run : RunState) → StandsFor self run
-            → disconnecting.DisconnectsOn run hash.0 (D.seen disk.old) (D.seen disk.new) result }
-        ensures later { NeverFell (D.seen disk.old).faults (D.seen disk.new).faults }
-        ensures fault { disconnecting.IfFaulted (Rose (D.seen disk.old).faults (D.seen disk.new).faults) result }
+        ensures undone { IfUndone (disk.new ≡ disk.old) result }
+        ensures leaves { LeavesDisk D.tells (D.seen disk.old) (D.seen disk.new) result }
+        ensures kept { KeepsOn D.tells self (Disconnect hash.0) (D.seen disk.old) (D.seen disk.new) result }
         ensures cost { disconnecting.IsCheapIfDone self.index result steps.old steps.new }
     {
         let Store { chain, host, area } = self;
         let staged = match stage_hash(alloc, chain, hash, area, LONGEST_AREA, steps) {
-            chain_state::BackOutcome::StagedBack(staged) => staged,
-            chain_state::BackOutcome::Refused(chain, refusal) => {
-                return BackOutcome::Refused(Store { chain, host, area }, refusal);
+            BackOutcome::StagedBack(staged) => staged,
+            BackOutcome::Refused(chain, refusal) => {
+                return Outcome::Refused(Store { chain, host, area }, refusal);
             }
-            chain_state::BackOutcome::NoMemory(chain) => return BackOutcome::NoMemory(Store {
-                chain,
-                host,
-                area,
-            }),
+            BackOutcome::NoMemory(chain) => return Outcome::NoMemory(Store { chain, host, area }),
         };
         match keep(disk, area, DISCONNECT, &hash.0) {
-            Ok(area) => {
-                let chain = staged.commit(steps);
-                let tip = chain.tip();
-                BackOutcome::Done(Store { chain, host, area }, tip)
-            }
+            Ok(area) => Store::done(staged.commit(steps), host, area),
             Err(_) => {
                 let_go_back(staged);
-                BackOutcome::Faulted
+                Outcome::Faulted
             }
         }
     }

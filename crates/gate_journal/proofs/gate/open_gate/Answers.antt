@@ -8,5 +8,5 @@ returns g c = record {
   settled = c.write_gate.ensures.settled;
   any_moment = λ tells. holds_gate c.args.file c.args.gate (bytes_in (g.D.Disk.seen c.args.disk.now) c.args.file) (g.D.Disk.seen c.args.disk.now).moments
       (g.D.Disk.seen c.write_gate.new.disk).moments (c.requires.inside tells) (c.write_gate.ensures.any_moment tells);
-  cause = c.write_gate.ensures.cause;
+  ends = c.write_gate.ensures.ends;
 }

@@ -13,7 +13,7 @@ returns-in-Err-clause-time g c = λ tells. start refl
 pub returns-clause-follows : goal.returns-clause-follows
 returns-clause-follows g c =
     let area = bytes_in (g.D.Disk.seen c.args.disk.now) 1 in
-    c.read_all.ensures.reads (on_base c.args.base []) (record {
+    c.read_all.ensures.follows (on_base c.args.base []) (record {
       commands = [];
       allowed = tt;
       stands = base_stands c.args.base c.in-Ok.chain c.in-Ok.ensures;

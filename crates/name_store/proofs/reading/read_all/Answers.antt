@@ -51,7 +51,7 @@ returns-in-Ok-All g c =
     let on = subst (λ (s : Stepped). StepsOn tells c.records.reading (bytes_in mid 1) (Ok s)) c.in-Ok-All.field-0-is c.in-Ok-All.ensures.steps_on in
     let moves = subst (λ (s : Stepped). MovesOn c.records.reading.journal s) c.in-Ok-All.field-0-is c.in-Ok-All.ensures.moves in
     record {
-      reads = λ first some.
+      follows = λ first some.
           followed_all_same tells first (bytes_in mid 1) (bytes_in old 1) (λ told. sym (same told)) c.in-Ok-All.all.chain c.in-Ok-All.all.journal.length
           (on first (followed_same tells first (bytes_in old 1) (bytes_in mid 1) same c.records.reading.chain c.records.reading.journal.length (c.records.invariant.followed first some)));
       in_area = moves.0;
@@ -67,7 +67,7 @@ returns-in-Err g c =
     let mid = g.D.Disk.seen c.records.disk in
     let same = same_bytes tells old mid 1 c.records.invariant.time in
     record {
-      reads = λ first some.
+      follows = λ first some.
           fault_same tells first (bytes_in mid 1) (bytes_in old 1) (λ told. sym (same told)) c.in-Err.fault
           (c.in-Err.ensures.steps_on first (followed_same tells first (bytes_in old 1) (bytes_in mid 1) same c.records.reading.chain c.records.reading.journal.length (c.records.invariant.followed first some)));
       in_area = tt;

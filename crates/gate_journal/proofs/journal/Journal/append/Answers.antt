@@ -26,8 +26,7 @@ returns-then-self-clause-appends g c =
       durable = search rules;
       full = search rules;
       only_full = search rules;
-      later = search rules;
-      fault = search rules;
+      ends = search rules;
     }
 
 pub returns-in_err-write_behind-clause-appends : goal.returns-in_err-write_behind-clause-appends
@@ -51,8 +50,7 @@ returns-in_err-write_behind-clause-appends g c =
       durable = search rules;
       full = search rules;
       only_full = search rules;
-      later = search rules;
-      fault = search rules;
+      ends = search rules;
     }
 
 pub returns-in_err-open_behind-clause-appends : goal.returns-in_err-open_behind-clause-appends
@@ -84,8 +82,7 @@ returns-in_err-open_behind-clause-appends g c =
       durable = search rules;
       full = search rules;
       only_full = search rules;
-      later = search rules;
-      fault = search rules;
+      ends = search rules;
     }
 
 pub returns-clause-appends : goal.returns-clause-appends
@@ -130,6 +127,5 @@ returns-clause-appends g c =
       durable = λ tells. settled_holds (text_before stand (seen old stand.file) ++ record_text (head ++ body)) (m2.now stand.file) (done tells).settled (stand_holds stand head body old m1 m2 (done tells));
       full = search rules;
       only_full = search rules;
-      later = search rules;
-      fault = search rules;
+      ends = search rules;
     }

@@ -15,7 +15,7 @@ returns-in_err-sync g c = record {
   whole = search rules;
   any_moment = λ tells. written_then_synced c.args.file c.args.at 1 (g.D.Disk.seen c.args.disk.now).moments (g.D.Disk.seen c.write_at.new.self).moments (g.D.Disk.seen c.sync.new.self).moments
       (c.write_at.ensures.time tells) (c.sync.ensures.time tells);
-  cause = search rules;
+  ends = search rules;
 }
 
 pub returns : goal.returns
@@ -32,5 +32,5 @@ returns g c =
       text = λ tells. (made tells).2;
       whole = is;
       any_moment = λ tells. written_then_synced file c.args.at 1 old.moments (g.D.Disk.seen c.write_at.new.self).moments new.moments (c.write_at.ensures.time tells) (c.sync.ensures.time tells);
-      cause = search rules;
+      ends = search rules;
     }

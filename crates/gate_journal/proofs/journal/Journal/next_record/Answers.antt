@@ -23,8 +23,8 @@ returns-in_err-count g c =
       same = search rules;
       err = search rules;
       unchanged = λ tells. unchanged_then (c.record_size.ensures.unchanged tells) (c.read.ensures.time tells);
-      later = search rules;
-      fault = search rules;
+      ends = search rules;
+      reads = search rules;
     }
 
 -- a telling disk reads the whole record
@@ -59,8 +59,8 @@ returns-then-count-size g c =
       same = search rules;
       err = search rules;
       unchanged = λ tells. unchanged_then (c.record_size.ensures.unchanged tells) (c.read.ensures.time tells);
-      later = search rules;
-      fault = search rules;
+      ends = search rules;
+      reads = search rules;
     }
 
 pub returns : goal.returns
@@ -124,6 +124,6 @@ returns g c =
       same = search rules;
       err = search rules;
       unchanged = λ tells. unchanged_then (c.record_size.ensures.unchanged tells) (c.read.ensures.time tells);
-      later = search rules;
-      fault = search rules;
+      ends = search rules;
+      reads = search rules;
     }

@@ -30,7 +30,7 @@ returns c =
     let first = map (λ v. v.items) c.self.inside.first in
     let touched = touched_in c.self.inside.touched in
     let apart = touched_of c.index-self-place-2.result in
-    let log : DiskLog = record { first = first; calls = calls_of calls; together = (if c.self.inside.is_full then Some touched else None); counts = c.self.inside.counts } in
+    let log : DiskLog = record { first = first; calls = calls_of calls; together = (if c.self.inside.is_full then Some touched else None); counts = c.self.inside.counts; changes = c.self.inside.changes } in
     let held_is : held ≡ slice_index_or first file [] =
     ap (λ (v : Vec ℕ Global). v.items) c.index-self-place.is ∙ sym (get_or-items c.self.inside.first file c.index-self-place.result in_first) in
     let apart_is : apart ≡ touched_at touched file = ap touched_of c.index-self-place-2.is ∙ sym (touched_at-of c.self.inside.touched file c.index-self-place-2.result in_touched) in

@@ -7,6 +7,7 @@ use Rattle.memory_disk.specs.Kept.{call_of, calls_of, touched_in}
 use Rattle.memory_disk.specs.Stored.{IsStored}
 use Rattle.std.specs.declared.alloc.Global.{Global}
 use Rattle.std.proofs.lemmas.List.{length-map}
+use Rattle.std.proofs.Math.Seq.{map-set_same}
 use Rattle.memory_disk.specs.declared.kept.KeptCall.{KeptCall}
 use Rattle.memory_disk.specs.declared.kept.KeptEffect.TheVariants.{Write}
 use Rattle.memory_disk.proofs.StoredLemmas.{Store, bytes_of, bytes_of-set, stores, stored_after, stored_at, stored_changed, narrows_write, seen_touched, short_bytes}
@@ -40,3 +41,11 @@ invariant_of-self-in-Ok c =
     (stored_after (record store { bytes = slice_set store.bytes c.args.file bytes }) first calls later call (c.keep.ensures ∙ ap (λ (l : List KeptCall). l ++ call ∷ []) c.begin.ensures.calls)
     (stored_changed store (moments_after first (calls_of calls)).now (call_of call) bytes (record { named = named; narrows = narrows_write c.args.at c.in-Ok.copy.items })
     (omega (arith, inside, length-map c.self.inside.files (λ (v : Vec ℕ Global). v.items))) bytes_are (stores store first (calls_of calls) c.self.invariant)))
+
+pub invariant_of-self-in-Err : goal.invariant_of-self-in-Err
+invariant_of-self-in-Err c =
+    let first = map (λ v. v.items) c.self.inside.first in
+    let touched = touched_in c.self.inside.touched in
+    let same = map-set_same (λ (v : Vec ℕ Global). v.items) c.self.inside.files c.args.file c.put_copied.new.bytes c.index-self-file.result c.in-Err.ensures.err in
+    subst (λ (l : List (List ℕ)). IsStored l first (calls_of c.begin.new.calls.items) c.self.inside.is_full touched) (sym same)
+    (subst (λ (l : List KeptCall). IsStored (bytes_of c.self.inside.files) first (calls_of l) c.self.inside.is_full touched) (sym c.begin.ensures.calls) c.self.invariant)

@@ -6,7 +6,7 @@ pub returns-clause-cuts : goal.returns-clause-cuts
 returns-clause-cuts c = record {
   cut = λ tells. cut_seen c.args.self.now c.keep_cut.new.self c.args.file c.args.len (call_on c.args.file (cut_failed c.args.len)) c.keep_cut.result c.keep_cut.ensures.kept;
   time = λ tells. cut_time c.args.self.now c.keep_cut.new.self c.args.file c.keep_cut.result c.args.len c.keep_cut.ensures.kept;
-  cause = c.keep_cut.ensures.cause;
+  call = record { ends = c.keep_cut.ensures.ends; changes_are = c.keep_cut.ensures.kept.changes };
 }
 
 pub returns-clause-touched : goal.returns-clause-touched

@@ -11,7 +11,7 @@ pub returns-in_err-look-clause-measures : goal.returns-in_err-look-clause-measur
 returns-in_err-look-clause-measures c = record {
   size = λ tells. search rules;
   time = λ tells. look_time c.args.self.now c.look.new.self c.args.file c.look.result c.look.ensures.kept;
-  cause = search rules;
+  call = search rules;
 }
 
 pub returns-clause-measures : goal.returns-clause-measures
@@ -24,5 +24,5 @@ returns-clause-measures c =
     record {
       size = λ tells. search rules;
       time = λ tells. look_time c.args.self.now c.look.new.self c.args.file c.look.result c.look.ensures.kept;
-      cause = search rules;
+      call = search rules;
     }

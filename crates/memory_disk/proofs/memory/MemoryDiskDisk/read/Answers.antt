@@ -12,7 +12,7 @@ returns-in_err-look-clause-reads c = record {
   bound = search rules;
   bytes = λ tells. search rules;
   time = λ tells. look_time c.args.self.now c.look.new.self c.args.file c.look.result c.look.ensures.kept;
-  cause = search rules;
+  call = search rules;
 }
 
 pub returns-clause-reads : goal.returns-clause-reads
@@ -26,5 +26,5 @@ returns-clause-reads c =
       bound = c.read_at.ensures.bound;
       bytes = λ tells. subst (λ (l : List ℕ). IsRead l c.args.at (length c.args.buf.now) c.read_at.result c.read_at.new.buf) (c.deref.ensures.value ∙ stored) c.read_at.ensures.bytes;
       time = λ tells. look_time c.args.self.now c.look.new.self c.args.file c.look.result c.look.ensures.kept;
-      cause = search rules;
+      call = search rules;
     }

@@ -7,5 +7,5 @@ returns-clause-syncs c = record {
   settled = λ tells. sync_settles c.args.self.now c.keep_sync.new.self c.args.file (call_on c.args.file looked) c.keep_sync.result c.keep_sync.ensures.kept;
   same = λ tells. sync_seen c.args.self.now c.keep_sync.new.self c.args.file (call_on c.args.file looked) c.keep_sync.result c.keep_sync.ensures.kept;
   time = λ tells. sync_time c.args.self.now c.keep_sync.new.self c.args.file c.keep_sync.result c.keep_sync.ensures.kept;
-  cause = c.keep_sync.ensures.cause;
+  call = record { ends = c.keep_sync.ensures.ends; changes_are = c.keep_sync.ensures.kept.changes };
 }

@@ -8,7 +8,7 @@ returns-clause-writes c = record {
   written = λ tells. write_seen c.args.self.now c.keep_write.new.self c.args.file c.args.at c.args.bytes.now
       (call_on c.args.file (write_failed c.args.at (length c.args.bytes.now))) c.keep_write.result c.keep_write.ensures.kept;
   time = λ tells. write_time c.args.self.now c.keep_write.new.self c.args.file c.keep_write.result c.args.at c.args.bytes.now c.requires.inside c.keep_write.ensures.kept;
-  cause = c.keep_write.ensures.cause;
+  call = record { ends = c.keep_write.ensures.ends; changes_are = c.keep_write.ensures.kept.changes };
 }
 
 pub returns-clause-touched : goal.returns-clause-touched
