@@ -36,7 +36,7 @@ module _ (tells : Bool) (old new : DumpSeen) where
   dumps_report result d = record {
     sink_later = sink_later result d;
     disk_later = d.opened.later;
-    only_read = d.opened.only_read;
+    writes_nothing = d.opened.writes_nothing;
     ending = reported result d;
     complete = λ told run stands well. ends_well result d well;
   }
@@ -46,7 +46,7 @@ module _ (tells : Bool) (old new : DumpSeen) where
   dumps_unbegun fault same u = record {
     sink_later = subst (λ (k : SinkSeen). NeverFell old.sink.faults k.faults) (sym same) (NeverFell_refl old.sink.faults);
     disk_later = u.never_fell;
-    only_read = u.only_read;
-    ending = unbegun (status_of_fault fault) same u.only_read (cause_of tells old.disk new.disk fault u);
+    writes_nothing = u.writes_nothing;
+    ending = unbegun (status_of_fault fault) same u.writes_nothing (cause_of tells old.disk new.disk fault u);
     complete = λ told run stands well. begins_well tells old.disk new.disk fault u told run stands well.disk;
   }

@@ -1,29 +1,41 @@
 -- What a run begins at, behind the opening of its files; and why one doesn't begin.
-use Rattle.std.proofs.Common.{◌≡◌, inl, Bool, [], Some, None, Err, Ok, refl, sym, subst}
+use Rattle.std.proofs.Common.{◌≡◌, inl, Bool, [], Some, None, Err, Ok, refl, sym, subst, arith}
 use Rattle.std.specs.Prelude.{IsTrue}
 use Rattle.fault_counts.specs.Faults.{NeverFell, Rose}
 use Rattle.disk_model.specs.Moments.{EachMoment, start}
 use Rattle.disk_model.specs.DiskSeen.{DiskSeen, HasFailed, bytes_in}
 use Rattle.disk_model.proofs.MomentLemmas.{weaken}
-use Rattle.chain_commands.specs.RunState.{RunState}
-use Rattle.name_store.specs.Opening.{OnlySynced, ReadsAlike, OpenAnswer, OpensFor}
+use Rattle.disk_model.proofs.ImageLemmas.{KeepsSettled-images}
+use Rattle.gate_journal.specs.Gate.{ClosedAfter}
+use Rattle.gate_journal.specs.Records.{IsArea}
+use Rattle.chain_commands.specs.RunState.{RunState, saved_text}
+use Rattle.name_store.specs.Commands.{records_of}
+use Rattle.name_store.specs.Header.{header_text}
+use Rattle.name_store.specs.Opening.{IsSynced, OpenAnswer, OpensFor}
 use Rattle.name_store.specs.declared.faults.OpenFault.{OpenFault}
 use Rattle.name_store.specs.declared.faults.OpenFault.TheVariants as faults
 use Rattle.name_store.specs.Stands.{Stands}
 use Rattle.name_store.specs.Stored.{Stored}
-use Rattle.name_store.proofs.OpenLemmas.{adds_no_image, stands_alike}
 use Rattle.bridge_core.specs.Bridge.{AreFilesOf}
-use Rattle.bridge_core.specs.Opening.{status_of_fault, HasOpened, OnlyReads, IsUnbegun, uninitialised, damaged, disk_fault, no_memory, EndsWell, lacks_memory}
+use Rattle.bridge_core.specs.Opening.{status_of_fault, HasOpened, WritesNothing, IsUnbegun, uninitialised, damaged, disk_fault, no_memory, EndsWell, lacks_memory}
 use Rattle.bridge_core.specs.Reached.{Beginning, Begins, none_yet, asked, LeavesOldOrFront, LeadsTo, IsReached}
 use Rattle.bridge_core.proofs.FileLemmas.{files_of}
 use Rattle.bridge_core.proofs.ReachedLemmas.{front_of_all}
 
 -- ---- a bridge that was opened
 
+-- what reads give of the files stands for the run state where they are alike
+stands_alike : (old new : DiskSeen) (run : RunState) → IsSynced old new → Stands (bytes_in old) run → Stands (bytes_in new) run
+stands_alike old new run synced stands = record {
+  header = subst (ClosedAfter (header_text run.base run.host)) (sym (synced.alike 0 (omega arith))) stands.header;
+  area = subst (IsArea (saved_text run) (records_of run.since)) (sym (synced.alike 1 (omega arith))) stands.area;
+  is_state = stands.is_state;
+}
+
 module _ {D : Type 0} (tells : Bool) (seen : D → DiskSeen) (begun : Beginning D) (o : HasOpened tells begun.before (seen begun.opened) begun.bridge) where
   files_first : (run : RunState) → Begins tells begun run → IsTrue tells → AreFilesOf run (seen begun.opened).moments.now
   files_first run b told =
-      files_of begun.bridge (seen begun.opened) (o.on_disk told) run (stands_alike begun.before (seen begun.opened) run (o.alike told) (b.files told))
+      files_of begun.bridge (seen begun.opened) (o.opened told).on_disk run (stands_alike begun.before (seen begun.opened) run (o.synced told) (b.files told))
 
   leads_first : (run : RunState) → Begins tells begun run → LeadsTo (none_yet {tells = tells} {seen = seen} {start = begun}) run
   leads_first run b = record {
@@ -31,7 +43,7 @@ module _ {D : Type 0} (tells : Bool) (seen : D → DiskSeen) (begun : Beginning 
     runs = refl;
     stands = b.stands;
     files = λ told. files_first run b told;
-    any_moment = λ told. weaken (LeavesOldOrFront begun.before run (asked [] [] None)) (λ files synced image_is is. inl (adds_no_image begun.before.moments.now files synced image_is is)) (o.only_read.any_moment told);
+    any_moment = λ told. weaken (LeavesOldOrFront begun.before run (asked [] [] None)) (λ files kept image_is is. inl (KeepsSettled-images begun.before.moments.now files image_is kept is)) (o.writes_nothing.any_moment told);
     acknowledged = λ told. start (λ image_is is. inl (front_of_all run {events = []} {replies = []} 0 (omega arith) refl ((files_first run b told).each image_is is)));
   }
 
@@ -47,7 +59,7 @@ module _ {D : Type 0} (tells : Bool) (seen : D → DiskSeen) (begun : Beginning 
 -- ---- files that weren't opened
 
 pub record Unbegun (tells : Bool) (old new : DiskSeen) (fault : OpenFault) : Type 0 where
-  pub only_read : OnlyReads tells old new
+  pub writes_nothing : WritesNothing tells old new
   pub answer : IsTrue tells → OpenAnswer (bytes_in old) new.moments.now (Err fault)
   pub follows : IsTrue tells → (run : RunState) → Stands (bytes_in old) run → OpensFor run (Err fault)
   pub never_fell : NeverFell old.faults new.faults

@@ -127,7 +127,7 @@ module _ {D : Type 0} (s : Scene D) where
     source_later = subst (λ (t : loops.Streams). NeverFell s.old.streams.source.faults t.source.faults) (sym same) (NeverFell_refl s.old.streams.source.faults);
     sink_later = subst (λ (t : loops.Streams). NeverFell s.old.streams.sink.faults t.sink.faults) (sym same) (NeverFell_refl s.old.streams.sink.faults);
     disk_later = u.never_fell;
-    ending = unbegun (status_of_fault fault) (record { streams = same; only_read = u.only_read; cause = cause_of s.tells s.old.disk s.new.disk fault u });
+    ending = unbegun (status_of_fault fault) (record { streams = same; writes_nothing = u.writes_nothing; cause = cause_of s.tells s.old.disk s.new.disk fault u });
     determined = determined_unbegun fault u;
     complete = λ told run stands bytes frames left split below well. begins_well s.tells s.old.disk s.new.disk fault u told run stands well.disk;
   }

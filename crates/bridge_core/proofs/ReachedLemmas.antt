@@ -17,8 +17,8 @@ use Rattle.machine.specs.Step.{Step, Run}
 use Rattle.machine.proofs.RunLemmas.{run_push, run_state}
 use Rattle.name_store.specs.Stands.{Bytes, Stands, EachStandsForEither}
 use Rattle.name_store.specs.Stored.{Stored}
-use Rattle.bridge_core.specs.Bridge.{fault_reply, accepted_by, AreFilesOf, OutlivesCrashes, LeavesDisk}
-use Rattle.bridge_core.specs.Reached.{Beginning, Begins, AnswersEvent, Passes, none_yet, one_more, StandsForFront, StandsForAsked, Asked, asked, IsKept, LeavesFront, LeavesOldOrFront, HoldsAnswered, LeadsTo, IsReached, BreaksAt, IsBroken}
+use Rattle.bridge_core.specs.Bridge.{accepted_by, AsksNothing, AnswersEvent, AreFilesOf, OutlivesCrashes, LeavesDisk}
+use Rattle.bridge_core.specs.Reached.{Beginning, Begins, Passes, none_yet, one_more, StandsForFront, StandsForAsked, Asked, asked, IsKept, LeavesFront, LeavesOldOrFront, HoldsAnswered, LeadsTo, IsReached, BreaksAt, IsBroken}
 use Rattle.bridge_core.specs.declared.bridge.Turned.TheVariants.{On, Ended}
 
 pub frames_push : (events : List Event) (event : Event) → map frame_of events ++ frame_of event ∷ [] ≡ map frame_of (events ++ event ∷ [])

@@ -102,6 +102,6 @@ module _ {D : Type 0} (s : Scene D) where
   serves_unbegun fault same u = record {
     port_later = subst (λ (p : PortSeen). NeverFell s.old.port.faults p.faults) (sym same) (NeverFell_refl s.old.port.faults);
     disk_later = u.never_fell;
-    ending = unbegun (status_of_fault fault) same u.only_read (cause_of s.tells s.old.disk s.new.disk fault u);
+    ending = unbegun (status_of_fault fault) same u.writes_nothing (cause_of s.tells s.old.disk s.new.disk fault u);
     complete = λ told run stands well. inl (begins_well s.tells s.old.disk s.new.disk fault u told run stands well);
   }

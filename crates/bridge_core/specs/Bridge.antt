@@ -1,12 +1,13 @@
 -- What the turn of a bridge does, of every run state that the bridge stands for.
-use Rattle.std.specs.Prelude.{◌≡◌, ◌≢◌, ◌×◌, ℕ, [], Bool, IsTrue, IsFalse}
+use Rattle.std.specs.Prelude.{◌≡◌, ◌≢◌, ℕ, [], Bool, IsTrue, IsFalse}
 use Rattle.fault_counts.specs.Faults.{NeverFell}
 use Rattle.feed_frames.specs.Replies.{Reply}
 use Rattle.disk_model.specs.Moments.{Files, EachMoment}
+use Rattle.disk_model.specs.Changes.{LeavesOthers}
 use Rattle.disk_model.specs.DiskSeen.{DiskSeen, HasFailed, bytes_in}
 use Rattle.name_store.specs.Costs.{IsCheap}
-use Rattle.name_store.specs.Keeping.{TouchesAreaAlone}
-use Rattle.chain_commands.specs.Event.{Event, Connect, Disconnect, Do, Ask}
+use Rattle.name_store.specs.Damage.{area_file}
+use Rattle.chain_commands.specs.Event.{Command, Event, Connect, Disconnect, Do, Ask}
 use Rattle.chain_commands.specs.RunState.{RunState, chain_of, IsFull, accepted}
 use Rattle.chain_commands.specs.Connecting.{IsValid}
 use Rattle.chain_commands.specs.Disconnecting.{IsValidBack}
@@ -79,7 +80,7 @@ IsStillOn Ended files = Unit {0}
 pub record LeavesDisk (tells : Bool) (before after : DiskSeen) (event : Event) (reply : Reply) (turned : Turned) : Type 0 where
   pub later : NeverFell before.faults after.faults
   pub ends : EndsOn before after event reply turned
-  pub others : IsTrue tells → EachMoment (TouchesAreaAlone before.moments.now) before.moments after.moments
+  pub others : IsTrue tells → EachMoment (LeavesOthers area_file before.moments.now) before.moments after.moments
   pub still_on : IsTrue tells → IsStillOn turned after.moments.now
 
 -- as read, and whatever a crash leaves, the files stand for the run state
@@ -99,14 +100,23 @@ abbrev pub Keeps : Bool → Stored → Event → (before after : DiskSeen) → R
 Keeps tells old event before after reply =
     IsTrue tells → (run : RunState) → StandsFor old run → Stands (bytes_in before) run → OutlivesCrashes run event before after reply
 
+-- ---- all of it
+
+-- one event was answered, by the bridge over the disk as it was
+pub record AnswersEvent {D : Type 0} (tells : Bool) (seen : D → DiskSeen) (old : Stored) (before : D) (event : Event) (reply : Reply) (turned : Turned) (after : D) : Type 0 where
+  pub turns : Turns old event reply turned
+  pub told : TellsFault reply turned
+  pub untouched : AsksNothing event reply → after ≡ before
+  pub leaves : LeavesDisk tells (seen before) (seen after) event reply turned
+  pub kept : Keeps tells old event (seen before) (seen after) reply
+
 -- ---- costs
 
 -- of a bridge that goes on
-abbrev pub IsCheapOn : Stored → Event → Turned → ℕ → ℕ → Type 0
-IsCheapOn old (Do command) (On bridge) before after = IsCheap old.index command bridge.index before after
-IsCheapOn old (Ask message) (On bridge) before after = Unit {0}
-IsCheapOn old event Ended before after = Unit {0}
+abbrev pub IsCheapOn : Stored → Command → Turned → ℕ → ℕ → Type 0
+IsCheapOn old command (On bridge) before after = IsCheap old.index command bridge.index before after
+IsCheapOn old command Ended before after = Unit {0}
 
 -- where the command is accepted
-abbrev pub IsCheapTurn : Stored → Event → Reply → Turned → ℕ → ℕ → Type 0
-IsCheapTurn old event reply turned before after = reply.code ≡ 0 → IsCheapOn old event turned before after
+abbrev pub IsCheapTurn : Stored → Command → Reply → Turned → ℕ → ℕ → Type 0
+IsCheapTurn old command reply turned before after = reply.code ≡ 0 → IsCheapOn old command turned before after

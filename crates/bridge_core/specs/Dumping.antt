@@ -10,7 +10,7 @@ use Rattle.name_report.specs.declared.reporting.ReportFault.TheVariants as repor
 use Rattle.chain_commands.specs.RunState.{RunState, chain_of}
 use Rattle.name_store.specs.Stands.{Stands}
 use Rattle.name_store.specs.Stored.{Stored, StandsFor}
-use Rattle.bridge_core.specs.Opening.{IsUnbegun, HasOpened, OnlyReads, EndsWell}
+use Rattle.bridge_core.specs.Opening.{IsUnbegun, HasOpened, WritesNothing, EndsWell}
 use Rattle.bridge_core.specs.declared.status.Status.{Status}
 use Rattle.bridge_core.specs.declared.status.Status.TheVariants.{Done, SinkFault, NoMemory}
 
@@ -43,7 +43,7 @@ pub record DumpsSo (tells : Bool) (old new : DumpSeen) (result : Result (Unit {0
 -- Each status with its cause: the sink took the whole report, or a part of it, or nothing was written.
 pub data DumpEnds (tells : Bool) (old new : DumpSeen) : Status → Type 0 where
   reported : (result : Result (Unit {0}) ReportFault) → DumpsSo tells old new result → DumpEnds tells old new (status_of_report result)
-  unbegun : (status : Status) → new.sink ≡ old.sink → OnlyReads tells old.disk new.disk → IsUnbegun tells old.disk new.disk status → DumpEnds tells old new status
+  unbegun : (status : Status) → new.sink ≡ old.sink → WritesNothing tells old.disk new.disk → IsUnbegun tells old.disk new.disk status → DumpEnds tells old new status
 
 -- no count of faults rose, and the sink took a byte at least of the last piece
 pub record NothingFailed (old new : DumpSeen) : Type 0 where
@@ -51,11 +51,11 @@ pub record NothingFailed (old new : DumpSeen) : Type 0 where
   pub moving : new.sink.stalled ≡ false
   pub disk : ¬ (Rose old.disk.faults new.disk.faults)
 
--- no count of faults fell; the files were only read; how it ended; and on files that stand for a run state, where nothing failed, the
+-- no count of faults fell; nothing was written to the files; how it ended; and on files that stand for a run state, where nothing failed, the
 -- report was written or memory ran out
 pub record Dumps (tells : Bool) (old new : DumpSeen) (status : Status) : Type 0 where
   pub sink_later : NeverFell old.sink.faults new.sink.faults
   pub disk_later : NeverFell old.disk.faults new.disk.faults
-  pub only_read : OnlyReads tells old.disk new.disk
+  pub writes_nothing : WritesNothing tells old.disk new.disk
   pub ending : DumpEnds tells old new status
   pub complete : IsTrue tells → (run : RunState) → Stands (bytes_in old.disk) run → NothingFailed old new → EndsWell status

@@ -3,10 +3,10 @@ use Rattle.std.specs.Prelude.{◌≡◌, ℕ, Bool, IsTrue, List}
 use Rattle.fault_counts.specs.Faults.{NeverFell}
 use Rattle.nmc_base.specs.declared.chain_ends.Base.{Base}
 use Rattle.disk_model.specs.Moments.{EachMoment}
-use Rattle.disk_model.specs.Changes.{Unchanged}
+use Rattle.disk_model.specs.Changes.{LeavesFrom}
 use Rattle.disk_model.specs.DiskSeen.{DiskSeen, HasFailed, file_in, bytes_in}
 use Rattle.name_store.specs.Header.{IsInitialised, IsUninitialised}
-use Rattle.name_store.specs.Making.{IsEmpty, EachIsBegun, LeavesLastFile}
+use Rattle.name_store.specs.Making.{IsEmpty, EachIsBegun, OnlyReads}
 use Rattle.name_store.specs.Stands.{EachStands, begun_on}
 use Rattle.bridge_core.specs.declared.status.Status.{Status}
 use Rattle.bridge_core.specs.declared.status.Status.TheVariants.{Done, Initialised, DiskFault}
@@ -15,8 +15,7 @@ use Rattle.bridge_core.specs.declared.status.Status.TheVariants.{Done, Initialis
 -- there is no other status. Where the disk doesn't tell its files, nothing is said of them.
 pub data InitEnds (tells : Bool) (old new : DiskSeen) : Status → Type 0 where
   made : (IsTrue tells → IsUninitialised (bytes_in old 0)) → InitEnds tells old new Done
-  stays : (IsTrue tells → IsInitialised (bytes_in old 0)) → new.changes ≡ old.changes
-      → (IsTrue tells → EachMoment (Unchanged old.moments.now) old.moments new.moments) → InitEnds tells old new Initialised
+  stays : (IsTrue tells → IsInitialised (bytes_in old 0)) → OnlyReads tells old new → InitEnds tells old new Initialised
   failed : HasFailed old new → InitEnds tells old new DiskFault
 
 -- What `init` of a base and the text of its host did. Once it is done, whatever a crash leaves stands for the base and its
@@ -25,5 +24,5 @@ pub record Inits (tells : Bool) (base : Base) (host : List ℕ) (old new : DiskS
   pub ending : InitEnds tells old new status
   pub made : IsTrue tells → status ≡ Done → EachStands new.moments.now (begun_on base host)
   pub from_empty : IsTrue tells → IsEmpty (file_in old 0) → EachMoment (EachIsBegun (begun_on base host)) old.moments new.moments
-  pub last_file : IsTrue tells → EachMoment (LeavesLastFile old.moments.now) old.moments new.moments
+  pub others : IsTrue tells → EachMoment (LeavesFrom 2 old.moments.now) old.moments new.moments
   pub later : NeverFell old.faults new.faults

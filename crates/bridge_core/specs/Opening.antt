@@ -1,14 +1,13 @@
 -- How a command ends that hasn't begun its work: its files can't be opened, or memory runs out.
-use Rattle.std.specs.Prelude.{◌≡◌, ◌×◌, ℕ, Bool, IsTrue, IsFalse}
+use Rattle.std.specs.Prelude.{◌≡◌, ℕ, Bool, IsTrue, IsFalse}
 use Rattle.fault_counts.specs.Faults.{NeverFell}
 use Rattle.disk_model.specs.Moments.{EachMoment}
+use Rattle.disk_model.specs.Changes.{KeepsSettled}
 use Rattle.disk_model.specs.DiskSeen.{DiskSeen, HasFailed, bytes_in}
-use Rattle.chain_commands.specs.RunState.{RunState}
 use Rattle.name_store.specs.Header.{IsUninitialised}
 use Rattle.name_store.specs.Damage.{IsDamaged}
-use Rattle.name_store.specs.Opening.{OnlySynced, ReadsAlike}
-use Rattle.name_store.specs.Stands.{Bytes, Stands}
-use Rattle.name_store.specs.Stored.{Stored, StandsFor, IsOn}
+use Rattle.name_store.specs.Opening.{IsOpened, IsSynced}
+use Rattle.name_store.specs.Stored.{Stored}
 use Rattle.name_store.specs.declared.faults.OpenFault.{OpenFault}
 use Rattle.name_store.specs.declared.faults.OpenFault.TheVariants as faults
 use Rattle.bridge_core.specs.declared.status.Status.{Status}
@@ -20,10 +19,10 @@ status_of_fault (faults.Damaged file at) = Damaged file at
 status_of_fault faults.DiskFault = DiskFault
 status_of_fault faults.NoMemory = NoMemory
 
--- The files were only read: none was written or cut, and what was settled stayed so at each moment.
-pub record OnlyReads (tells : Bool) (old new : DiskSeen) : Type 0 where
+-- The files were read and synced alone: none was written or cut, and what was settled stayed so at each moment.
+pub record WritesNothing (tells : Bool) (old new : DiskSeen) : Type 0 where
   pub unchanged : new.changes ≡ old.changes
-  pub any_moment : IsTrue tells → EachMoment (OnlySynced old.moments.now) old.moments new.moments
+  pub any_moment : IsTrue tells → EachMoment (KeepsSettled old.moments.now) old.moments new.moments
 
 -- The files couldn't be opened, or memory ran out: each status with its cause.
 pub data IsUnbegun (tells : Bool) (old new : DiskSeen) : Status → Type 0 where
@@ -32,18 +31,12 @@ pub data IsUnbegun (tells : Bool) (old new : DiskSeen) : Status → Type 0 where
   disk_fault : HasFailed old new → IsUnbegun tells old new DiskFault
   no_memory : IsUnbegun tells old new NoMemory
 
--- neither uninitialised nor damaged
-pub record IsSound (files : Bytes) : Type 0 where
-  pub initialised : ¬ (IsUninitialised (files 0))
-  pub undamaged : (file at : ℕ) → ¬ (IsDamaged files file at)
-
--- The files were opened: the bridge stands for each run state that they stood for as they were read.
+-- The files, which were neither uninitialised nor damaged, were opened, each of the three synced: the bridge is on them, and stands
+-- for each run state that they stood for.
 pub record HasOpened (tells : Bool) (old new : DiskSeen) (bridge : Stored) : Type 0 where
-  pub sound : IsTrue tells → IsSound (bytes_in old)
-  pub follows : IsTrue tells → (run : RunState) → Stands (bytes_in old) run → StandsFor bridge run
-  pub on_disk : IsTrue tells → IsOn bridge new.moments.now
-  pub alike : IsTrue tells → ReadsAlike old new
-  pub only_read : OnlyReads tells old new
+  pub opened : IsTrue tells → IsOpened (bytes_in old) new.moments.now bridge
+  pub synced : IsTrue tells → IsSynced old new
+  pub writes_nothing : WritesNothing tells old new
   pub worked : IsFalse new.failed
   pub later : NeverFell old.faults new.faults
 

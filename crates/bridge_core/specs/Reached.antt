@@ -10,7 +10,7 @@ use Rattle.chain_commands.specs.RunState.{RunState}
 use Rattle.machine.specs.Step.{Run}
 use Rattle.name_store.specs.Stands.{Bytes, Stands, EachStandsForEither}
 use Rattle.name_store.specs.Stored.{Stored, StandsFor, IsOn}
-use Rattle.bridge_core.specs.Bridge.{fault_reply, IsValidEvent, accepted_by, Turns, TellsFault, AsksNothing, LeavesDisk, Keeps, AreFilesOf}
+use Rattle.bridge_core.specs.Bridge.{fault_reply, IsValidEvent, accepted_by, AnswersEvent, AreFilesOf}
 use Rattle.bridge_core.specs.declared.bridge.Turned.{Turned}
 use Rattle.bridge_core.specs.declared.bridge.Turned.TheVariants.{On, Ended}
 
@@ -26,14 +26,6 @@ pub record Begins {D : Type 0} (tells : Bool) (start : Beginning D) (run : RunSt
   pub files : IsTrue tells → Stands (bytes_in start.before) run
 
 -- ---- turns, one after the other
-
--- one event was answered, by the bridge over the disk as it was
-pub record AnswersEvent {D : Type 0} (tells : Bool) (seen : D → DiskSeen) (old : Stored) (before : D) (event : Event) (reply : Reply) (turned : Turned) (after : D) : Type 0 where
-  pub turns : Turns old event reply turned
-  pub told : TellsFault reply turned
-  pub untouched : AsksNothing event reply → after ≡ before
-  pub leaves : LeavesDisk tells (seen before) (seen after) event reply turned
-  pub kept : Keeps tells old event (seen before) (seen after) reply
 
 -- From the opened bridge on these events got these replies, each answered on the disk that the one before left: so between two
 -- of them the disk is asked nothing, and each reply is given away over the disk that stands behind its event.

@@ -6,7 +6,7 @@ use Rattle.frame_loop.specs.Transcript.{Transcript}
 use Rattle.frame_loop.specs.declared.following.Ending.{Ending}
 use Rattle.frame_loop.specs.declared.following.Ending.TheVariants as endings
 use Rattle.bridge_core.specs.Reached.{Beginning, Reached, Broken}
-use Rattle.bridge_core.specs.Opening.{IsUnbegun, HasOpened, OnlyReads}
+use Rattle.bridge_core.specs.Opening.{IsUnbegun, HasOpened, WritesNothing}
 use Rattle.bridge_core.specs.Outcome.{Outside, IsDetermined, IsComplete}
 use Rattle.bridge_core.specs.declared.bridge.Turned.{Turned}
 use Rattle.bridge_core.specs.declared.status.Status.{Status}
@@ -30,10 +30,10 @@ pub record EndsSo {D : Type 0} (tells : Bool) (seen : D → DiskSeen) (disk : D)
   pub last : Turned
   pub transcript : Transcript (Reached tells seen start) (Broken tells seen start) old.streams new.streams limit how (last, disk)
 
--- Nothing was read and nothing written, the files were only read, and the status has its cause.
+-- Nothing was read and nothing written, nothing was written to the files, and the status has its cause.
 pub record StaysUnread (tells : Bool) (old new : Outside) (status : Status) : Type 0 where
   pub streams : new.streams ≡ old.streams
-  pub only_read : OnlyReads tells old.disk new.disk
+  pub writes_nothing : WritesNothing tells old.disk new.disk
   pub cause : IsUnbegun tells old.disk new.disk status
 
 -- Each status with its cause: the files couldn't be opened, or memory ran out; or the loop ended.

@@ -9,7 +9,7 @@ use Rattle.port_loop.specs.declared.attending.Ending.TheVariants as endings
 use Rattle.chain_commands.specs.RunState.{RunState}
 use Rattle.name_store.specs.Stands.{Stands}
 use Rattle.name_store.specs.Stored.{Stored}
-use Rattle.bridge_core.specs.Opening.{IsUnbegun, HasOpened, OnlyReads, EndsWell}
+use Rattle.bridge_core.specs.Opening.{IsUnbegun, HasOpened, WritesNothing, EndsWell}
 use Rattle.bridge_core.specs.Reached.{Beginning, Reached, Broken}
 use Rattle.bridge_core.specs.declared.bridge.Turned.{Turned}
 use Rattle.bridge_core.specs.declared.bridge.Turned.TheVariants.{On}
@@ -48,12 +48,12 @@ pub record StaysOpened (tells : Bool) (old new : DiskSeen) : Type 0 where
   pub bridge : Stored
   pub opened : HasOpened tells old new bridge
 
--- Each status with its cause. Where no poll was made the files were only read; and the port was asked nothing, or there was a fault as
+-- Each status with its cause. Where no poll was made nothing was written to the files; and the port was asked nothing, or there was a fault as
 -- it was to be bound, behind the opening.
 pub data ServeEnds {D : Type 0} (tells : Bool) (seen : D → DiskSeen) (disk : D) (old new : ServeSeen) (plan : Plan) : Status → Type 0 where
   ended : (how : Ending) → ServesSo tells seen disk old new plan how → ServeEnds tells seen disk old new plan (status_of_ending how)
   unbound : NotesFault old.port new.port [] → StaysOpened tells old.disk new.disk → ServeEnds tells seen disk old new plan PortFault
-  unbegun : (status : Status) → new.port ≡ old.port → OnlyReads tells old.disk new.disk → IsUnbegun tells old.disk new.disk status
+  unbegun : (status : Status) → new.port ≡ old.port → WritesNothing tells old.disk new.disk → IsUnbegun tells old.disk new.disk status
       → ServeEnds tells seen disk old new plan status
 
 -- no count of faults fell; how it ended; and on files that stand for a run state, where the disk doesn't fail, all polls are

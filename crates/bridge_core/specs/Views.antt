@@ -2,16 +2,25 @@
 use Rattle.std.specs.Prelude.{◌≤◌, length, ⊤}
 use Rattle.nmc_base.specs.declared.limits.TheConstants.{LONGEST_BLOCK}
 use Rattle.chain_commands.specs.Event as machine
+use Rattle.bridge_core.specs.declared.event.ChainCommand.{ChainCommand}
+use Rattle.bridge_core.specs.declared.event.ChainCommand.TheVariants.{Connect, Disconnect}
 use Rattle.bridge_core.specs.declared.event.Event.{Event}
-use Rattle.bridge_core.specs.declared.event.Event.TheVariants.{Connect, Disconnect, Query}
+use Rattle.bridge_core.specs.declared.event.Event.TheVariants.{Do, Ask}
+
+abbrev pub command_of : ChainCommand → machine.Command
+command_of (Connect block) = machine.Connect block.now
+command_of (Disconnect hash) = machine.Disconnect hash.0
 
 abbrev pub event_of : Event → machine.Event
-event_of (Connect block) = machine.Do (machine.Connect block.now)
-event_of (Disconnect hash) = machine.Do (machine.Disconnect hash.0)
-event_of (Query message) = machine.Ask message.now
+event_of (Do command_is) = machine.Do (command_of command_is)
+event_of (Ask message) = machine.Ask message.now
 
--- a block has at most the greatest length; a message may have any
-abbrev pub IsWithinLimits : Event → Type 0
+-- a block has at most the greatest length
+abbrev pub IsWithinLimits : ChainCommand → Type 0
 IsWithinLimits (Connect block) = length block.now ≤ LONGEST_BLOCK
 IsWithinLimits (Disconnect hash) = ⊤
-IsWithinLimits (Query message) = ⊤
+
+-- a message may have any
+abbrev pub IsReadable : Event → Type 0
+IsReadable (Do command_is) = IsWithinLimits command_is
+IsReadable (Ask message) = ⊤

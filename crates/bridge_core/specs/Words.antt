@@ -75,20 +75,6 @@ Asks words Dump = words ≡ codes "dump" ∷ []
 Asks words (Init base name) = AsksForFiles words base name
 Asks words (Serve plan) = AsksToServe words plan
 
--- the texts are those of the files that the command makes
-abbrev pub IsInitOf : (height hash host : List ℕ) → Command → Type 0
-IsInitOf height hash host Replay = ⊥
-IsInitOf height hash host Dump = ⊥
-IsInitOf height hash host (Init base name) = AreFields height hash host base name
-IsInitOf height hash host (Serve plan) = ⊥
-
--- the texts are those of the numbers that the command serves by
-abbrev pub IsServeOf : (udp feed turns : List ℕ) → Command → Type 0
-IsServeOf udp feed turns Replay = ⊥
-IsServeOf udp feed turns Dump = ⊥
-IsServeOf udp feed turns (Init base name) = ⊥
-IsServeOf udp feed turns (Serve plan) = AreNumbers udp feed turns plan
-
 -- what a command has no use for stays as it is: the source, the sink and the port
 abbrev pub Spares : Command → (source sink port : Type 0) → Type 0
 Spares Replay source sink port = port

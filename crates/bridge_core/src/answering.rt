@@ -1,10 +1,10 @@
 ghost use Rattle.frame_loop.specs.Turns as loops;
-ghost use Rattle.chain_commands.specs.Event.{frame_of};
+ghost use Rattle.chain_commands.specs.Event.{Ask, Do, frame_of};
 ghost use Rattle.bridge_core.specs.Reached.{Ready, Reached, Broken};
-ghost use Rattle.bridge_core.specs.Views.{event_of, IsWithinLimits};
+ghost use Rattle.bridge_core.specs.Views.{command_of, IsWithinLimits};
 
 use crate::bridge::Turned;
-use crate::event::{Event, read_event};
+use crate::event::{ChainCommand, Event, read_event};
 use disk_model::Disk;
 use feed_frames::Frame;
 use frame_loop::{Answerer, Over, ReplyBuf};
@@ -13,22 +13,22 @@ use std::alloc::Global;
 use std::mem;
 use std::sync::ledger::Ledger;
 
-/// Has a bridge deal with an event. It is moved, as a command needs; what a fault of the disk has ended stays so.
+/// Has a bridge do a command. It is moved, as that needs; what a fault of the disk has ended stays so.
 fn deal<D: Disk, L: Ledger>(
     turned: &mut Turned,
     alloc: Global,
     disk: &mut D,
-    event: Event<'_>,
+    command: ChainCommand<'_>,
     reply: &mut ReplyBuf,
     steps: &mut Steps<L>,
 ) -> Result<(), Over>
-    requires within { IsWithinLimits event }
+    requires within { IsWithinLimits command }
     requires ready { Ready D.tells D.seen (turned.old, disk.old) }
-    ensures { loops.Turns (Ready D.tells D.seen) (Reached D.tells D.seen) (Broken D.tells D.seen) (turned.old, disk.old) (frame_of (event_of event.entry)) reply.new (turned.new, disk.new) result }
+    ensures { loops.Turns (Ready D.tells D.seen) (Reached D.tells D.seen) (Broken D.tells D.seen) (turned.old, disk.old) (frame_of (Do (command_of command.entry))) reply.new (turned.new, disk.new) result }
 {
     match mem::replace(turned, Turned::Ended) {
         Turned::Ended => Err(Over),
-        Turned::On(bridge) => match bridge.turn(alloc, disk, event, reply, steps) {
+        Turned::On(bridge) => match bridge.turn(alloc, disk, command, reply, steps) {
             Turned::Ended => Err(Over),
             Turned::On(next) => {
                 *turned = Turned::On(next);
@@ -38,11 +38,37 @@ fn deal<D: Disk, L: Ledger>(
     }
 }
 
+/// Has a bridge answer a message.
+fn ask<D: Disk>(
+    turned: &mut Turned,
+    alloc: Global,
+    disk: &D,
+    message: &[u8],
+    reply: &mut ReplyBuf,
+) -> Result<(), Over>
+    requires ready { Ready D.tells D.seen (turned.old, disk.now) }
+    ensures { loops.Turns (Ready D.tells D.seen) (Reached D.tells D.seen) (Broken D.tells D.seen) (turned.old, disk.now) (frame_of (Ask message.now)) reply.new (turned.new, disk.now) result }
+{
+    let _ = disk;
+    match turned {
+        Turned::Ended => Err(Over),
+        Turned::On(bridge) => {
+            bridge.query(alloc, message, reply);
+            Ok(())
+        }
+    }
+}
+
 /// A bridge answers frames by means of the disk that has its files. Once a fault has ended it, it answers none.
 impl<D: Disk> Answerer<D> for Turned {
+    ghost use Rattle.chain_commands.specs.Event.{last_kind};
     ghost use Rattle.bridge_core.specs.Reached.{Beginning, Ready, Reached, Broken};
 
-    ghost Start = { Beginning };
+    const KINDS: u8 = 3;
+
+    ghost KINDS = { last_kind };
+
+    ghost Start = { Beginning D };
 
     ghost ready = { Ready D.tells D.seen };
 
@@ -58,11 +84,9 @@ impl<D: Disk> Answerer<D> for Turned {
         reply: &mut ReplyBuf,
         steps: &mut Steps<L>,
     ) -> Result<(), Over> {
-        let event = read_event(frame);
-        if let (Event::Query(message), Turned::On(bridge)) = (event, &*self) {
-            bridge.query(alloc, message, reply);
-            return Ok(());
+        match read_event(frame) {
+            Event::Ask(message) => ask(self, alloc, disk, message, reply),
+            Event::Do(command) => deal(self, alloc, disk, command, reply, steps),
         }
-        deal(self, alloc, disk, event, reply, steps)
     }
 }

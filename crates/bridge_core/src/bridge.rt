@@ -1,33 +1,25 @@
-ghost use Rattle.std.specs.Prelude.{◌≡◌, ◌≢◌, ◌≤◌, length, IsTrue, IfOk, IsErrOf};
-ghost use Rattle.fault_counts.specs.Faults.{NeverFell, Rose};
+ghost use Rattle.std.specs.Prelude.{◌≡◌, ◌≢◌, ◌≤◌, length, IsTrue, OnOk};
 ghost use Rattle.nmc_base.specs.declared.limits.TheConstants.{LONGEST_BLOCK};
+ghost use Rattle.disk_model.specs.Changes.{KeepsSettled};
 ghost use Rattle.disk_model.specs.Moments.{EachMoment};
-ghost use Rattle.disk_model.specs.DiskSeen.{bytes_in};
+ghost use Rattle.disk_model.specs.DiskSeen.{EndsWith, bytes_in};
 ghost use Rattle.chain_commands.specs.Event.{Ask, Connect, Disconnect, Do};
 ghost use Rattle.chain_commands.specs.RunState.{RunState};
-ghost use Rattle.name_report.specs.Report.{Reports};
-ghost use Rattle.name_store.specs.Opening.{OpenAnswer, OpensFor, AddsNoImage, ReadsAlike};
-ghost use Rattle.name_store.specs.Stands.{Stands};
+ghost use Rattle.name_report.specs.Report.{Reports, reported_by};
+ghost use Rattle.name_store.specs.Opening.{IsSynced, OpenAnswer};
 ghost use Rattle.name_store.specs.Stored.{StandsFor, IsOn};
-ghost use Rattle.bridge_core.specs.Bridge.{
-  Turns,
-  TellsFault,
-  KeepsOn,
-  IfEnded,
-  IsCheapTurn,
-  fault_code,
-};
+ghost use Rattle.bridge_core.specs.Bridge.{AnswersEvent, IsCheapTurn, Turns, fault_code};
 ghost use Rattle.bridge_core.specs.Dumping.{reported_of};
-ghost use Rattle.bridge_core.specs.Views.{event_of, IsWithinLimits};
+ghost use Rattle.bridge_core.specs.Views.{command_of, IsWithinLimits};
 
-use crate::event::Event;
+use crate::event::ChainCommand;
 use crate::querying::answer_query;
 use crate::replies::{accept, lack_memory, refuse, refuse_back, tell_fault};
 use byte_io::Sink;
 use disk_model::Disk;
 use frame_loop::ReplyBuf;
 use name_report::{ReportFault, report};
-use name_store::{BackOutcome, OpenFault, Outcome, Store};
+use name_store::{OpenFault, Outcome, Store};
 use nmc_base::{Hash32, Steps};
 use std::alloc::Global;
 use std::marker::Model;
@@ -56,16 +48,15 @@ pub enum Turned {
 }
 
 impl Bridge {
-    /// Opens the files: the bridge stands for the run state that they stand for. It writes nothing and cuts nothing.
+    /// Opens the files: the bridge stands for the run state that they stand for. It writes nothing and cuts nothing, and syncs
+    /// each of the three files.
     pub fn open<D: Disk>(alloc: Global, disk: &mut D) -> Result<Bridge, OpenFault>
-        ensures found { IfOk result (λ bridge. (run : RunState) × StandsFor bridge run) }
         ensures answer { IsTrue D.tells → OpenAnswer (bytes_in (D.seen disk.old)) (D.seen disk.new).moments.now result }
-        ensures follows { IsTrue D.tells → (run : RunState) → Stands (bytes_in (D.seen disk.old)) run → OpensFor run result }
-        ensures same { IsTrue D.tells → IfOk result (λ bridge. ReadsAlike (D.seen disk.old) (D.seen disk.new)) }
-        ensures untouched { IsTrue D.tells
-            → EachMoment (AddsNoImage (D.seen disk.old).moments.now) (D.seen disk.old).moments (D.seen disk.new).moments }
-        ensures later { NeverFell (D.seen disk.old).faults (D.seen disk.new).faults }
-        ensures fault { IsErrOf result OpenFault.DiskFault → Rose (D.seen disk.old).faults (D.seen disk.new).faults }
+        ensures synced { IsTrue D.tells → OnOk result (IsSynced (D.seen disk.old) (D.seen disk.new)) }
+        ensures time { IsTrue D.tells
+            → EachMoment (KeepsSettled (D.seen disk.old).moments.now) (D.seen disk.old).moments (D.seen disk.new).moments }
+        ensures reads { (D.seen disk.new).changes ≡ (D.seen disk.old).changes }
+        ensures ends { EndsWith OpenFault.DiskFault (D.seen disk.old) (D.seen disk.new) result }
     {
         match Store::open(alloc, disk) {
             Ok(store) => Ok(Bridge { store }),
@@ -84,14 +75,8 @@ impl Bridge {
     ) -> Turned
         requires short { length bytes.now ≤ LONGEST_BLOCK }
         requires on_disk { IsTrue D.tells → IsOn self (D.seen disk.old).moments.now }
-        ensures turns { Turns self (Do (Connect bytes.now)) reply.new result }
-        ensures told { TellsFault reply.new result }
-        ensures untouched { reply.new.code ≢ 0 → reply.new.code ≢ fault_code → disk.new ≡ disk.old }
-        ensures kept { IsTrue D.tells → (run : RunState) → StandsFor self run
-            → KeepsOn run (Do (Connect bytes.now)) (D.seen disk.old) (D.seen disk.new) reply.new result }
-        ensures later { NeverFell (D.seen disk.old).faults (D.seen disk.new).faults }
-        ensures fault { IfEnded (Rose (D.seen disk.old).faults (D.seen disk.new).faults) result }
-        ensures cost { IsCheapTurn self (Do (Connect bytes.now)) reply.new result steps.old steps.new }
+        ensures answers { AnswersEvent D.tells D.seen self disk.old (Do (Connect bytes.now)) reply.new result disk.new }
+        ensures cost { IsCheapTurn self (Connect bytes.now) reply.new result steps.old steps.new }
     {
         match self.store.connect(alloc, disk, bytes, steps) {
             Outcome::Done(store, tip) => {
@@ -124,39 +109,67 @@ impl Bridge {
         steps: &mut Steps<L>,
     ) -> Turned
         requires on_disk { IsTrue D.tells → IsOn self (D.seen disk.old).moments.now }
-        ensures turns { Turns self (Do (Disconnect hash.0)) reply.new result }
-        ensures told { TellsFault reply.new result }
-        ensures untouched { reply.new.code ≢ 0 → reply.new.code ≢ fault_code → disk.new ≡ disk.old }
-        ensures kept { IsTrue D.tells → (run : RunState) → StandsFor self run
-            → KeepsOn run (Do (Disconnect hash.0)) (D.seen disk.old) (D.seen disk.new) reply.new result }
-        ensures later { NeverFell (D.seen disk.old).faults (D.seen disk.new).faults }
-        ensures fault { IfEnded (Rose (D.seen disk.old).faults (D.seen disk.new).faults) result }
-        ensures cost { IsCheapTurn self (Do (Disconnect hash.0)) reply.new result steps.old steps.new }
+        ensures answers { AnswersEvent D.tells D.seen self disk.old (Do (Disconnect hash.0)) reply.new result disk.new }
+        ensures cost { IsCheapTurn self (Disconnect hash.0) reply.new result steps.old steps.new }
     {
         match self.store.disconnect(alloc, disk, hash, steps) {
-            BackOutcome::Done(store, tip) => {
+            Outcome::Done(store, tip) => {
                 accept(reply, &tip);
                 Turned::On(Bridge { store })
             }
-            BackOutcome::Refused(store, refusal) => {
+            Outcome::Refused(store, refusal) => {
                 refuse_back(reply, &refusal);
                 Turned::On(Bridge { store })
             }
-            BackOutcome::NoMemory(store) => {
+            Outcome::NoMemory(store) => {
                 lack_memory(reply);
                 Turned::On(Bridge { store })
             }
-            BackOutcome::Faulted => {
+            Outcome::Faulted => {
                 tell_fault(reply);
                 Turned::Ended
             }
         }
     }
 
-    /// Answers a message of DNS from the names that the chain serves. It asks nothing of the disk.
-    pub(crate) fn query(&self, alloc: Global, message: &[u8], reply: &mut ReplyBuf)
-        ensures turns { Turns self.now (Ask message.now) reply.new (Turned.On self.now) }
+    /// Does a command on the chain, and writes its one reply.
+    ///
+    /// Of a connect, code 1 answers bytes that are no block, code 2 a block that isn't on the tip, code 4 a block on the
+    /// greatest height, code 3 one whose Merkle root is another one, codes 10 to 28 one with a transaction that breaks a
+    /// rule on names, and code 5 one for whose record the area has no room, in this order. Of a disconnect, code 7 answers
+    /// where no block stands on the base, then code 6 a hash that isn't the newest block's, and then code 5.
+    ///
+    /// Code FE, want of memory, may stand in the place of codes 0 and 5, and of a connect's codes 3 and 10 to 28. Then
+    /// nothing has changed, and the disk wasn't asked, as with each refusal.
+    ///
+    /// Code FD, a fault of the disk, ends the bridge: the last call of the disk failed. A crash at any moment, and such a fault,
+    /// leave files that stand for what was there before the command, or for that with it; behind code 0 they stand for that with
+    /// it. No file but the area has changed.
+    pub fn turn<D: Disk, L: Ledger>(
+        self,
+        alloc: Global,
+        disk: &mut D,
+        command: ChainCommand<'_>,
+        reply: &mut ReplyBuf,
+        steps: &mut Steps<L>,
+    ) -> Turned
+        requires within { IsWithinLimits command }
+        requires on_disk { IsTrue D.tells → IsOn self (D.seen disk.old).moments.now }
+        ensures answers { AnswersEvent D.tells D.seen self disk.old (Do (command_of command.entry)) reply.new result disk.new }
+        ensures cost { IsCheapTurn self (command_of command.entry) reply.new result steps.old steps.new }
+    {
+        match command {
+            ChainCommand::Connect(bytes) => self.connect(alloc, disk, bytes, reply, steps),
+            ChainCommand::Disconnect(hash) => self.disconnect(alloc, disk, hash, reply, steps),
+        }
+    }
+
+    /// Answers a message of DNS from the names that the chain serves: code 8 is that of one that gets no reply, and code 0 of
+    /// all others, whose reply is the payload, SERVFAIL for want of memory. It asks nothing of the disk.
+    pub fn query(&mut self, alloc: Global, message: &[u8], reply: &mut ReplyBuf)
+        ensures turns { Turns self.old (Ask message.now) reply.new (Turned.On self.new) }
         ensures no_fault { reply.new.code ≢ fault_code }
+        ensures same { self.new ≡ self.old }
     {
         answer_query(alloc, &self.store, message, reply);
     }
@@ -164,52 +177,9 @@ impl Bridge {
     /// Gives the report of the chain to the sink: its tip, and each name with all that it was given. All memory is taken
     /// before the first write.
     pub fn report<K: Sink>(&self, alloc: Global, sink: &mut K) -> Result<(), ReportFault>
-        ensures { (run : RunState) → StandsFor self.now run → Reports (reported_of run) (K.seen sink.old) (K.seen sink.new) result }
+        ensures index { Reports (reported_by self.now.index) (K.seen sink.old) (K.seen sink.new) result }
+        ensures runs { (run : RunState) → StandsFor self.now run → Reports (reported_of run) (K.seen sink.old) (K.seen sink.new) result }
     {
         report(alloc, self.store.chain(), sink)
-    }
-
-    /// Deals with one event and writes its one reply.
-    ///
-    /// Of a connect, code 1 answers bytes that are no block, code 2 a block that isn't on the tip, code 4 a block on the
-    /// greatest height, code 3 one whose Merkle root is another one, codes 10 to 28 one with a transaction that breaks a
-    /// rule on names, and code 5 one for whose record the area has no room, in this order. Of a disconnect, code 7 answers
-    /// where no block stands on the base, then code 6 a hash that isn't the newest block's, and then code 5.
-    ///
-    /// Of a message of DNS, code 8 answers one that gets no reply, and code 0 all others: the reply is the payload, SERVFAIL
-    /// for want of memory.
-    ///
-    /// Code FE, want of memory, may stand in the place of a command's codes 0 and 5, and of a connect's codes 3 and 10 to 28. Then
-    /// nothing has changed, and the disk wasn't asked, as with each refusal.
-    ///
-    /// Code FD, a fault of the disk, ends the bridge. A crash at any moment, and such a fault, leave files that stand for
-    /// what was there before the event, or for that with it; behind code 0 they stand for that with it.
-    pub fn turn<D: Disk, L: Ledger>(
-        self,
-        alloc: Global,
-        disk: &mut D,
-        event: Event<'_>,
-        reply: &mut ReplyBuf,
-        steps: &mut Steps<L>,
-    ) -> Turned
-        requires within { IsWithinLimits event }
-        requires on_disk { IsTrue D.tells → IsOn self (D.seen disk.old).moments.now }
-        ensures turns { Turns self (event_of event.entry) reply.new result }
-        ensures told { TellsFault reply.new result }
-        ensures untouched { reply.new.code ≢ 0 → reply.new.code ≢ fault_code → disk.new ≡ disk.old }
-        ensures kept { IsTrue D.tells → (run : RunState) → StandsFor self run
-            → KeepsOn run (event_of event.entry) (D.seen disk.old) (D.seen disk.new) reply.new result }
-        ensures later { NeverFell (D.seen disk.old).faults (D.seen disk.new).faults }
-        ensures fault { IfEnded (Rose (D.seen disk.old).faults (D.seen disk.new).faults) result }
-        ensures cost { IsCheapTurn self (event_of event.entry) reply.new result steps.old steps.new }
-    {
-        match event {
-            Event::Connect(bytes) => self.connect(alloc, disk, bytes, reply, steps),
-            Event::Disconnect(hash) => self.disconnect(alloc, disk, hash, reply, steps),
-            Event::Query(message) => {
-                self.query(alloc, message, reply);
-                Turned::On(self)
-            }
-        }
     }
 }

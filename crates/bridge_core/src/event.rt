@@ -1,22 +1,29 @@
 ghost use Rattle.std.specs.Prelude.{◌≡◌};
 ghost use Rattle.feed_frames.specs.Front as feed;
-ghost use Rattle.chain_commands.specs.Event.{frame_of};
+ghost use Rattle.chain_commands.specs.Event.{frame_of, last_kind};
 ghost use Rattle.frame_loop.specs.Turns.{IsAskable};
-ghost use Rattle.bridge_core.specs.Views.{event_of, IsWithinLimits};
+ghost use Rattle.bridge_core.specs.Views.{event_of, IsReadable};
 
 use feed_frames::Frame;
 use frame_loop::QUERY;
 use nmc_base::Hash32;
 
-/// What a bridge is asked to do: one whole frame.
+/// What changes the chain, where it is accepted.
 #[derive(Clone, Copy, Debug)]
-pub enum Event<'a> {
+pub enum ChainCommand<'a> {
     /// The bytes of a block that is to join the chain, at most 8,388,608.
     Connect(&'a [u8]),
     /// The hash of the newest block, which is to leave the chain.
     Disconnect(Hash32),
+}
+
+/// What a bridge is asked to do: one whole frame.
+#[derive(Clone, Copy, Debug)]
+pub enum Event<'a> {
+    /// A command on the chain.
+    Do(ChainCommand<'a>),
     /// A message of DNS that is to be answered.
-    Query(&'a [u8]),
+    Ask(&'a [u8]),
 }
 
 /// The kind of a connect's frame.
@@ -24,18 +31,18 @@ const CONNECT: u8 = 1;
 
 /// The event of a whole frame.
 pub(crate) fn read_event(frame: Frame<'_>) -> Event<'_>
-    requires { IsAskable (feed.frame_of frame) }
+    requires { IsAskable last_kind (feed.frame_of frame) }
     ensures same { frame_of (event_of result) ≡ feed.frame_of frame.entry }
-    ensures within { IsWithinLimits result }
+    ensures within { IsReadable result }
 {
     if frame.kind == CONNECT {
-        return Event::Connect(frame.payload);
+        return Event::Do(ChainCommand::Connect(frame.payload));
     }
     if frame.kind == QUERY {
-        return Event::Query(frame.payload);
+        return Event::Ask(frame.payload);
     }
     match frame.payload.as_array() {
-        Some(hash) => Event::Disconnect(Hash32(*hash)),
+        Some(hash) => Event::Do(ChainCommand::Disconnect(Hash32(*hash))),
         None => unreachable!(),
     }
 }

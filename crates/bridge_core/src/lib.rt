@@ -18,7 +18,7 @@ mod words;
 
 pub use bridge::{Bridge, Turned};
 pub use command::run;
-pub use event::Event;
+pub use event::{ChainCommand, Event};
 pub use frame_loop::ReplyBuf;
 pub use name_store::OpenFault;
 pub use replaying::replay;

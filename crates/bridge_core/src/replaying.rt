@@ -1,7 +1,7 @@
 ghost use Rattle.std.specs.Prelude.{◌≡◌, ◌<◌, ◌≤◌, ◌^◌};
 ghost use Rattle.frame_loop.specs.Transcript.{streams};
 ghost use Rattle.bridge_core.specs.Outcome.{outside};
-ghost use Rattle.bridge_core.specs.Replaying.{Tells, Replays};
+ghost use Rattle.bridge_core.specs.Replaying.{Replays, status_of_ending};
 
 use crate::bridge::{Bridge, Turned};
 use crate::opening::{let_go, unopened};
@@ -16,7 +16,7 @@ use std::sync::ledger::{Blank, Ledger};
 
 /// The status of a run that ended so.
 fn status_of(ending: Ending) -> Status
-    ensures { Tells result ending }
+    ensures { result ≡ status_of_ending ending }
 {
     match ending {
         Ending::Done => Status::Done,

@@ -1,7 +1,7 @@
 ghost use Rattle.std.specs.Prelude.{◌≡◌, ◌↔◌, List, ℕ, Some, IsTrue, IfSome, codes};
 ghost use Rattle.nmc_base.specs.declared.chain_ends.Base.{Base};
 ghost use Rattle.name_store.specs.Host.{IsHostOf};
-ghost use Rattle.bridge_core.specs.Words.{Asks, AreFields, AreNumbers, IsInitOf, IsServeOf, IsHash};
+ghost use Rattle.bridge_core.specs.Words.{Asks, AreFields, AreNumbers, IsHash};
 
 use crate::numbers::{read_height, read_port, read_turns};
 use domain_text::{Name, absolute_name};
@@ -66,10 +66,10 @@ fn read_host(word: &[u8]) -> Option<Name>
     }
 }
 
-/// The command that makes the files of these texts.
-fn read_fields(height: &[u8], hash: &[u8], host: &[u8]) -> Option<Command>
-    ensures found { IfSome result (λ asked. IsInitOf height.now hash.now host.now asked) }
-    ensures one { (base : Base) (name : List ℕ) → AreFields height.now hash.now host.now base name → result ≡ Some (Command.Init base name) }
+/// The base of these texts, and the name of its host.
+fn read_fields(height: &[u8], hash: &[u8], host: &[u8]) -> Option<(Base, Name)>
+    ensures found { IfSome result (λ made. AreFields height.now hash.now host.now made.0 made.1) }
+    ensures one { (base : Base) (name : List ℕ) → AreFields height.now hash.now host.now base name → result ≡ Some (base, name) }
 {
     let height = read_height(height)?;
     let hash = read_hash(hash)?;
@@ -79,18 +79,18 @@ fn read_fields(height: &[u8], hash: &[u8], host: &[u8]) -> Option<Command>
         height,
         hash,
     };
-    Some(Command::Init(base, host))
+    Some((base, host))
 }
 
-/// The command that serves by these numbers.
-fn read_plan(udp: &[u8], feed: &[u8], turns: &[u8]) -> Option<Command>
-    ensures found { IfSome result (λ asked. IsServeOf udp.now feed.now turns.now asked) }
-    ensures one { (plan : Plan) → AreNumbers udp.now feed.now turns.now plan → result ≡ Some (Command.Serve plan) }
+/// The plan of these numbers.
+fn read_plan(udp: &[u8], feed: &[u8], turns: &[u8]) -> Option<Plan>
+    ensures found { IfSome result (AreNumbers udp.now feed.now turns.now) }
+    ensures one { (plan : Plan) → AreNumbers udp.now feed.now turns.now plan → result ≡ Some plan }
 {
     let udp = read_port(udp)?;
     let feed = read_port(feed)?;
     let turns = read_turns(turns)?;
-    Some(Command::Serve(Plan { udp, feed, turns }))
+    Some(Plan { udp, feed, turns })
 }
 
 fn is_replay(word: &[u8]) -> bool
@@ -132,11 +132,13 @@ pub(crate) fn read_words(words: &Words) -> Option<Command>
         [word] if is_replay(word.as_slice()) => Some(Command::Replay),
         [word] if is_dump(word.as_slice()) => Some(Command::Dump),
         [form, udp, feed, turns] if is_serve(form.as_slice()) => {
-            read_plan(udp.as_slice(), feed.as_slice(), turns.as_slice())
+            let plan = read_plan(udp.as_slice(), feed.as_slice(), turns.as_slice())?;
+            Some(Command::Serve(plan))
         }
         [form, profile, height, hash, host]
             if is_init(form.as_slice()) && is_regtest(profile.as_slice()) => {
-            read_fields(height.as_slice(), hash.as_slice(), host.as_slice())
+            let (base, name) = read_fields(height.as_slice(), hash.as_slice(), host.as_slice())?;
+            Some(Command::Init(base, name))
         }
         _ => None,
     }

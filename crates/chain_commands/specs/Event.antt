@@ -14,6 +14,10 @@ pub data Event : Type 0 where
   -- a message of DNS that is to be answered
   Ask : List ℕ → Event
 
+-- the kinds of frames that are events are those up to this number
+abbrev pub last_kind : ℕ
+last_kind = 3
+
 -- each kind of frame is one kind of event
 abbrev pub frame_of : Event → Frame
 frame_of (Do (Connect block)) = record { kind = 1; payload = block }

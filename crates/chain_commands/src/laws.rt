@@ -2,14 +2,14 @@
 
 ghost use Rattle.std.specs.Prelude.{◌≡◌, List, ℕ};
 ghost use Rattle.feed_frames.specs.Frames.{Frame, IsFramed};
-ghost use Rattle.chain_commands.specs.Event.{Connect, Disconnect, Event, frame_of};
+ghost use Rattle.chain_commands.specs.Event.{Connect, Disconnect, Event, frame_of, last_kind};
 ghost use Rattle.chain_commands.specs.RunState.{RunState, chain_of, IsFull};
 ghost use Rattle.chain_commands.specs.Connecting.{Refusal, Refuses};
 ghost use Rattle.chain_commands.specs.Disconnecting.{BackRefusal, RefusesBack};
 
 /// Each whole frame is one event.
 pub fn one_event()
-    ensures some { (frame : Frame) → IsFramed frame → (event : Event) × (frame_of event ≡ frame) }
+    ensures some { (frame : Frame) → IsFramed last_kind frame → (event : Event) × (frame_of event ≡ frame) }
     ensures one { (event other : Event) → frame_of event ≡ frame_of other → event ≡ other }
 {}
 

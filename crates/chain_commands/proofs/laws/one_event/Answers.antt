@@ -1,13 +1,13 @@
 use Rattle.std.proofs.Common.{◌≡◌, refl, ap, arith, inl, inr}
 use Rattle.feed_frames.specs.Frames.{Frame, IsFramed}
-use Rattle.chain_commands.specs.Event.{Event, Connect, Disconnect, Do, Ask, frame_of}
+use Rattle.chain_commands.specs.Event.{Event, Connect, Disconnect, Do, Ask, frame_of, last_kind}
 use Rattle.chain_commands.proofs.laws.one_event.Goals as goal
 
-some_event : (frame : Frame) → IsFramed frame → (event : Event) × (frame_of event ≡ frame)
-some_event frame (inl h) = (Do (Connect frame.payload), rw h.of_kind refl)
-some_event frame (inr (inl h)) = (Do (Disconnect frame.payload), rw h.of_kind refl)
-some_event frame (inr (inr (inl h))) = (Ask frame.payload, rw h.of_kind refl)
-some_event frame (inr (inr (inr h))) = absurd h
+some_event : (frame : Frame) → IsFramed last_kind frame → (event : Event) × (frame_of event ≡ frame)
+some_event frame (low, inl h) = (Do (Connect frame.payload), rw h.of_kind refl)
+some_event frame (low, inr (inl h)) = (Do (Disconnect frame.payload), rw h.of_kind refl)
+some_event frame (low, inr (inr (inl h))) = (Ask frame.payload, rw h.of_kind refl)
+some_event frame (low, inr (inr (inr h))) = absurd h
 
 payload_of : (a b : Frame) → a ≡ b → a.payload ≡ b.payload
 payload_of a b e = ap (λ (f : Frame). f.payload) e
