@@ -5,13 +5,15 @@ use Rattle.chain_state.specs.Chain.{Indexed, SameIndex}
 use Rattle.chain_state.specs.StageBack.{IsStagedBackOn, IsBackRefusal, IsDisconnected}
 use Rattle.chain_state.specs.declared.back.BackRefusal.{BackRefusal}
 use Rattle.chain_state.specs.declared.back.BackRefusal.TheVariants.{AtBase, NotTip, JournalFull}
+use Rattle.chain_state.specs.declared.back.BackOutcome.TheVariants.{StagedBack}
 use Rattle.chain_state.specs.Standing.{StandsForChain}
 use Rattle.chain_state.specs.Refusals.{RefusesDisconnect, MayDisconnect}
 use Rattle.chain_commands.specs.Chain.{Chain}
-use Rattle.chain_commands.specs.Disconnecting.{RefusesBack}
+use Rattle.chain_commands.specs.Event.{Disconnect}
+use Rattle.chain_commands.specs.Disconnecting.{RefusesBack, disconnects as disconnect_refusals}
 use Rattle.name_store.specs.Standing.{StandsFor}
 use Rattle.name_store.specs.Views.{back_refusal_of}
-use Rattle.name_store.specs.StagesBack.{IsFullBack, IsStagedBackFor, IsRefusedBackFor, LacksMemoryBackFor}
+use Rattle.name_store.specs.Stages.{IsFullWith, HoldsBackIn, IsRefusedFor, LacksMemoryFor, StagesBackFor}
 use Rattle.name_store.proofs.ChainTips.{chain_tip}
 use Rattle.chain_commands.proofs.DisconnectRefusals.{IsOwnTip, at_base_refused, not_tip_refused, memory_taken, full_refused, is_valid_back}
 use Rattle.chain_state.proofs.StandingLemmas.{same_stands, same_after, disconnects}
@@ -28,7 +30,10 @@ pub record StagingBack : Type 0 where
 
 module _ (g : StagingBack) where
   abbrev IsFull : Type 0
-  IsFull = IsFullBack g.area g.most g.hash.0
+  IsFull = IsFullWith g.area g.most (Disconnect g.hash.0)
+
+  abbrev IsRefusedBy : BackRefusal → Indexed → Type 0
+  IsRefusedBy refusal same = IsRefusedFor disconnect_refusals (HoldsBackIn g.area g.most g.chain g.hash.0) g.chain (back_refusal_of refusal) same
 
   refuses : (refusal : BackRefusal) → RefusesDisconnect g.chain.base g.chain.blocks g.hash refusal → RefusesBack IsFull g.chain g.hash.0 (back_refusal_of refusal)
   refuses AtBase h = at_base_refused IsFull g.chain g.hash.0 h
@@ -42,13 +47,13 @@ module _ (g : StagingBack) where
   stays : (same : Indexed) → SameIndex same g.index → StandsFor same g.chain
   stays same alike = same_stands g.chain.base g.chain.start g.chain.blocks g.index same g.stands alike
 
-  pub refused : (same : Indexed) (refusal : BackRefusal) → SameIndex same g.index → IsBackRefusal g.index g.hash refusal → IsRefusedBackFor g.area g.most g.chain g.hash.0 refusal same
+  pub refused : (same : Indexed) (refusal : BackRefusal) → SameIndex same g.index → IsBackRefusal g.index g.hash refusal → IsRefusedBy refusal same
   refused same refusal alike h = record {
     refuses = refuses refusal (back_by_chain g.chain.base g.chain.start g.chain.blocks g.index g.stands g.hash refusal h);
     stands = stays same alike;
   }
 
-  pub lacking : (same : Indexed) → SameIndex same g.index → MayDisconnect g.chain.base g.chain.blocks g.hash → LacksMemoryBackFor g.area g.most g.chain g.hash.0 same
+  pub lacking : (same : Indexed) → SameIndex same g.index → MayDisconnect g.chain.base g.chain.blocks g.hash → LacksMemoryFor disconnect_refusals (HoldsBackIn g.area g.most g.chain g.hash.0) g.chain same
   lacking same alike may = record {
     takes_memory = memory_taken IsFull g.chain g.hash.0 (own_tip may);
     stands = stays same alike;
@@ -66,14 +71,14 @@ module _ (g : StagingBack) where
     abandoned : (same : Indexed) → SameIndex same staged → StandsFor same g.chain
     abandoned same alike = stays same (same_after same staged g.index alike on.same)
 
-    pub staged_for : (IsFull → ⊥) → IsStagedBackFor g.area g.most g.chain g.hash.0 staged
+    pub staged_for : (IsFull → ⊥) → StagesBackFor g.area g.most g.chain g.hash.0 (StagedBack staged)
     staged_for fits = record {
       valid = is_valid_back IsFull g.chain g.hash.0 (own_tip may) fits;
       commits = stands_below g.chain.blocks may.some g.stands;
       abandons = abandoned;
     }
 
-    pub full_for : (same : Indexed) → SameIndex same staged → IsFull → IsRefusedBackFor g.area g.most g.chain g.hash.0 JournalFull same
+    pub full_for : (same : Indexed) → SameIndex same staged → IsFull → IsRefusedBy JournalFull same
     full_for same alike full = record {
       refuses = full_refused IsFull g.chain g.hash.0 (own_tip may) full;
       stands = abandoned same alike;

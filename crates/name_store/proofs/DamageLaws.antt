@@ -183,3 +183,14 @@ one_first files file at other place (damage.command is has none bad) (damage.fie
 one_first files file at other place (damage.command is has none bad) (damage.selection also begun_ fields_ at_is_ not_) = absurd (no_bad_gate (files 0) place has at_is_ not_)
 one_first files file at other place (damage.command is has none bad) (damage.image also has_ at_is_ not_) = absurd (not_ none)
 one_first files file at other place (damage.command is has none bad) (damage.command also has_ none_ bad_) = (is ∙ sym also, one_record (on_base (base_at (files 0)) []) longest_area (files 1) at place bad bad_)
+
+-- ---- files that read alike
+
+-- damage is that of the first two files alone
+pub damage_moved : (old new : Bytes) (file at : ℕ) → new 0 ≡ old 0 → new 1 ≡ old 1 → IsDamaged old file at → IsDamaged new file at
+damage_moved old new file at header area (damage.field is begun bad) = damage.field is (subst IsInitialised (sym header) begun) (subst (λ (l : List ℕ). HasBadField l at) (sym header) bad)
+damage_moved old new file at header area (damage.selection is begun fields at_is not) = damage.selection is (subst IsInitialised (sym header) begun) (subst HasFields (sym header) fields)
+    (at_is ∙ ap selections_at (sym header)) (λ shut. not (subst (λ (l : List ℕ). IsShut l at) header shut))
+damage_moved old new file at header area (damage.image is has at_is not) = damage.image is (subst HasHeader (sym header) has) at_is (λ none. not (subst HasNoImage area none))
+damage_moved old new file at header area (damage.command is has none bad) = damage.command is (subst HasHeader (sym header) has) (subst HasNoImage (sym area) none)
+    (subst (λ (l : List ℕ). HasBadRecord (on_base (base_at (new 0)) []) longest_area l at) (sym area) (subst (λ (l : List ℕ). HasBadRecord (on_base (base_at l) []) longest_area (old 1) at) (sym header) bad))

@@ -1,42 +1,34 @@
 -- What opening answers of files that stand for a run state.
-use Rattle.std.proofs.Common.{◌≡◌, inl, inr, Err, sym, subst}
+use Rattle.std.proofs.Common.{◌≡◌, ◌<◌, ℕ, Ok, Err, subst, arith}
 use Rattle.std.specs.Prelude.{Result}
 use Rattle.disk_model.specs.Moments.{Files}
 use Rattle.chain_commands.specs.RunState.{RunState}
 use Rattle.name_store.specs.declared.faults.OpenFault.{OpenFault}
 use Rattle.name_store.specs.declared.faults.OpenFault.TheVariants as faults
-use Rattle.name_store.specs.Damage as damage
+use Rattle.name_store.specs.Header.{IsInitialised}
 use Rattle.name_store.specs.Opening.{IsOpened, OpenAnswer, OpensFor}
-use Rattle.name_store.specs.Reading.{HeaderAnswer}
 use Rattle.name_store.specs.Stands.{Bytes, Stands}
 use Rattle.name_store.specs.Stored.{Stored, StandsFor}
+use Rattle.name_store.proofs.OpenLemmas.{HasOpened}
 use Rattle.name_store.proofs.RunLemmas.{same_run, standing_header}
-use Rattle.name_store.proofs.DamageLaws.{standing_undamaged}
+use Rattle.name_store.proofs.DamageLaws.{standing_undamaged, damage_moved}
 
--- the fault is no answer of the bytes of such files
-fault_for : (old : Bytes) (new : Files) (fault : OpenFault) (run : RunState) → OpenAnswer old new (Err fault) → Stands old run → OpensFor run (Err fault)
-fault_for old new faults.Uninitialised run not stands = not (standing_header old run stands).initialised
-fault_for old new (faults.Damaged file at) run damaged stands = standing_undamaged old run file at stands damaged
-fault_for old new faults.DiskFault run is stands = tt
-fault_for old new faults.NoMemory run is stands = tt
+-- a fault of the files is no answer of such files
+pub opens_for : (old : Bytes) (new : Files) (result : Result Stored OpenFault) → OpenAnswer old new result → (run : RunState) → Stands old run → OpensFor run result
+opens_for old new (Ok store) opened run stands = opened.follows run stands
+opens_for old new (Err faults.Uninitialised) not run stands = not (standing_header old run stands).initialised
+opens_for old new (Err (faults.Damaged file at)) damaged run stands = standing_undamaged old run file at stands damaged
+opens_for old new (Err faults.DiskFault) is run stands = tt
+opens_for old new (Err faults.NoMemory) is run stands = tt
 
-pub fails_for : (old : Bytes) (new : Files) (result : Result Stored OpenFault) (fault : OpenFault) (run : RunState) → result ≡ Err fault → OpenAnswer old new result → Stands old run → OpensFor run result
-fails_for old new result fault run is answer stands = subst (OpensFor run) (sym is) (fault_for old new fault run (subst (OpenAnswer old new) is answer) stands)
-
--- nor is one of the header
-header_for : (old : Bytes) (fault : OpenFault) (run : RunState) → HeaderAnswer (old 0) (Err fault) → Stands old run → OpensFor run (Err fault)
-header_for old faults.Uninitialised run not stands = not (standing_header old run stands).initialised
-header_for old (faults.Damaged file at) run is stands = elim is.2 [
-  | inl bad ↦ standing_undamaged old run file at stands (damage.field is.0 is.1 bad)
-  | inr gate ↦ standing_undamaged old run file at stands (damage.selection is.0 is.1 gate.fields gate.at_is gate.not_shut)
-]
-header_for old faults.DiskFault run is stands = tt
-header_for old faults.NoMemory run is stands = tt
-
-pub header_fails_for : (old : Bytes) (result : Result Stored OpenFault) (fault : OpenFault) (run : RunState) → result ≡ Err fault → HeaderAnswer (old 0) (Err fault) → Stands old run → OpensFor run result
-header_fails_for old result fault run is answer stands = subst (OpensFor run) (sym is) (header_for old fault run answer stands)
-
--- the store of files with the same bytes stands for it
-pub opens_for : (old : Bytes) (new : Files) (store : Stored) (run : RunState) → IsOpened store new → (new 0).bytes ≡ old 0 → (new 1).bytes ≡ old 1 → Stands old run → StandsFor store run
-opens_for old new store run opened header area stands =
-    subst (StandsFor store) (same_run (λ file. (new file).bytes) old opened.run run header area opened.stands stands) opened.follows
+-- A store that was opened over files that read alike: they were neither uninitialised nor damaged, and it stands for each run state
+-- that they stood for.
+pub opened_from : (old : Bytes) (new : Files) (store : Stored) → HasOpened store new → ((file : ℕ) → file < 3 → (new file).bytes ≡ old file) → IsOpened old new store
+opened_from old new store opened alike =
+    let bytes : Bytes = λ file. (new file).bytes in
+    record {
+      on_disk = opened.on_disk;
+      initialised = subst IsInitialised (alike 0 (omega arith)) (standing_header bytes opened.run opened.stands).initialised;
+      undamaged = λ file at damaged. standing_undamaged bytes opened.run file at opened.stands (damage_moved old bytes file at (alike 0 (omega arith)) (alike 1 (omega arith)) damaged);
+      follows = λ run stands. subst (StandsFor store) (same_run bytes old opened.run run (alike 0 (omega arith)) (alike 1 (omega arith)) opened.stands stands) opened.follows;
+    }

@@ -9,8 +9,7 @@ pub mod OpenLemmas
 pub mod KeepLemmas
 pub mod StateLemmas
 pub mod StoreLemmas
-pub mod ConnectLemmas
-pub mod DisconnectLemmas
+pub mod OutcomeLemmas
 pub mod StepLemmas
 pub mod MakingLemmas
 pub mod SpellingLemmas

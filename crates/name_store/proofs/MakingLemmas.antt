@@ -4,7 +4,7 @@ use Rattle.std.specs.Prelude.{IsTrue, slice_index}
 use Rattle.nmc_base.specs.declared.chain_ends.Base.{Base}
 use Rattle.disk_model.specs.FileState.{FileState, IsFileImage, IsSettled, put}
 use Rattle.disk_model.specs.Moments.{Files, Moments, EachMoment, IsImage}
-use Rattle.disk_model.specs.Changes.{Changes, Unchanged}
+use Rattle.disk_model.specs.Changes.{Changes, Unchanged, LeavesOthers}
 use Rattle.disk_model.proofs.MomentLemmas.{weaken, join, last_moment}
 use Rattle.disk_model.proofs.ImageLemmas.{IsSettled-image}
 use Rattle.gate_journal.specs.Writes.{KeepsBelow, HoldsGate, IsOpenedOrClosed}
@@ -16,7 +16,7 @@ use Rattle.chain_commands.specs.RunState.{RunState}
 use Rattle.name_store.specs.Header.{IsBegun, header_fields, header_text}
 use Rattle.name_store.specs.Stands.{Bytes, IsRunState, Stands, EachStands, begun_on}
 use Rattle.name_store.specs.Making.{IsEmpty, EachIsBegun}
-use Rattle.name_store.specs.MakingSteps.{HasSettled, LeavesOthers, IsShort, empty_area, closed_header}
+use Rattle.name_store.specs.MakingSteps.{HasSettled, IsShort, empty_area, closed_header}
 
 -- a header's file of at most one byte is uninitialised, whatever a crash leaves of it
 short_begun : (run : RunState) (files : Files) → (files 0).greatest ≤ 1 → EachIsBegun run files

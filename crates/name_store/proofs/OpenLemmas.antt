@@ -1,15 +1,14 @@
 -- What an opened store stands for.
-use Rattle.std.proofs.Common.{◌≡◌, ◌≢◌, ◌⊎◌, inl, inr, ℕ, suc, ◌+◌, ◌-◌, ◌<◌, ◌≤◌, ◌^◌, Bool, true, List, [], ◌∷◌, ◌++◌, length, take, drop, get_or, refl, sym, ◌∙◌, ap, subst, arith, length-take, length-drop, append_assoc}
+use Rattle.std.proofs.Common.{◌≡◌, ◌≢◌, ◌⊎◌, inl, inr, ℕ, zero, suc, ◌+◌, ◌-◌, ◌<◌, ◌≤◌, ◌^◌, Bool, true, List, [], ◌∷◌, ◌++◌, length, take, drop, get_or, refl, sym, ◌∙◌, ap, subst, arith, length-take, length-drop, append_assoc}
 use Rattle.std.specs.Prelude.{IsTrue, slice_index, All}
 use Rattle.std.specs.Int.{w32, to_le_bytes}
 use Rattle.std.proofs.Math.Seq.{drop-cons, take-add}
 use Rattle.std.proofs.lemmas.List.{append-nil}
-use Rattle.std.proofs.lemmas.Bool.{cases_eq}
 use Rattle.nmc_base.specs.declared.chain_ends.Base.{Base}
-use Rattle.disk_model.specs.FileState.{FileState, IsFileImage, IsSettled}
-use Rattle.disk_model.specs.Moments.{Files, Moments, IsImage, EachMoment}
-use Rattle.disk_model.specs.Changes.{Changes, AfterSync, Unchanged}
-use Rattle.disk_model.proofs.MomentLemmas.{weaken, join, last_moment}
+use Rattle.disk_model.specs.FileState.{FileState, IsSettled}
+use Rattle.disk_model.specs.Moments.{Files}
+use Rattle.disk_model.specs.Changes.{Changes, AfterSync}
+use Rattle.disk_model.specs.DiskSeen.{DiskSeen, file_in, bytes_in}
 use Rattle.chain_state.specs.Chain.{Indexed}
 use Rattle.name_store.specs.Standing as chains
 use Rattle.gate_journal.specs.Gate.{ClosedAfter, IsClosed}
@@ -18,7 +17,7 @@ use Rattle.gate_journal.proofs.RecordLemmas.{pushed_fit}
 use Rattle.chain_commands.specs.Chain.{Chain}
 use Rattle.chain_commands.specs.Event.{Command, Connect, Disconnect}
 use Rattle.chain_commands.specs.RunState.{RunState, on_base, after_commands, longest_area}
-use Rattle.name_store.specs.Opening.{AddsNoImage, IsOpened, OpenAnswer}
+use Rattle.name_store.specs.Opening.{IsSynced, OpenAnswer}
 use Rattle.name_store.specs.declared.faults.OpenFault.{OpenFault}
 use Rattle.name_store.specs.declared.faults.OpenFault.TheVariants as faults
 use Rattle.name_store.specs.Damage as damage
@@ -34,29 +33,34 @@ use Rattle.name_store.proofs.ReadingLemmas.{area_size}
 
 -- ---- syncs
 
-after_sync : (old new : FileState) (image : List ℕ) → AfterSync old new → IsFileImage new image → IsFileImage old image
-after_sync old new image s is = record {
-  no_shorter = omega (arith, s.no_shorter, is.no_shorter);
-  no_longer = omega (arith, s.no_longer, is.no_longer);
-  inside = λ p set. is.inside p (s.kept p set).settled;
-  kept = λ p set. is.kept p (s.kept p set).settled ∙ (s.kept p set).same;
+-- one file was synced
+pub record WasSynced (file : ℕ) (old new : DiskSeen) : Type 0 where
+  pub done : Changes file AfterSync old.moments.now new.moments.now
+  pub settled : IsSettled (file_in new file)
+  pub same : bytes_in new file ≡ bytes_in old file
+
+-- each of the three was
+pub all_synced : (d0 d1 d2 d3 : DiskSeen) → WasSynced 0 d0 d1 → WasSynced 1 d1 d2 → WasSynced 2 d2 d3 → IsSynced d0 d3
+all_synced d0 d1 d2 d3 first second third = record { settled = λ file low. settled file low; alike = λ file low. alike file low }
+  where
+    settled : (file : ℕ) → file < 3 → IsSettled (file_in d3 file)
+    settled zero low = subst IsSettled (sym (third.done.others 0 (λ e. omega (arith, e)) ∙ second.done.others 0 (λ e. omega (arith, e)))) first.settled
+    settled (suc zero) low = subst IsSettled (sym (third.done.others 1 (λ e. omega (arith, e)))) second.settled
+    settled (suc (suc zero)) low = third.settled
+    settled (suc (suc (suc n))) low = absurd (omega (arith, low))
+
+    alike : (file : ℕ) → file < 3 → bytes_in d3 file ≡ bytes_in d0 file
+    alike zero low = ap (λ (s : FileState). s.bytes) (third.done.others 0 (λ e. omega (arith, e)) ∙ second.done.others 0 (λ e. omega (arith, e))) ∙ first.same
+    alike (suc zero) low = ap (λ (s : FileState). s.bytes) (third.done.others 1 (λ e. omega (arith, e))) ∙ second.same ∙ ap (λ (s : FileState). s.bytes) (first.done.others 1 (λ e. omega (arith, e)))
+    alike (suc (suc zero)) low = third.same ∙ ap (λ (s : FileState). s.bytes) (second.done.others 2 (λ e. omega (arith, e)) ∙ first.done.others 2 (λ e. omega (arith, e)))
+    alike (suc (suc (suc n))) low = absurd (omega (arith, low))
+
+-- the files are those of a disk that was synced
+pub still_synced : (old mid new : DiskSeen) → IsSynced old mid → new.moments.now ≡ mid.moments.now → IsSynced old new
+still_synced old mid new synced same = record {
+  settled = λ file low. subst (λ (files : Files). IsSettled (files file)) (sym same) (synced.settled file low);
+  alike = λ file low. ap (λ (files : Files). (files file).bytes) same ∙ synced.alike file low;
 }
-
--- a sync adds no image
-pub sync_adds : (file : ℕ) (old new : Files) → Changes file AfterSync old new → AddsNoImage old new
-sync_adds file old new ch image is k low = elim (cases_eq k file) [
-  | inl same ↦ after_sync (old k) (new k) (image k) (subst (λ (f : ℕ). AfterSync (old f) (new f)) (sym same) ch.here) (is k low)
-  | inr other ↦ subst (λ (s : FileState). IsFileImage s (image k)) (ch.others k other) (is k low)
-]
-
-pub synced : (file : ℕ) {old new : Moments} → EachMoment (Changes file AfterSync old.now) old new → EachMoment (AddsNoImage old.now) old new
-synced file {old} each = weaken (AddsNoImage old.now) (λ files ch. sync_adds file old.now files ch) each
-
-pub unchanged_adds : {old new : Moments} → EachMoment (Unchanged old.now) old new → EachMoment (AddsNoImage old.now) old new
-unchanged_adds {old} each = weaken (AddsNoImage old.now) (λ files same image is. subst (λ (f : Files). IsImage f image) same is) each
-
-pub adds_then : {old mid new : Moments} → EachMoment (AddsNoImage old.now) old mid → EachMoment (AddsNoImage mid.now) mid new → EachMoment (AddsNoImage old.now) old new
-adds_then {old} first second = join first (weaken (AddsNoImage old.now) (λ files so image is. last_moment first image (so image is)) second)
 
 -- ---- the header of a file as its text
 
@@ -141,10 +145,17 @@ base_kept first (Disconnect hash ∷ commands) = base_kept first commands
 
 -- ---- a store on its disk
 
+-- The store is on the disk, which stands for a run state, and the store stands for it too.
+pub record HasOpened (store : Stored) (files : Files) : Type 0 where
+  pub run : RunState
+  pub stands : Stands (λ file. (files file).bytes) run
+  pub follows : StandsFor store run
+  pub on_disk : IsOn store files
+
 -- The store of what was followed, over files that tell it: they were synced, and stand for the run state.
 pub opened : (tells : Bool) → IsTrue tells → (file : Files) (name : List ℕ) (index : Indexed) (reached : ℕ) → HasHeader (file 0).bytes → to_le_bytes w32 (height_at (file 0).bytes) ≡ take 4 (drop 10 (file 0).bytes)
     → IsHostOf (host_at (file 0).bytes) name → HasFollowedAll tells (on_base (base_at (file 0).bytes) []) (file 1).bytes index reached → reached ≤ longest_area → IsSettled (file 0) → IsSettled (file 1)
-    → IsOpened (record { index = index; host = name; area = reached }) file
+    → HasOpened (record { index = index; host = name; area = reached }) file
 opened tells told file name index reached has height_is host_is all within settled_header settled_area =
     let header = (file 0).bytes in
     let base = base_at header in

@@ -5,7 +5,7 @@ use Rattle.std.proofs.Common.{rules}
 use Rattle.std.proofs.lemmas.List.{get_or-take, get_or_at}
 use Rattle.disk_model.specs.Moments.{Files, EachMoment}
 use Rattle.disk_model.specs.Changes.{Unchanged}
-use Rattle.disk_model.specs.DiskSeen.{DiskSeen, bytes_in}
+use Rattle.disk_model.specs.DiskSeen.{DiskSeen, HasFailed, bytes_in}
 use Rattle.disk_model.proofs.MomentLemmas.{last_moment}
 use Rattle.name_store.specs.declared.faults.OpenFault.{OpenFault}
 use Rattle.name_store.specs.declared.faults.OpenFault.TheVariants as faults
@@ -197,6 +197,10 @@ never_fell first second = record { count = omega (arith, first.count, second.cou
 pub rose_since : {old mid new : Faults} → NeverFell old mid → Rose mid new → Rose old new
 rose_since first (inl more) = inl (omega (arith, first.count, more))
 rose_since first (inr last) = inr last
+
+-- so the last call failed
+pub failed_since : {old mid new : DiskSeen} → NeverFell old.faults mid.faults → HasFailed mid new → HasFailed old new
+failed_since first failed = record { last = failed.last; rose = rose_since first failed.rose }
 
 -- a fault of the disk, whatever stands at Ok
 pub same_fault : {T U : Type 0} (fault : OpenFault) → IsErrOf {T = T} (Err fault) faults.DiskFault → IsErrOf {T = U} (Err fault) faults.DiskFault

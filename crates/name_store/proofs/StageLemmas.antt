@@ -13,10 +13,11 @@ use Rattle.chain_state.specs.declared.stage.StageOutcome.TheVariants.{Staged, Re
 use Rattle.chain_state.specs.Standing.{hash_of, IsValidOn}
 use Rattle.chain_state.specs.Refusals.{RefusesConnect}
 use Rattle.chain_commands.specs.Chain.{Chain}
-use Rattle.chain_commands.specs.Connecting.{IsValid, Refuses}
+use Rattle.chain_commands.specs.Event.{Connect}
+use Rattle.chain_commands.specs.Connecting.{IsValid, Refuses, connects as connect_refusals}
 use Rattle.name_store.specs.Standing.{StandsFor}
 use Rattle.name_store.specs.Views.{refusal_of}
-use Rattle.name_store.specs.Stages.{IsFullFor, IsStagedFor, IsRefusedFor, LacksMemoryFor, StagesFor}
+use Rattle.name_store.specs.Stages.{IsFullWith, HoldsIn, IsRefusedFor, LacksMemoryFor, StagesFor}
 use Rattle.name_store.specs.GivenUp.{GivesUp}
 use Rattle.name_store.proofs.ChainTips.{chain_tip, index_tip, rule_of_bytes}
 use Rattle.chain_commands.proofs.ConnectRefusals.{IsOnTip, IsUnbroken, no_block_refused, off_tip_refused, too_high, memory_taken, root_refused, rule_broken, full_refused, is_valid}
@@ -40,7 +41,10 @@ pub record HasBlock (g : Staging) : Type 0 where
 
 module _ (g : Staging) where
   abbrev IsFull : Type 0
-  IsFull = IsFullFor g.area g.most g.bytes
+  IsFull = IsFullWith g.area g.most (Connect g.bytes)
+
+  abbrev IsRefusedBy : Refusal → Indexed → Type 0
+  IsRefusedBy refusal same = IsRefusedFor connect_refusals (HoldsIn g.area g.most g.chain g.bytes) g.chain (refusal_of refusal) same
 
   -- ---- a valid block
 
@@ -59,7 +63,7 @@ module _ (g : Staging) where
 
   -- ---- bytes that are no block
 
-  pub no_block : (place : ℕ) → IsFaultPlace g.bytes place → IsRefusedFor g.area g.most g.chain g.bytes (BadBlock place) g.index
+  pub no_block : (place : ℕ) → IsFaultPlace g.bytes place → IsRefusedBy (BadBlock place) g.index
   no_block place h = record { refuses = no_block_refused IsFull g.chain g.bytes place h; stands = g.stands }
 
   module _ (k : HasBlock g) where
@@ -79,13 +83,13 @@ module _ (g : Staging) where
     stays : (same : Indexed) → SameIndex same g.index → StandsFor same g.chain
     stays same alike = same_stands g.chain.base g.chain.start g.chain.blocks g.index same g.stands alike
 
-    pub refused : (same : Indexed) (refusal : Refusal) → SameIndex same g.index → IsRefusal g.index k.block refusal → IsRefusedFor g.area g.most g.chain g.bytes refusal same
+    pub refused : (same : Indexed) (refusal : Refusal) → SameIndex same g.index → IsRefusal g.index k.block refusal → IsRefusedBy refusal same
     refused same refusal alike h = record {
       refuses = refuses refusal (refuses_by_chain g.chain.base g.chain.start g.chain.blocks g.index g.stands g.bytes k.block k.is_block refusal h);
       stands = stays same alike;
     }
 
-    pub lacking : (same : Indexed) → SameIndex same g.index → k.block.header.fields.previous ≡ g.index.tip.hash.0 → g.index.tip.height < highest → LacksMemoryFor g.area g.most g.chain g.bytes same
+    pub lacking : (same : Indexed) → SameIndex same g.index → k.block.header.fields.previous ≡ g.index.tip.hash.0 → g.index.tip.height < highest → LacksMemoryFor connect_refusals (HoldsIn g.area g.most g.chain g.bytes) g.chain same
     lacking same alike on low = record {
       takes_memory = memory_taken IsFull g.chain g.bytes k.block
           (record { there = record { is_block = k.is_block; on_tip = on ∙ index_tip g.index g.chain g.stands }; low = omega (arith, low, g.stands.height) });
@@ -100,14 +104,14 @@ module _ (g : Staging) where
       abandoned_stands same abandoned =
           stays same (abandoned_same g.index same k.block staged (own_queue g.chain.base g.chain.start g.chain.blocks g.index g.stands) on abandoned)
 
-      pub staged_for : (IsFull → ⊥) → IsStagedFor g.area g.most g.chain g.bytes staged
+      pub staged_for : (IsFull → ⊥) → StagesFor g.area g.most g.chain g.bytes (Staged staged)
       staged_for fits = record {
         valid = valid_staged valid_on fits;
         commits = λ new connected. connects g.chain.base g.chain.start g.chain.blocks g.index g.stands g.bytes k.block k.is_block staged on k.short new connected;
         abandons = abandoned_stands;
       }
 
-      pub full_for : (same : Indexed) → IsAbandoned staged same → IsFull → IsRefusedFor g.area g.most g.chain g.bytes JournalFull same
+      pub full_for : (same : Indexed) → IsAbandoned staged same → IsFull → IsRefusedBy JournalFull same
       full_for same abandoned full = record {
         refuses = full_journal valid_on full;
         stands = abandoned_stands same abandoned;

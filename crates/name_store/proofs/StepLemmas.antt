@@ -1,14 +1,14 @@
 -- The steps of making the files.
-use Rattle.std.proofs.Common.{◌≡◌, ℕ, ◌+◌, List, [], ◌∷◌, ◌++◌, length, ◌∙◌, ap, arith}
+use Rattle.std.proofs.Common.{◌≡◌, ℕ, ◌+◌, ◌<◌, List, [], ◌∷◌, ◌++◌, length, ◌∙◌, ap, arith}
 use Rattle.std.specs.Prelude.{Result, Ok, Err, OnOk}
 use Rattle.std.proofs.lemmas.List.{append-nil, drop_all}
 use Rattle.disk_model.specs.FileState.{FileState, IsSettled, put}
 use Rattle.disk_model.specs.Moments.{Files, Moments, EachMoment}
-use Rattle.disk_model.specs.Changes.{Changes, AfterWrite, AfterCut, AfterSync}
+use Rattle.disk_model.specs.Changes.{Changes, AfterWrite, AfterCut, AfterSync, LeavesOthers, LeavesFrom, Unchanged}
 use Rattle.disk_model.proofs.MomentLemmas.{weaken, join, last_moment}
 use Rattle.gate_journal.specs.Writes.{KeepsBelow}
 use Rattle.gate_journal.proofs.WriteLemmas.{changes_then, KeepsBelow-sync}
-use Rattle.name_store.specs.MakingSteps.{HasSettled, LeavesOthers, IsShort}
+use Rattle.name_store.specs.MakingSteps.{HasSettled, IsShort}
 
 -- ---- what a call leaves of the other files
 
@@ -18,6 +18,15 @@ module _ (file : ℕ) (change : FileState → FileState → Type 0) (old m1 : Mo
 
   pub leaves_more : (m2 : Moments) → EachMoment (LeavesOthers file old.now) old m1 → EachMoment (Changes file change m1.now) m1 m2 → EachMoment (LeavesOthers file old.now) old m2
   leaves_more m2 so_far did = join so_far (weaken (LeavesOthers file old.now) (λ files so. λ other differ. so.others other differ ∙ last_moment so_far other differ) did)
+
+-- ---- what calls to the first two files leave of the third
+
+pub from_unchanged : {old new : Moments} → EachMoment (Unchanged old.now) old new → EachMoment (LeavesFrom 2 old.now) old new
+from_unchanged {old} did = weaken (LeavesFrom 2 old.now) (λ files same. λ k high. ap (λ (f : Files). f k) same) did
+
+pub from_then : {P : Files → Type 0} {old mid new : Moments} (file : ℕ) → file < 2 → ((files : Files) → P files → LeavesOthers file mid.now files)
+    → EachMoment (LeavesFrom 2 old.now) old mid → EachMoment P mid new → EachMoment (LeavesFrom 2 old.now) old new
+from_then {old} file low others so_far did = join so_far (weaken (LeavesFrom 2 old.now) (λ files so. λ k high. others files so k (λ e. omega (arith, e, low, high)) ∙ last_moment so_far k high) did)
 
 -- ---- a file that has a gate at most
 

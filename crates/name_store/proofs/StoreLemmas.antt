@@ -23,13 +23,9 @@ use Rattle.name_store.specs.Host.{IsHostOf}
 use Rattle.name_store.specs.Commands.{record_of, records_of}
 use Rattle.name_store.specs.Stands.{Bytes, IsRunState, Stands, EachStandsForEither}
 use Rattle.name_store.specs.Stored.{Stored, StandsFor, IsOn, IsTipOf}
-use Rattle.name_store.specs.Connecting.{IsDone}
+use Rattle.name_store.specs.Outcomes.{IsDone}
 use Rattle.name_store.specs.Keeping.{HoldsRecords, KeepsOrAdds, Keeps}
 use Rattle.name_store.proofs.StateLemmas.{area_is}
-
--- two indices that stand for chains of one base
-pub same_base : (old new : Indexed) (chain next : Chain) → chains.StandsFor old chain → chains.StandsFor new next → next.base ≡ chain.base → new.base ≡ old.base
-same_base old new chain next a b same = b.base_is ∙ same ∙ sym a.base_is
 
 -- a store with the same base, host and area is on the disk too
 pub on_again : (old new : Stored) (files : Files) → IsOn old files → new.index.base ≡ old.index.base → new.host ≡ old.host → new.area ≡ old.area → IsOn new files

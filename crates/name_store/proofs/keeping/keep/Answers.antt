@@ -1,6 +1,7 @@
 use Rattle.std.proofs.Common.{rules, ◌+◌, ◌<◌, ◌^◌, [], ◌∷◌, length, Ok, Err, ap, subst, arith}
 use Rattle.disk_model.specs.DiskSeen.{file_in}
 use Rattle.disk_model.specs.Moments.{Files}
+use Rattle.disk_model.specs.Changes.{LeavesOthers}
 use Rattle.disk_model.proofs.MomentLemmas.{weaken}
 use Rattle.gate_journal.specs.Calls.{Appends}
 use Rattle.gate_journal.specs.Stand.{Stand}
@@ -24,7 +25,8 @@ returns-in-Ok g c =
       added = λ tells records holds. added c.args.area records (file_in old area_file) (c.requires.settled tells) holds record_is next (file_in new area_file) fits (omega arith) (did.at_gate tells) (did.text tells);
       any_moment = λ tells records holds. weaken (KeepsOrAdds records record_is old.moments.now)
           (λ (files : Files) both. either c.args.area records (file_in old area_file) (c.requires.settled tells) holds record_is old.moments.now files fits both) (did.any_moment tells);
-      cause = search rules;
+      others = λ tells. weaken (LeavesOthers area_file old.moments.now) (λ (files : Files) so. so.others) (did.any_moment tells);
+      ends = search rules;
     }
 
 pub returns-in-Err-DiskFault : goal.returns-in-Err-DiskFault
@@ -40,5 +42,6 @@ returns-in-Err-DiskFault g c =
       added = search rules;
       any_moment = λ tells records holds. weaken (KeepsOrAdds records record_is old.moments.now)
           (λ (files : Files) both. either c.args.area records (file_in old area_file) (c.requires.settled tells) holds record_is old.moments.now files fits both) (did.any_moment tells);
-      cause = search rules;
+      others = λ tells. weaken (LeavesOthers area_file old.moments.now) (λ (files : Files) so. so.others) (did.any_moment tells);
+      ends = search rules;
     }

@@ -1,8 +1,9 @@
-use Rattle.std.proofs.Common.{List, ℕ, subst, ◌∙◌}
+use Rattle.std.proofs.Common.{List, ℕ, subst, ◌∙◌, arith}
 use Rattle.nmc_base.specs.declared.chain_ends.Base.{Base}
 use Rattle.name_store.specs.Header.{IsBegun}
 use Rattle.name_store.specs.Stands.{begun_on}
 use Rattle.name_store.specs.MakingSteps.{HasSettled, closed_header}
+use Rattle.name_store.proofs.StepLemmas.{from_unchanged, from_then}
 use Rattle.name_store.proofs.MakingLemmas.{looked_begun, area_begun, gate_begun, fields_begun, opening_begun, opened_stands}
 use Rattle.name_store.proofs.making.create.Goals as goal
 
@@ -82,3 +83,24 @@ returns-clause-made g c = λ tells network text is_host.
     (subst (λ (t : List ℕ). HasSettled (closed_header c.whole-base.result t) (d4.now 0)) spelled (c.in_ok-make_fields.ensures.made tells)) in
     opened_stands c.args.base.now text begun d2 d3 d4 (c.in_ok-make_area.ensures.made tells) (c.make_gate.ensures.any_moment tells) (c.make_fields.ensures.any_moment tells) closed d5
     (c.open_gate.ensures.any_moment tells) (c.in_ok-open_gate.ensures.settled tells) (c.in_ok-open_gate.ensures.opened tells)
+
+pub returns-in_err-is_initialised-clause-others : goal.returns-in_err-is_initialised-clause-others
+returns-in_err-is_initialised-clause-others g c = λ tells. from_unchanged (c.is_initialised.ensures.unchanged tells)
+
+pub returns-then-branch-clause-others : goal.returns-then-branch-clause-others
+returns-then-branch-clause-others g c = λ tells. from_unchanged (c.is_initialised.ensures.unchanged tells)
+
+pub returns-in_err-make_area-clause-others : goal.returns-in_err-make_area-clause-others
+returns-in_err-make_area-clause-others g c = λ tells. from_then 1 (omega arith) (λ files so. so) (from_unchanged (c.is_initialised.ensures.unchanged tells)) (c.make_area.ensures.any_moment tells)
+
+pub returns-in_err-make_gate-clause-others : goal.returns-in_err-make_gate-clause-others
+returns-in_err-make_gate-clause-others g c = λ tells. from_then 0 (omega arith) (λ files so. so.others) (from_then 1 (omega arith) (λ files so. so) (from_unchanged (c.is_initialised.ensures.unchanged tells)) (c.make_area.ensures.any_moment tells)) (c.make_gate.ensures.any_moment tells)
+
+pub returns-in_err-make_fields-clause-others : goal.returns-in_err-make_fields-clause-others
+returns-in_err-make_fields-clause-others g c = λ tells. from_then 0 (omega arith) (λ files so. so.others) (from_then 0 (omega arith) (λ files so. so.others) (from_then 1 (omega arith) (λ files so. so) (from_unchanged (c.is_initialised.ensures.unchanged tells)) (c.make_area.ensures.any_moment tells)) (c.make_gate.ensures.any_moment tells)) (c.make_fields.ensures.any_moment tells)
+
+pub returns-in_err-open_gate-clause-others : goal.returns-in_err-open_gate-clause-others
+returns-in_err-open_gate-clause-others g c = λ tells. from_then 0 (omega arith) (λ files so. so.others) (from_then 0 (omega arith) (λ files so. so.others) (from_then 0 (omega arith) (λ files so. so.others) (from_then 1 (omega arith) (λ files so. so) (from_unchanged (c.is_initialised.ensures.unchanged tells)) (c.make_area.ensures.any_moment tells)) (c.make_gate.ensures.any_moment tells)) (c.make_fields.ensures.any_moment tells)) (c.open_gate.ensures.any_moment tells)
+
+pub returns-clause-others : goal.returns-clause-others
+returns-clause-others g c = λ tells. from_then 0 (omega arith) (λ files so. so.others) (from_then 0 (omega arith) (λ files so. so.others) (from_then 0 (omega arith) (λ files so. so.others) (from_then 1 (omega arith) (λ files so. so) (from_unchanged (c.is_initialised.ensures.unchanged tells)) (c.make_area.ensures.any_moment tells)) (c.make_gate.ensures.any_moment tells)) (c.make_fields.ensures.any_moment tells)) (c.open_gate.ensures.any_moment tells)

@@ -10,7 +10,7 @@ pub returns-in_err-cut : goal.returns-in_err-cut
 returns-in_err-cut g c = record {
   made = search rules;
   any_moment = λ tells. leaves 1 (AfterCut 0) (g.D.Disk.seen c.args.disk.now).moments (g.D.Disk.seen c.cut.new.self).moments (c.cut.ensures.time tells);
-  cause = search rules;
+  ends = search rules;
 }
 
 pub returns-in_err-write_at : goal.returns-in_err-write_at
@@ -21,7 +21,7 @@ returns-in_err-write_at g c = record {
       let m1 = (g.D.Disk.seen c.cut.new.self).moments in
       let m2 = (g.D.Disk.seen c.write_at.new.self).moments in
       leaves_more 1 (AfterWrite 0 9) old m1 m2 (leaves 1 (AfterCut 0) old m1 (c.cut.ensures.time tells)) (c.write_at.ensures.time tells);
-  cause = search rules;
+  ends = search rules;
 }
 
 pub returns : goal.returns
@@ -37,5 +37,5 @@ returns g c =
           let m1 = d1.moments in
           let m2 = d2.moments in
           leaves_more 1 AfterSync old m2 d3.moments (leaves_more 1 (AfterWrite 0 9) old m1 m2 (leaves 1 (AfterCut 0) old m1 (c.cut.ensures.time tells)) (c.write_at.ensures.time tells)) (c.sync.ensures.time tells);
-      cause = search rules;
+      ends = search rules;
     }

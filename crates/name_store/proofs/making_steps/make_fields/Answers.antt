@@ -11,7 +11,7 @@ pub returns-in_err-write_at : goal.returns-in_err-write_at
 returns-in_err-write_at g c = record {
   made = search rules;
   any_moment = λ tells. keeps_written 0 1 (g.D.Disk.seen c.args.disk.now).moments (g.D.Disk.seen c.write_at.new.self).moments 1 _ (omega arith) (c.write_at.ensures.time tells);
-  cause = search rules;
+  ends = search rules;
 }
 
 pub returns : goal.returns
@@ -25,5 +25,5 @@ returns g c =
           (c.in_ok-write_at.ensures.written tells ∙ ap (λ (l : List ℕ). put (bytes_in d0 0) 1 l) c.add_fields-end.ensures.bytes ∙ ap (λ (l : List ℕ). put l 1 fields) (c.requires.at_gate tells).are
           ∙ put_behind fields);
       any_moment = λ tells. keeps_synced 0 1 d0.moments d1.moments d2.moments (keeps_written 0 1 d0.moments d1.moments 1 _ (omega arith) (c.write_at.ensures.time tells)) (c.sync.ensures.time tells);
-      cause = search rules;
+      ends = search rules;
     }

@@ -8,7 +8,7 @@ pub returns-in_err-cut : goal.returns-in_err-cut
 returns-in_err-cut g c = record {
   made = search rules;
   any_moment = λ tells. short_first 0 (g.D.Disk.seen c.args.disk.now).moments (g.D.Disk.seen c.cut.new.self).moments (c.cut.ensures.time tells);
-  cause = search rules;
+  ends = search rules;
 }
 
 pub returns-in_err-sync : goal.returns-in_err-sync
@@ -18,7 +18,7 @@ returns-in_err-sync g c = record {
       let old = (g.D.Disk.seen c.args.disk.now).moments in
       let m1 = (g.D.Disk.seen c.cut.new.self).moments in
       short_synced 0 old m1 (g.D.Disk.seen c.sync.new.self).moments (short_first 0 old m1 (c.cut.ensures.time tells)) (c.sync.ensures.time tells);
-  cause = search rules;
+  ends = search rules;
 }
 
 pub returns-in_err-write_at : goal.returns-in_err-write_at
@@ -30,7 +30,7 @@ returns-in_err-write_at g c = record {
       let m2 = (g.D.Disk.seen c.sync.new.self).moments in
       let m3 = (g.D.Disk.seen c.write_at.new.self).moments in
       short_written 0 old m2 m3 (short_synced 0 old m1 m2 (short_first 0 old m1 (c.cut.ensures.time tells)) (c.sync.ensures.time tells)) (c.write_at.ensures.time tells);
-  cause = search rules;
+  ends = search rules;
 }
 
 pub returns : goal.returns
@@ -47,5 +47,5 @@ returns g c =
           let m2 = d2.moments in
           let m3 = d3.moments in
           short_synced 0 old m3 d4.moments (short_written 0 old m2 m3 (short_synced 0 old m1 m2 (short_first 0 old m1 (c.cut.ensures.time tells)) (c.sync.ensures.time tells)) (c.write_at.ensures.time tells)) (c.sync-2.ensures.time tells);
-      cause = search rules;
+      ends = search rules;
     }

@@ -1,4 +1,4 @@
-use Rattle.std.proofs.Common.{Ok, refl, sym, subst, arith, rules}
+use Rattle.std.proofs.Common.{Ok, refl, sym, ◌∙◌, subst, arith, rules}
 use Rattle.std.specs.Prelude.{IsTrue}
 use Rattle.disk_model.specs.Moments.{start}
 use Rattle.disk_model.specs.DiskSeen.{bytes_in, file_in}
@@ -6,7 +6,7 @@ use Rattle.gate_journal.specs.Stand.{IsReadable}
 use Rattle.gate_journal.proofs.ReadLemmas.{unchanged_then}
 use Rattle.name_store.specs.declared.reading.Stepped.{Stepped}
 use Rattle.name_store.specs.Reading.{StepsOn, MovesOn, reading_of}
-use Rattle.name_store.proofs.ReadingLemmas.{followed_same, followed_all_same, fault_same, same_bytes, never_fell, rose_since, same_fault}
+use Rattle.name_store.proofs.ReadingLemmas.{followed_same, followed_all_same, fault_same, same_bytes, never_fell, failed_since, same_fault}
 use Rattle.name_store.proofs.reading.read_all.Goals as goal
 
 pub records-init : goal.records-init
@@ -15,6 +15,7 @@ records-init g c = record {
   area = c.requires.area;
   readable = c.requires.readable;
   time = λ told. start refl;
+  reads = refl;
   later = record { count = omega arith; at_limit = λ h. h };
 }
 
@@ -34,7 +35,8 @@ records-preserved g c =
       area = moves.0;
       readable = subst (λ (s : Stepped). IsTrue tells → IsReadable (reading_of s).journal (file_in new 1)) c.in-Ok-More.field-0-is c.in-Ok-More.ensures.readable;
       time = λ told. unchanged_then (c.records.invariant.time told) (c.in-Ok-More.ensures.time told);
-      later = never_fell c.records.invariant.later c.in-Ok-More.ensures.later;
+      reads = c.in-Ok-More.ensures.reads ∙ c.records.invariant.reads;
+      later = never_fell c.records.invariant.later c.in-Ok-More.ensures.ends.later;
     }
 
 pub records-smaller : goal.records-smaller
@@ -56,8 +58,8 @@ returns-in-Ok-All g c =
           (on first (followed_same tells first (bytes_in old 1) (bytes_in mid 1) same c.records.reading.chain c.records.reading.journal.length (c.records.invariant.followed first some)));
       in_area = moves.0;
       time = λ told. unchanged_then (c.records.invariant.time told) (c.in-Ok-All.ensures.time told);
-      later = never_fell c.records.invariant.later c.in-Ok-All.ensures.later;
-      fault = search rules;
+      reads = c.in-Ok-All.ensures.reads ∙ c.records.invariant.reads;
+      ends = record { later = never_fell c.records.invariant.later c.in-Ok-All.ensures.ends.later; worked = c.in-Ok-All.ensures.ends.worked; failed = search rules };
     }
 
 pub returns-in-Err : goal.returns-in-Err
@@ -72,6 +74,10 @@ returns-in-Err g c =
           (c.in-Err.ensures.steps_on first (followed_same tells first (bytes_in old 1) (bytes_in mid 1) same c.records.reading.chain c.records.reading.journal.length (c.records.invariant.followed first some)));
       in_area = tt;
       time = λ told. unchanged_then (c.records.invariant.time told) (c.in-Err.ensures.time told);
-      later = never_fell c.records.invariant.later c.in-Err.ensures.later;
-      fault = λ e. rose_since c.records.invariant.later (c.in-Err.ensures.fault (same_fault c.in-Err.fault e));
+      reads = c.in-Err.ensures.reads ∙ c.records.invariant.reads;
+      ends = record {
+        later = never_fell c.records.invariant.later c.in-Err.ensures.ends.later;
+        worked = tt;
+        failed = λ e. failed_since c.records.invariant.later (c.in-Err.ensures.ends.failed (same_fault c.in-Err.fault e));
+      };
     }

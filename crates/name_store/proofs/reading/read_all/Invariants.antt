@@ -1,4 +1,4 @@
-use Rattle.std.proofs.Common.{◌-◌}
+use Rattle.std.proofs.Common.{◌≡◌, ◌-◌}
 use Rattle.chain_commands.specs.RunState.{longest_area}
 use Rattle.std.specs.Prelude.{IsTrue}
 use Rattle.fault_counts.specs.Faults.{NeverFell}
@@ -19,6 +19,7 @@ invariant-records g l =
       area : IsInArea l.reading.journal;
       readable : IsTrue g.D.Disk.tells → IsReadable l.reading.journal (file_in now 1);
       time : IsTrue g.D.Disk.tells → EachMoment (Unchanged old.moments.now) old.moments now.moments;
+      reads : now.changes ≡ old.changes;
       later : NeverFell old.faults now.faults;
     }
 

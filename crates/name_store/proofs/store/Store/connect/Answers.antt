@@ -1,53 +1,94 @@
-use Rattle.std.proofs.Common.{◌≡◌, ◌+◌, length, refl, sym, subst, arith}
+use Rattle.std.proofs.Common.{◌≡◌, ◌+◌, ◌∷◌, length, refl, sym, ◌∙◌, subst, arith}
+use Rattle.chain_state.specs.Chain.{IsConnected, IsAbandoned}
+use Rattle.disk_model.specs.DiskSeen.{DiskSeen}
+use Rattle.chain_commands.specs.Event.{Connect}
 use Rattle.chain_commands.specs.RunState.{longest_area}
-use Rattle.name_store.specs.Stored.{Stored, StandsFor, IsOn}
+use Rattle.chain_commands.specs.Chain.{Chain}
+use Rattle.chain_commands.specs.Connecting.{Holds, connects as refusals}
+use Rattle.name_store.specs.Stored.{Stored, IsOn}
+use Rattle.name_store.specs.Outcomes.{KeepsOn, LeavesDisk}
 use Rattle.name_store.specs.Connecting.{Connects}
-use Rattle.name_store.specs.declared.store.Outcome.TheVariants.{Done}
-use Rattle.name_store.proofs.ConnectLemmas.{connect_done, connected_on, faulted_on, refused_on, lacking_on}
+use Rattle.name_store.specs.declared.store.Outcome.TheVariants.{Done, Refused, NoMemory, Faulted}
+use Rattle.name_store.specs.Views.{refusal_of}
+use Rattle.name_store.proofs.OutcomeLemmas.{allows_connect, leaves_refused, leaves_lacking, keeps_refused, keeps_lacking, answers_refused, answers_lacking, valid_of, keeps_faulted, answers_done, keeps_done, leaves_faulted, leaves_done}
 use Rattle.name_store.proofs.store.Store.connect.Goals as goal
 
-pub returns-in-Refused-clause-kept : goal.returns-in-Refused-clause-kept
-returns-in-Refused-clause-kept g c = λ told run s.
-    let before = g.D.Disk.seen c.args.disk.now in
+pub returns-in-Refused-clause-leaves : goal.returns-in-Refused-clause-leaves
+returns-in-Refused-clause-leaves g c =
+    let disk = g.D.Disk.seen c.args.disk.now in
     let old : Stored = record { index = c.self.inside.chain; host = c.self.inside.host; area = c.self.inside.area } in
     let new : Stored = record { index = c.in-Refused.chain; host = c.self.inside.host; area = c.self.inside.area } in
-    let on = subst (λ (x : Stored). IsOn x before.moments.now) (sym c.self.view_is) (c.requires.on_disk told) in
-    let stands = subst (λ (x : Stored). StandsFor x run) (sym c.self.view_is) s in
-    refused_on old new c.args.bytes.now c.requires.short g.D.Disk.tells told before before on run stands c.in-Refused.refusal c.in-Refused.ensures.stages refl refl
+    leaves_refused old new (record { base = c.in-Refused.ensures.base; host = refl; area = refl }) g.D.Disk.tells disk
+    (λ told. subst (λ (x : Stored). IsOn x disk.moments.now) (sym c.self.view_is) (c.requires.on_disk told)) c.in-Refused.refusal
 
-pub returns-in-NoMemory-clause-kept : goal.returns-in-NoMemory-clause-kept
-returns-in-NoMemory-clause-kept g c = λ told run s.
-    let before = g.D.Disk.seen c.args.disk.now in
+pub returns-in-Refused-clause-kept : goal.returns-in-Refused-clause-kept
+returns-in-Refused-clause-kept g c =
+    let disk = g.D.Disk.seen c.args.disk.now in
+    let old : Stored = record { index = c.self.inside.chain; host = c.self.inside.host; area = c.self.inside.area } in
+    let new : Stored = record { index = c.in-Refused.chain; host = c.self.inside.host; area = c.self.inside.area } in
+    subst (λ (x : Stored). KeepsOn g.D.Disk.tells x (Connect c.args.bytes.now) disk disk (Refused new c.in-Refused.refusal)) c.self.view_is
+    (keeps_refused old new (record { base = c.in-Refused.ensures.base; host = refl; area = refl }) g.D.Disk.tells disk
+    (λ told. subst (λ (x : Stored). IsOn x disk.moments.now) (sym c.self.view_is) (c.requires.on_disk told)) (Connect c.args.bytes.now) c.in-Refused.refusal)
+
+pub returns-in-NoMemory-clause-leaves : goal.returns-in-NoMemory-clause-leaves
+returns-in-NoMemory-clause-leaves g c =
+    let disk = g.D.Disk.seen c.args.disk.now in
     let old : Stored = record { index = c.self.inside.chain; host = c.self.inside.host; area = c.self.inside.area } in
     let new : Stored = record { index = c.in-NoMemory.chain; host = c.self.inside.host; area = c.self.inside.area } in
-    let on = subst (λ (x : Stored). IsOn x before.moments.now) (sym c.self.view_is) (c.requires.on_disk told) in
-    let stands = subst (λ (x : Stored). StandsFor x run) (sym c.self.view_is) s in
-    lacking_on old new c.args.bytes.now c.requires.short g.D.Disk.tells told before before on run stands c.in-NoMemory.ensures.stages refl refl
+    leaves_lacking old new (record { base = c.in-NoMemory.ensures.base; host = refl; area = refl }) g.D.Disk.tells disk
+    (λ told. subst (λ (x : Stored). IsOn x disk.moments.now) (sym c.self.view_is) (c.requires.on_disk told))
+
+pub returns-in-NoMemory-clause-kept : goal.returns-in-NoMemory-clause-kept
+returns-in-NoMemory-clause-kept g c =
+    let disk = g.D.Disk.seen c.args.disk.now in
+    let old : Stored = record { index = c.self.inside.chain; host = c.self.inside.host; area = c.self.inside.area } in
+    let new : Stored = record { index = c.in-NoMemory.chain; host = c.self.inside.host; area = c.self.inside.area } in
+    subst (λ (x : Stored). KeepsOn g.D.Disk.tells x (Connect c.args.bytes.now) disk disk (NoMemory new)) c.self.view_is
+    (keeps_lacking old new (record { base = c.in-NoMemory.ensures.base; host = refl; area = refl }) g.D.Disk.tells disk
+    (λ told. subst (λ (x : Stored). IsOn x disk.moments.now) (sym c.self.view_is) (c.requires.on_disk told)) (Connect c.args.bytes.now))
+
+pub returns-in-Err-clause-leaves : goal.returns-in-Err-clause-leaves
+returns-in-Err-clause-leaves g c =
+    leaves_faulted g.D.Disk.tells (g.D.Disk.seen c.args.disk.now) (g.D.Disk.seen c.keep.new.disk) (record { index = c.self.inside.chain; host = c.self.inside.host; area = c.self.inside.area })
+    (1 ∷ c.args.bytes.now) c.in-Err.field-0 c.in-Err.ensures
+
+pub returns-in-Err-clause-kept : goal.returns-in-Err-clause-kept
+returns-in-Err-clause-kept g c =
+    let before = g.D.Disk.seen c.args.disk.now in
+    let after = g.D.Disk.seen c.keep.new.disk in
+    let old : Stored = record { index = c.self.inside.chain; host = c.self.inside.host; area = c.self.inside.area } in
+    subst (λ (x : Stored). KeepsOn g.D.Disk.tells x (Connect c.args.bytes.now) before after Faulted) c.self.view_is
+    (keeps_faulted refusals (λ full (chain : Chain). Holds full chain c.args.bytes.now) (Connect c.args.bytes.now) (allows_connect c.args.bytes.now c.requires.short) old (IsConnected c.in-Staged.staged) (IsAbandoned c.in-Staged.staged) c.in-Staged.ensures.stages
+    g.D.Disk.tells before after c.keep.result (λ told. subst (λ (x : Stored). IsOn x before.moments.now) (sym c.self.view_is) (c.requires.on_disk told)) c.keep.ensures)
 
 pub returns-in-Ok-clause-connects : goal.returns-in-Ok-clause-connects
 returns-in-Ok-clause-connects g c =
     let old : Stored = record { index = c.self.inside.chain; host = c.self.inside.host; area = c.self.inside.area } in
-    let new : Stored = record { index = c.commit-chain.result; host = c.self.inside.host; area = c.in-Ok.area } in
+    let new : Stored = record { index = c.commit.result; host = c.self.inside.host; area = c.in-Ok.area } in
     let longer : c.in-Ok.area ≡ c.self.inside.area + (6 + length c.args.bytes.now) = omega (arith, c.in-Ok.ensures.longer) in
-    subst (λ (x : Stored). Connects longest_area x c.args.bytes.now (Done new c.tip-tip.result)) c.self.view_is
-    (connect_done old new c.args.bytes.now c.requires.short c.in-Staged.staged c.tip-tip.result c.in-Staged.ensures.stages c.commit-chain.ensures.connected refl longer c.tip-tip.ensures)
+    subst (λ r. Connects longest_area c.args.self c.args.bytes.now r) (sym c.done.ensures) (subst (λ (x : Stored). Connects longest_area x c.args.bytes.now (Done new c.commit.result.tip)) c.self.view_is
+    (λ run s. answers_done refusals (λ full (chain : Chain). Holds full chain c.args.bytes.now) (Connect c.args.bytes.now) (allows_connect c.args.bytes.now c.requires.short) old (IsConnected c.in-Staged.staged) (IsAbandoned c.in-Staged.staged) c.in-Staged.ensures.stages
+    new (record { commits = c.commit.ensures.connected; host = refl; area = longer }) refusal_of c.commit.result.tip refl run s))
+
+pub returns-in-Ok-clause-leaves : goal.returns-in-Ok-clause-leaves
+returns-in-Ok-clause-leaves g c =
+    let before = g.D.Disk.seen c.args.disk.now in
+    let after = g.D.Disk.seen c.keep.new.disk in
+    let old : Stored = record { index = c.self.inside.chain; host = c.self.inside.host; area = c.self.inside.area } in
+    let new : Stored = record { index = c.commit.result; host = c.self.inside.host; area = c.in-Ok.area } in
+    subst (λ r. LeavesDisk g.D.Disk.tells before after r) (sym c.done.ensures)
+    (leaves_done g.D.Disk.tells before after old (1 ∷ c.args.bytes.now) new c.commit.result.tip c.in-Ok.area
+    (λ told. subst (λ (x : Stored). IsOn x before.moments.now) (sym c.self.view_is) (c.requires.on_disk told)) c.in-Ok.ensures (c.commit.ensures.connected.base ∙ c.in-Staged.ensures.base) refl refl)
 
 pub returns-in-Ok-clause-kept : goal.returns-in-Ok-clause-kept
-returns-in-Ok-clause-kept g c = λ told run s.
+returns-in-Ok-clause-kept g c =
     let before = g.D.Disk.seen c.args.disk.now in
     let after = g.D.Disk.seen c.keep.new.disk in
     let old : Stored = record { index = c.self.inside.chain; host = c.self.inside.host; area = c.self.inside.area } in
-    let new : Stored = record { index = c.commit-chain.result; host = c.self.inside.host; area = c.in-Ok.area } in
-    let on = subst (λ (x : Stored). IsOn x before.moments.now) (sym c.self.view_is) (c.requires.on_disk told) in
-    let stands = subst (λ (x : Stored). StandsFor x run) (sym c.self.view_is) s in
-    connected_on old new c.args.bytes.now c.requires.short g.D.Disk.tells told before after on run stands c.in-Staged.staged c.tip-tip.result c.in-Ok.area c.in-Staged.ensures.stages
-    c.commit-chain.ensures.connected refl refl c.in-Ok.ensures
-
-pub returns-in-Err-clause-kept : goal.returns-in-Err-clause-kept
-returns-in-Err-clause-kept g c = λ told run s.
-    let before = g.D.Disk.seen c.args.disk.now in
-    let after = g.D.Disk.seen c.keep.new.disk in
-    let old : Stored = record { index = c.self.inside.chain; host = c.self.inside.host; area = c.self.inside.area } in
-    let on = subst (λ (x : Stored). IsOn x before.moments.now) (sym c.self.view_is) (c.requires.on_disk told) in
-    let stands = subst (λ (x : Stored). StandsFor x run) (sym c.self.view_is) s in
-    faulted_on old old c.args.bytes.now c.requires.short g.D.Disk.tells told before after on run stands c.in-Staged.staged c.keep.result c.in-Staged.ensures.stages c.keep.ensures
+    let new : Stored = record { index = c.commit.result; host = c.self.inside.host; area = c.in-Ok.area } in
+    let longer : c.in-Ok.area ≡ c.self.inside.area + (6 + length c.args.bytes.now) = omega (arith, c.in-Ok.ensures.longer) in
+    subst (λ r. KeepsOn g.D.Disk.tells c.args.self (Connect c.args.bytes.now) before after r) (sym c.done.ensures)
+    (subst (λ (x : Stored). KeepsOn g.D.Disk.tells x (Connect c.args.bytes.now) before after (Done new c.commit.result.tip)) c.self.view_is
+    (keeps_done refusals (λ full (chain : Chain). Holds full chain c.args.bytes.now) (Connect c.args.bytes.now) (allows_connect c.args.bytes.now c.requires.short) old (IsConnected c.in-Staged.staged) (IsAbandoned c.in-Staged.staged) c.in-Staged.ensures.stages
+    new (record { commits = c.commit.ensures.connected; host = refl; area = longer }) g.D.Disk.tells before after c.commit.result.tip c.in-Ok.area
+    (λ told. subst (λ (x : Stored). IsOn x before.moments.now) (sym c.self.view_is) (c.requires.on_disk told)) c.in-Ok.ensures))

@@ -1,58 +1,98 @@
-use Rattle.std.proofs.Common.{rules, ◌≡◌, ◌+◌, length, refl, sym, subst, arith}
+use Rattle.std.proofs.Common.{rules, ◌≡◌, ◌+◌, ◌∷◌, length, refl, sym, ◌∙◌, subst, arith}
+use Rattle.chain_state.specs.Chain.{Indexed, SameIndex}
+use Rattle.chain_state.specs.StageBack.{IsDisconnected}
+use Rattle.disk_model.specs.DiskSeen.{DiskSeen}
+use Rattle.chain_commands.specs.Event.{Disconnect}
 use Rattle.chain_commands.specs.RunState.{longest_area}
-use Rattle.name_store.specs.Stored.{Stored, StandsFor, IsOn}
+use Rattle.chain_commands.specs.Chain.{Chain}
+use Rattle.chain_commands.specs.Disconnecting.{HoldsBack, disconnects as refusals}
+use Rattle.name_store.specs.Stored.{Stored, IsOn}
+use Rattle.name_store.specs.Outcomes.{KeepsOn, LeavesDisk}
 use Rattle.name_store.specs.Disconnecting.{Disconnects}
-use Rattle.name_store.specs.declared.store.BackOutcome.TheVariants.{Done}
-use Rattle.name_store.proofs.DisconnectLemmas.{disconnect_done, disconnected_on, faulted_on, refused_on, lacking_on}
+use Rattle.name_store.specs.declared.store.Outcome.TheVariants.{Done, Refused, NoMemory, Faulted}
+use Rattle.name_store.specs.Views.{back_refusal_of}
+use Rattle.name_store.proofs.OutcomeLemmas.{allows_disconnect, leaves_refused, leaves_lacking, keeps_refused, keeps_lacking, answers_refused, answers_lacking, valid_of, keeps_faulted, answers_done, keeps_done, leaves_faulted, leaves_done}
 use Rattle.name_store.proofs.store.Store.disconnect.Goals as goal
 
-pub returns-in-Refused-clause-kept : goal.returns-in-Refused-clause-kept
-returns-in-Refused-clause-kept g c = λ told run s.
-    let before = g.D.Disk.seen c.args.disk.now in
-    let long : length c.args.hash.0 ≡ 32 = search rules in
+pub returns-in-Refused-clause-leaves : goal.returns-in-Refused-clause-leaves
+returns-in-Refused-clause-leaves g c =
+    let disk = g.D.Disk.seen c.args.disk.now in
     let old : Stored = record { index = c.self.inside.chain; host = c.self.inside.host; area = c.self.inside.area } in
     let new : Stored = record { index = c.in-Refused.chain; host = c.self.inside.host; area = c.self.inside.area } in
-    let on = subst (λ (x : Stored). IsOn x before.moments.now) (sym c.self.view_is) (c.requires.on_disk told) in
-    let stands = subst (λ (x : Stored). StandsFor x run) (sym c.self.view_is) s in
-    refused_on old new c.args.hash.0 long g.D.Disk.tells told before before on run stands c.in-Refused.refusal c.in-Refused.ensures.stages refl refl
+    leaves_refused old new (record { base = c.in-Refused.ensures.base; host = refl; area = refl }) g.D.Disk.tells disk
+    (λ told. subst (λ (x : Stored). IsOn x disk.moments.now) (sym c.self.view_is) (c.requires.on_disk told)) c.in-Refused.refusal
 
-pub returns-in-NoMemory-clause-kept : goal.returns-in-NoMemory-clause-kept
-returns-in-NoMemory-clause-kept g c = λ told run s.
-    let before = g.D.Disk.seen c.args.disk.now in
-    let long : length c.args.hash.0 ≡ 32 = search rules in
+pub returns-in-Refused-clause-kept : goal.returns-in-Refused-clause-kept
+returns-in-Refused-clause-kept g c =
+    let disk = g.D.Disk.seen c.args.disk.now in
+    let old : Stored = record { index = c.self.inside.chain; host = c.self.inside.host; area = c.self.inside.area } in
+    let new : Stored = record { index = c.in-Refused.chain; host = c.self.inside.host; area = c.self.inside.area } in
+    subst (λ (x : Stored). KeepsOn g.D.Disk.tells x (Disconnect c.args.hash.0) disk disk (Refused new c.in-Refused.refusal)) c.self.view_is
+    (keeps_refused old new (record { base = c.in-Refused.ensures.base; host = refl; area = refl }) g.D.Disk.tells disk
+    (λ told. subst (λ (x : Stored). IsOn x disk.moments.now) (sym c.self.view_is) (c.requires.on_disk told)) (Disconnect c.args.hash.0) c.in-Refused.refusal)
+
+pub returns-in-NoMemory-clause-leaves : goal.returns-in-NoMemory-clause-leaves
+returns-in-NoMemory-clause-leaves g c =
+    let disk = g.D.Disk.seen c.args.disk.now in
     let old : Stored = record { index = c.self.inside.chain; host = c.self.inside.host; area = c.self.inside.area } in
     let new : Stored = record { index = c.in-NoMemory.chain; host = c.self.inside.host; area = c.self.inside.area } in
-    let on = subst (λ (x : Stored). IsOn x before.moments.now) (sym c.self.view_is) (c.requires.on_disk told) in
-    let stands = subst (λ (x : Stored). StandsFor x run) (sym c.self.view_is) s in
-    lacking_on old new c.args.hash.0 long g.D.Disk.tells told before before on run stands c.in-NoMemory.ensures.stages refl refl
+    leaves_lacking old new (record { base = c.in-NoMemory.ensures.base; host = refl; area = refl }) g.D.Disk.tells disk
+    (λ told. subst (λ (x : Stored). IsOn x disk.moments.now) (sym c.self.view_is) (c.requires.on_disk told))
+
+pub returns-in-NoMemory-clause-kept : goal.returns-in-NoMemory-clause-kept
+returns-in-NoMemory-clause-kept g c =
+    let disk = g.D.Disk.seen c.args.disk.now in
+    let old : Stored = record { index = c.self.inside.chain; host = c.self.inside.host; area = c.self.inside.area } in
+    let new : Stored = record { index = c.in-NoMemory.chain; host = c.self.inside.host; area = c.self.inside.area } in
+    subst (λ (x : Stored). KeepsOn g.D.Disk.tells x (Disconnect c.args.hash.0) disk disk (NoMemory new)) c.self.view_is
+    (keeps_lacking old new (record { base = c.in-NoMemory.ensures.base; host = refl; area = refl }) g.D.Disk.tells disk
+    (λ told. subst (λ (x : Stored). IsOn x disk.moments.now) (sym c.self.view_is) (c.requires.on_disk told)) (Disconnect c.args.hash.0))
+
+pub returns-in-Err-clause-leaves : goal.returns-in-Err-clause-leaves
+returns-in-Err-clause-leaves g c =
+    leaves_faulted g.D.Disk.tells (g.D.Disk.seen c.args.disk.now) (g.D.Disk.seen c.keep.new.disk) (record { index = c.self.inside.chain; host = c.self.inside.host; area = c.self.inside.area })
+    (2 ∷ c.args.hash.0) c.in-Err.field-0 c.in-Err.ensures
+
+pub returns-in-Err-clause-kept : goal.returns-in-Err-clause-kept
+returns-in-Err-clause-kept g c =
+    let before = g.D.Disk.seen c.args.disk.now in
+    let after = g.D.Disk.seen c.keep.new.disk in
+    let old : Stored = record { index = c.self.inside.chain; host = c.self.inside.host; area = c.self.inside.area } in
+    let long : length c.args.hash.0 ≡ 32 = search rules in
+    subst (λ (x : Stored). KeepsOn g.D.Disk.tells x (Disconnect c.args.hash.0) before after Faulted) c.self.view_is
+    (keeps_faulted refusals (λ full (chain : Chain). HoldsBack full chain c.args.hash.0) (Disconnect c.args.hash.0) (allows_disconnect c.args.hash.0 long) old (IsDisconnected c.in-StagedBack.staged) (λ (same : Indexed). SameIndex same c.in-StagedBack.staged) c.in-StagedBack.ensures.stages
+    g.D.Disk.tells before after c.keep.result (λ told. subst (λ (x : Stored). IsOn x before.moments.now) (sym c.self.view_is) (c.requires.on_disk told)) c.keep.ensures)
 
 pub returns-in-Ok-clause-disconnects : goal.returns-in-Ok-clause-disconnects
 returns-in-Ok-clause-disconnects g c =
-    let long : length c.args.hash.0 ≡ 32 = search rules in
     let old : Stored = record { index = c.self.inside.chain; host = c.self.inside.host; area = c.self.inside.area } in
-    let new : Stored = record { index = c.commit-chain.result; host = c.self.inside.host; area = c.in-Ok.area } in
+    let new : Stored = record { index = c.commit.result; host = c.self.inside.host; area = c.in-Ok.area } in
+    let long : length c.args.hash.0 ≡ 32 = search rules in
     let longer : c.in-Ok.area ≡ c.self.inside.area + 38 = omega (arith, c.in-Ok.ensures.longer) in
-    subst (λ (x : Stored). Disconnects longest_area x c.args.hash.0 (Done new c.tip-tip.result)) c.self.view_is
-    (disconnect_done old new c.args.hash.0 long c.in-StagedBack.staged c.tip-tip.result c.in-StagedBack.ensures.stages c.commit-chain.ensures.disconnected refl longer c.tip-tip.ensures)
+    subst (λ r. Disconnects longest_area c.args.self c.args.hash.0 r) (sym c.done.ensures) (subst (λ (x : Stored). Disconnects longest_area x c.args.hash.0 (Done new c.commit.result.tip)) c.self.view_is
+    (λ run s. answers_done refusals (λ full (chain : Chain). HoldsBack full chain c.args.hash.0) (Disconnect c.args.hash.0) (allows_disconnect c.args.hash.0 long) old (IsDisconnected c.in-StagedBack.staged) (λ (same : Indexed). SameIndex same c.in-StagedBack.staged) c.in-StagedBack.ensures.stages
+    new (record { commits = c.commit.ensures.disconnected; host = refl; area = longer }) back_refusal_of c.commit.result.tip refl run s))
+
+pub returns-in-Ok-clause-leaves : goal.returns-in-Ok-clause-leaves
+returns-in-Ok-clause-leaves g c =
+    let before = g.D.Disk.seen c.args.disk.now in
+    let after = g.D.Disk.seen c.keep.new.disk in
+    let old : Stored = record { index = c.self.inside.chain; host = c.self.inside.host; area = c.self.inside.area } in
+    let new : Stored = record { index = c.commit.result; host = c.self.inside.host; area = c.in-Ok.area } in
+    subst (λ r. LeavesDisk g.D.Disk.tells before after r) (sym c.done.ensures)
+    (leaves_done g.D.Disk.tells before after old (2 ∷ c.args.hash.0) new c.commit.result.tip c.in-Ok.area
+    (λ told. subst (λ (x : Stored). IsOn x before.moments.now) (sym c.self.view_is) (c.requires.on_disk told)) c.in-Ok.ensures (c.commit.ensures.disconnected.base ∙ c.in-StagedBack.ensures.base) refl refl)
 
 pub returns-in-Ok-clause-kept : goal.returns-in-Ok-clause-kept
-returns-in-Ok-clause-kept g c = λ told run s.
+returns-in-Ok-clause-kept g c =
     let before = g.D.Disk.seen c.args.disk.now in
     let after = g.D.Disk.seen c.keep.new.disk in
-    let long : length c.args.hash.0 ≡ 32 = search rules in
     let old : Stored = record { index = c.self.inside.chain; host = c.self.inside.host; area = c.self.inside.area } in
-    let new : Stored = record { index = c.commit-chain.result; host = c.self.inside.host; area = c.in-Ok.area } in
-    let on = subst (λ (x : Stored). IsOn x before.moments.now) (sym c.self.view_is) (c.requires.on_disk told) in
-    let stands = subst (λ (x : Stored). StandsFor x run) (sym c.self.view_is) s in
-    disconnected_on old new c.args.hash.0 long g.D.Disk.tells told before after on run stands c.in-StagedBack.staged c.tip-tip.result c.in-Ok.area c.in-StagedBack.ensures.stages
-    c.commit-chain.ensures.disconnected refl refl c.in-Ok.ensures
-
-pub returns-in-Err-clause-kept : goal.returns-in-Err-clause-kept
-returns-in-Err-clause-kept g c = λ told run s.
-    let before = g.D.Disk.seen c.args.disk.now in
-    let after = g.D.Disk.seen c.keep.new.disk in
+    let new : Stored = record { index = c.commit.result; host = c.self.inside.host; area = c.in-Ok.area } in
     let long : length c.args.hash.0 ≡ 32 = search rules in
-    let old : Stored = record { index = c.self.inside.chain; host = c.self.inside.host; area = c.self.inside.area } in
-    let on = subst (λ (x : Stored). IsOn x before.moments.now) (sym c.self.view_is) (c.requires.on_disk told) in
-    let stands = subst (λ (x : Stored). StandsFor x run) (sym c.self.view_is) s in
-    faulted_on old old c.args.hash.0 long g.D.Disk.tells told before after on run stands c.in-StagedBack.staged c.keep.result c.in-StagedBack.ensures.stages c.keep.ensures
+    let longer : c.in-Ok.area ≡ c.self.inside.area + 38 = omega (arith, c.in-Ok.ensures.longer) in
+    subst (λ r. KeepsOn g.D.Disk.tells c.args.self (Disconnect c.args.hash.0) before after r) (sym c.done.ensures)
+    (subst (λ (x : Stored). KeepsOn g.D.Disk.tells x (Disconnect c.args.hash.0) before after (Done new c.commit.result.tip)) c.self.view_is
+    (keeps_done refusals (λ full (chain : Chain). HoldsBack full chain c.args.hash.0) (Disconnect c.args.hash.0) (allows_disconnect c.args.hash.0 long) old (IsDisconnected c.in-StagedBack.staged) (λ (same : Indexed). SameIndex same c.in-StagedBack.staged) c.in-StagedBack.ensures.stages
+    new (record { commits = c.commit.ensures.disconnected; host = refl; area = longer }) g.D.Disk.tells before after c.commit.result.tip c.in-Ok.area
+    (λ told. subst (λ (x : Stored). IsOn x before.moments.now) (sym c.self.view_is) (c.requires.on_disk told)) c.in-Ok.ensures))

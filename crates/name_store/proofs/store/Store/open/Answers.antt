@@ -1,31 +1,32 @@
-use Rattle.std.proofs.Common.{List, ℕ, sym, ap, subst, ◌∙◌}
+use Rattle.std.proofs.Common.{rules, List, ℕ, [], Err, sym, ap, subst, ◌∙◌, arith}
+use Rattle.std.proofs.lemmas.Result.{err_from_is_err_and}
 use Rattle.disk_model.specs.FileState.{FileState, IsSettled}
 use Rattle.disk_model.specs.Moments.{Files}
-use Rattle.disk_model.proofs.MomentLemmas.{last_moment}
-use Rattle.name_store.specs.Damage.{HasNoImage}
-use Rattle.std.proofs.Common.{[]}
 use Rattle.disk_model.specs.DiskSeen.{bytes_in}
+use Rattle.disk_model.proofs.ImageLemmas.{keeps_unchanged, keeps_then}
+use Rattle.disk_model.proofs.MomentLemmas.{last_moment}
 use Rattle.nmc_base.specs.declared.chain_ends.Base.{Base}
 use Rattle.chain_commands.specs.RunState.{on_base}
-use Rattle.std.proofs.Common.{Err}
-use Rattle.std.proofs.lemmas.Result.{err_from_is_err_and}
+use Rattle.name_store.specs.Damage.{HasNoImage}
 use Rattle.name_store.specs.Header.{base_at, HasHeader}
-use Rattle.name_store.specs.Opening.{IsOpened, OpenAnswer}
+use Rattle.name_store.specs.Opening.{IsOpened, IsSynced, OpenAnswer}
 use Rattle.name_store.specs.Reading.{HasFollowedAll, AreaAnswer, FollowsArea}
-use Rattle.name_store.specs.Stored.{Stored, StandsFor}
-use Rattle.name_store.proofs.OpenLemmas.{adds_then, unchanged_adds, opened, run_of, stands_for, area_bad, commands_bad}
-use Rattle.name_store.specs.Reading.{HeaderAnswer}
-use Rattle.name_store.proofs.FollowLaws.{fails_for, header_fails_for, opens_for}
+use Rattle.name_store.specs.Stored.{Stored}
+use Rattle.name_store.proofs.OpenLemmas.{HasOpened, still_synced, opened, area_bad, commands_bad}
+use Rattle.name_store.proofs.ReadingLemmas.{never_fell}
+use Rattle.name_store.proofs.FollowLaws.{opened_from}
 use Rattle.name_store.proofs.store.Store.open.Goals as goal
 
-pub returns-in_err-header-clause-untouched : goal.returns-in_err-header-clause-untouched
-returns-in_err-header-clause-untouched g c = λ tells. adds_then (c.sync_all.ensures.time tells) (unchanged_adds (c.read_header.ensures.time tells))
+pub returns-in_err-header-clause-time : goal.returns-in_err-header-clause-time
+returns-in_err-header-clause-time g c = λ tells. keeps_then (c.sync_all.ensures.time tells) (keeps_unchanged (c.read_header.ensures.time tells))
 
 pub open_area-requires : goal.open_area-requires
-open_area-requires g c = record { settled = λ tells. subst IsSettled (ap (λ (files : Files). files 1) (sym (last_moment (c.read_header.ensures.time tells)))) (c.in_ok-sync_all.ensures.settled tells).1 }
+open_area-requires g c = record {
+  settled = λ tells. subst (λ (files : Files). IsSettled (files 1)) (sym (last_moment (c.read_header.ensures.time tells))) ((c.in_ok-sync_all.ensures.synced tells).settled 1 (omega arith));
+}
 
-pub returns-in_err-journal-clause-untouched : goal.returns-in_err-journal-clause-untouched
-returns-in_err-journal-clause-untouched g c = λ tells. adds_then (adds_then (c.sync_all.ensures.time tells) (unchanged_adds (c.read_header.ensures.time tells))) (unchanged_adds (c.open_area.ensures.time tells))
+pub returns-in_err-journal-clause-time : goal.returns-in_err-journal-clause-time
+returns-in_err-journal-clause-time g c = λ tells. keeps_then (keeps_then (c.sync_all.ensures.time tells) (keeps_unchanged (c.read_header.ensures.time tells))) (keeps_unchanged (c.open_area.ensures.time tells))
 
 pub follow_area-requires-clause-area : goal.follow_area-requires-clause-area
 follow_area-requires-clause-area g c = λ tells.
@@ -35,9 +36,9 @@ pub returns-in_err-journal-clause-answer : goal.returns-in_err-journal-clause-an
 returns-in_err-journal-clause-answer g c = λ told.
     let p = err_from_is_err_and c.from_residual-in_err-journal.result c.from_residual-in_err-journal.ensures.1 in
     let old = bytes_in (g.D.Disk.seen c.args.disk.now) in
-    let same = c.in_ok-sync_all.ensures.same told in
-    let same_area = ap (λ (files : Files). (files 1).bytes) (last_moment (c.read_header.ensures.time told)) ∙ same.1 in
-    subst (λ r. OpenAnswer old (g.D.Disk.seen c.open_area.new.disk).moments.now r) (sym (p.1 ∙ ap Err p.2)) (area_bad old (g.D.Disk.seen c.open_area.new.disk).moments.now c.in_err-journal.field-0.0 (subst HasHeader same.0 (c.in_ok-header.ensures.answer told).0)
+    let same = (c.in_ok-sync_all.ensures.synced told).alike in
+    let same_area = ap (λ (files : Files). (files 1).bytes) (last_moment (c.read_header.ensures.time told)) ∙ same 1 (omega arith) in
+    subst (λ r. OpenAnswer old (g.D.Disk.seen c.open_area.new.disk).moments.now r) (sym (p.1 ∙ ap Err p.2)) (area_bad old (g.D.Disk.seen c.open_area.new.disk).moments.now c.in_err-journal.field-0.0 (subst HasHeader (same 0 (omega arith)) (c.in_ok-header.ensures.answer told).0)
     (subst (λ (l : List ℕ). AreaAnswer l (Err c.in_err-journal.field-0.0)) same_area (c.in_err-journal.ensures.answer told)))
 
 pub returns-in_err-reading-clause-answer : goal.returns-in_err-reading-clause-answer
@@ -45,30 +46,28 @@ returns-in_err-reading-clause-answer g c = λ told.
     let p = err_from_is_err_and c.from_residual-in_err-reading.result c.from_residual-in_err-reading.ensures.1 in
     let tells = g.D.Disk.tells in
     let old = bytes_in (g.D.Disk.seen c.args.disk.now) in
-    let same = c.in_ok-sync_all.ensures.same told in
-    let same_area = ap (λ (files : Files). (files 1).bytes) (last_moment (c.read_header.ensures.time told)) ∙ same.1 in
+    let same = (c.in_ok-sync_all.ensures.synced told).alike in
+    let same_header = same 0 (omega arith) in
+    let same_area = ap (λ (files : Files). (files 1).bytes) (last_moment (c.read_header.ensures.time told)) ∙ same 1 (omega arith) in
     let same_read = ap (λ (files : Files). (files 1).bytes) (last_moment (c.open_area.ensures.time told)) ∙ same_area in
     let has = c.in_ok-header.ensures.answer told in
-    subst (λ r. OpenAnswer old (g.D.Disk.seen c.follow_area.new.disk).moments.now r) (sym (p.1 ∙ ap Err p.2)) (commands_bad tells told old (g.D.Disk.seen c.follow_area.new.disk).moments.now c.in_err-reading.field-0.0 (subst HasHeader same.0 has.0) (subst HasNoImage same_area (c.in_ok-journal.ensures.answer told))
-    (subst (λ (l : List ℕ). FollowsArea tells (base_at l) (old 1) (Err c.in_err-reading.field-0.0)) same.0
+    subst (λ r. OpenAnswer old (g.D.Disk.seen c.follow_area.new.disk).moments.now r) (sym (p.1 ∙ ap Err p.2)) (commands_bad tells told old (g.D.Disk.seen c.follow_area.new.disk).moments.now c.in_err-reading.field-0.0 (subst HasHeader same_header has.0) (subst HasNoImage same_area (c.in_ok-journal.ensures.answer told))
+    (subst (λ (l : List ℕ). FollowsArea tells (base_at l) (old 1) (Err c.in_err-reading.field-0.0)) same_header
     (subst (λ (l : List ℕ). FollowsArea tells (base_at (bytes_in (g.D.Disk.seen c.sync_all.new.disk) 0)) l (Err c.in_err-reading.field-0.0)) same_read
     (subst (λ (b : Base). FollowsArea tells b (bytes_in (g.D.Disk.seen c.open_area.new.disk) 1) (Err c.in_err-reading.field-0.0)) has.1.base_is c.in_err-reading.ensures.follows))))
 
-pub returns-in_err-reading-clause-untouched : goal.returns-in_err-reading-clause-untouched
-returns-in_err-reading-clause-untouched g c = λ tells.
-    adds_then (adds_then (adds_then (c.sync_all.ensures.time tells) (unchanged_adds (c.read_header.ensures.time tells))) (unchanged_adds (c.open_area.ensures.time tells))) (unchanged_adds (c.follow_area.ensures.time tells))
+pub returns-in_err-reading-clause-time : goal.returns-in_err-reading-clause-time
+returns-in_err-reading-clause-time g c = λ tells.
+    keeps_then (keeps_then (keeps_then (c.sync_all.ensures.time tells) (keeps_unchanged (c.read_header.ensures.time tells))) (keeps_unchanged (c.open_area.ensures.time tells))) (keeps_unchanged (c.follow_area.ensures.time tells))
 
-pub returns-clause-found : goal.returns-clause-found
-returns-clause-found g c =
-    let header = c.in_ok-header.header in
-    let begun = c.in_ok-header.ensures.begun in
-    let reading = c.in_ok-reading.reading in
-    let all = c.in_ok-reading.ensures.follows in
-    let of_is = c.of.ensures ∙ ap (λ (n : ℕ). record { index = reading.chain; host = header.host; area = n }) c.length-area.ensures in (
-      run_of header.base begun.text all.some.commands,
-      subst (λ (s : Stored). StandsFor s (run_of header.base begun.text all.some.commands)) (sym of_is)
-          (stands_for g.D.Disk.tells header.base begun.text header.host (bytes_in (g.D.Disk.seen c.open_area.new.disk) 1) reading.chain reading.journal.length begun.begun begun.host_is all.some c.in_ok-reading.ensures.in_area.within),
-    )
+pub returns-clause-time : goal.returns-clause-time
+returns-clause-time g c = λ tells.
+    keeps_then (keeps_then (keeps_then (c.sync_all.ensures.time tells) (keeps_unchanged (c.read_header.ensures.time tells))) (keeps_unchanged (c.open_area.ensures.time tells))) (keeps_unchanged (c.follow_area.ensures.time tells))
+
+pub returns-clause-synced : goal.returns-clause-synced
+returns-clause-synced g c = λ tells.
+    still_synced (g.D.Disk.seen c.args.disk.now) (g.D.Disk.seen c.sync_all.new.disk) (g.D.Disk.seen c.follow_area.new.disk) (c.in_ok-sync_all.ensures.synced tells)
+    (last_moment (c.follow_area.ensures.time tells) ∙ last_moment (c.open_area.ensures.time tells) ∙ last_moment (c.read_header.ensures.time tells))
 
 pub returns-clause-answer : goal.returns-clause-answer
 returns-clause-answer g c = λ told.
@@ -81,45 +80,15 @@ returns-clause-answer g c = λ told.
     let has = c.in_ok-header.ensures.answer told in
     let all = subst (λ (files : Files). HasFollowedAll tells (on_base (base_at (d1 0).bytes) []) (files 1).bytes reading.chain reading.journal.length) same31
     (subst (λ (b : Base). HasFollowedAll tells (on_base b []) (bytes_in (g.D.Disk.seen c.open_area.new.disk) 1) reading.chain reading.journal.length) has.1.base_is c.in_ok-reading.ensures.follows) in
-    let settled = c.in_ok-sync_all.ensures.settled told in
+    let synced = c.in_ok-sync_all.ensures.synced told in
     let of_is = c.of.ensures ∙ ap (λ (n : ℕ). record { index = reading.chain; host = header.host; area = n }) c.length-area.ensures in
-    subst (λ (files : Files). IsOpened c.of.result files) (sym same41) (subst (λ (s : Stored). IsOpened s d1) (sym of_is)
-    (opened tells told d1 header.host reading.chain reading.journal.length has.0 has.1.height_is has.1.host_is all c.in_ok-reading.ensures.in_area.within settled.0 settled.1))
+    subst (λ (files : Files). IsOpened (bytes_in (g.D.Disk.seen c.args.disk.now)) files c.of.result) (sym same41) (subst (IsOpened (bytes_in (g.D.Disk.seen c.args.disk.now)) d1) (sym of_is)
+    (opened_from (bytes_in (g.D.Disk.seen c.args.disk.now)) d1 (record { index = reading.chain; host = header.host; area = reading.journal.length })
+    (opened tells told d1 header.host reading.chain reading.journal.length has.0 has.1.height_is has.1.host_is all c.in_ok-reading.ensures.in_area.within (synced.settled 0 (omega arith)) (synced.settled 1 (omega arith))) synced.alike))
 
-pub returns-clause-untouched : goal.returns-clause-untouched
-returns-clause-untouched g c = λ tells.
-    adds_then (adds_then (adds_then (c.sync_all.ensures.time tells) (unchanged_adds (c.read_header.ensures.time tells))) (unchanged_adds (c.open_area.ensures.time tells))) (unchanged_adds (c.follow_area.ensures.time tells))
-
-pub returns-in_err-header-clause-follows : goal.returns-in_err-header-clause-follows
-returns-in_err-header-clause-follows g c = λ told run stands.
-    let p = err_from_is_err_and c.from_residual-in_err-header.result c.from_residual-in_err-header.ensures.1 in
-    let old = bytes_in (g.D.Disk.seen c.args.disk.now) in
-    let fault = c.in_err-header.field-0.0 in
-    let answer = subst (λ (l : List ℕ). HeaderAnswer l (Err fault)) (c.in_ok-sync_all.ensures.same told).0 (c.in_err-header.ensures.answer told) in
-    header_fails_for old c.from_residual-in_err-header.result fault run (p.1 ∙ ap Err p.2) answer stands
-
-pub returns-in_err-journal-clause-follows : goal.returns-in_err-journal-clause-follows
-returns-in_err-journal-clause-follows g c = λ told run stands.
-    let p = err_from_is_err_and c.from_residual-in_err-journal.result c.from_residual-in_err-journal.ensures.1 in
-    let old = bytes_in (g.D.Disk.seen c.args.disk.now) in
-    fails_for old (g.D.Disk.seen c.open_area.new.disk).moments.now c.from_residual-in_err-journal.result c.in_err-journal.field-0.0 run (p.1 ∙ ap Err p.2) (returns-in_err-journal-clause-answer g c told) stands
-
-pub returns-in_err-reading-clause-follows : goal.returns-in_err-reading-clause-follows
-returns-in_err-reading-clause-follows g c = λ told run stands.
-    let p = err_from_is_err_and c.from_residual-in_err-reading.result c.from_residual-in_err-reading.ensures.1 in
-    let old = bytes_in (g.D.Disk.seen c.args.disk.now) in
-    fails_for old (g.D.Disk.seen c.follow_area.new.disk).moments.now c.from_residual-in_err-reading.result c.in_err-reading.field-0.0 run (p.1 ∙ ap Err p.2) (returns-in_err-reading-clause-answer g c told) stands
-
-pub returns-clause-follows : goal.returns-clause-follows
-returns-clause-follows g c = λ told run stands.
-    let old = bytes_in (g.D.Disk.seen c.args.disk.now) in
-    let new = (g.D.Disk.seen c.follow_area.new.disk).moments.now in
-    let since = last_moment (c.follow_area.ensures.time told) ∙ last_moment (c.open_area.ensures.time told) ∙ last_moment (c.read_header.ensures.time told) in
-    let same = c.in_ok-sync_all.ensures.same told in
-    opens_for old new c.of.result run (returns-clause-answer g c told) (ap (λ (files : Files). (files 0).bytes) since ∙ same.0) (ap (λ (files : Files). (files 1).bytes) since ∙ same.1) stands
-
-pub returns-clause-same : goal.returns-clause-same
-returns-clause-same g c = λ told.
-    let since = last_moment (c.follow_area.ensures.time told) ∙ last_moment (c.open_area.ensures.time told) ∙ last_moment (c.read_header.ensures.time told) in
-    let same = c.in_ok-sync_all.ensures.same told in
-    record { header = ap (λ (files : Files). (files 0).bytes) since ∙ same.0; area = ap (λ (files : Files). (files 1).bytes) since ∙ same.1 }
+pub returns-clause-ends : goal.returns-clause-ends
+returns-clause-ends g c = record {
+  later = never_fell (never_fell (never_fell c.sync_all.ensures.ends.later c.read_header.ensures.ends.later) c.open_area.ensures.ends.later) c.follow_area.ensures.ends.later;
+  worked = c.in_ok-reading.ensures.ends.worked;
+  failed = search rules;
+}

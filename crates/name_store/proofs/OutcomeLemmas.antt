@@ -1,0 +1,184 @@
+-- The outcomes of a command, of each kind.
+use Rattle.std.proofs.Common.{◌≡◌, ℕ, ◌+◌, ◌<◌, ◌≤◌, Bool, List, ◌∷◌, length, Ok, Err, refl, sym, ◌∙◌, subst, arith}
+use Rattle.std.specs.Prelude.{IsTrue, Result}
+use Rattle.nmc_base.specs.declared.limits.TheConstants.{LONGEST_BLOCK}
+use Rattle.nmc_base.specs.declared.chain_ends.Tip.{Tip}
+use Rattle.disk_model.specs.Moments.{start}
+use Rattle.disk_model.specs.DiskSeen.{DiskSeen}
+use Rattle.disk_model.specs.declared.disk.Failed.{Failed}
+use Rattle.chain_state.specs.Chain.{Indexed}
+use Rattle.chain_commands.specs.Chain.{Chain}
+use Rattle.chain_commands.specs.Event.{Command, Connect, Disconnect}
+use Rattle.chain_commands.specs.RunState.{RunState, chain_of, area_of, record_length, accepted, longest_area}
+use Rattle.chain_commands.specs.Refusals.{Refusals, HasNoneBelow, IsFirst}
+use Rattle.chain_commands.specs.Connecting as connecting
+use Rattle.chain_commands.specs.Connecting.{IsValid, Holds}
+use Rattle.chain_commands.specs.Disconnecting as disconnecting
+use Rattle.chain_commands.specs.Disconnecting.{IsValidBack, HoldsBack}
+use Rattle.name_store.specs.declared.store.Outcome.TheVariants.{Done, Refused, NoMemory, Faulted}
+use Rattle.name_store.specs.Standing as chains
+use Rattle.name_store.specs.Host.{IsHostOf}
+use Rattle.name_store.specs.Commands.{record_of}
+use Rattle.name_store.specs.Stands.{IsRunState}
+use Rattle.name_store.specs.Stored.{Stored, StandsFor, IsOn}
+use Rattle.name_store.specs.Stages.{IsFullWith, IsStagedFor, IsRefusedFor, LacksMemoryFor}
+use Rattle.name_store.specs.Outcomes.{AnswersFor, IsFullOf, KeepsOn, LeavesDisk}
+use Rattle.name_store.specs.Keeping.{Keeps}
+use Rattle.name_store.proofs.StateLemmas.{state_with}
+use Rattle.name_store.proofs.StoreLemmas.{on_again, done_is, stands_still, each_stands, stands_next, on_next}
+
+-- ---- a command without a refusal is allowed, and has room
+
+-- a refusal of a chain is one beside a full journal too
+holds_beside : (full : Type 0) (chain : Chain) (bytes : List ℕ) (refusal : connecting.Refusal) → Holds ⊥ chain bytes refusal → Holds full chain bytes refusal
+holds_beside full chain bytes (connecting.BadBlock place) holds = holds
+holds_beside full chain bytes (connecting.NotOnTip tip) holds = holds
+holds_beside full chain bytes connecting.HeightLimit holds = holds
+holds_beside full chain bytes (connecting.MerkleMismatch computed) holds = holds
+holds_beside full chain bytes (connecting.Rule index refusal) holds = holds
+holds_beside full chain bytes connecting.JournalFull holds = absurd holds
+
+back_beside : (full : Type 0) (chain : Chain) (hash : List ℕ) (refusal : disconnecting.BackRefusal) → HoldsBack ⊥ chain hash refusal → HoldsBack full chain hash refusal
+back_beside full chain hash disconnecting.AtBase holds = holds
+back_beside full chain hash (disconnecting.NotTip tip) holds = holds
+back_beside full chain hash disconnecting.JournalFull holds = absurd holds
+
+-- behind a command of this kind without a refusal stands a run state
+abbrev pub Allows : {M : Type 0} → Refusals M → (Type 0 → Chain → M → Type 0) → Command → Type 0
+Allows refusals Holds command = (run : RunState) → IsRunState run → HasNoneBelow (Holds (IsFullOf longest_area run command) (chain_of run)) refusals.order refusals.places
+    → IsRunState (accepted run command)
+
+pub allows_connect : (bytes : List ℕ) → length bytes ≤ LONGEST_BLOCK → Allows connecting.connects (λ full chain. Holds full chain bytes) (Connect bytes)
+allows_connect bytes short run is valid =
+    let full = IsFullOf longest_area run (Connect bytes) in
+    let alone : IsValid ⊥ (chain_of run) bytes = record { none = λ refusal low holds. valid.none refusal low (holds_beside full (chain_of run) bytes refusal holds) } in
+    let room : ¬ (longest_area < area_of run + record_length (Connect bytes)) = valid.none connecting.JournalFull (omega arith) in
+    state_with run (Connect bytes) is (alone, short) (omega (arith, room))
+
+pub allows_disconnect : (hash : List ℕ) → length hash ≡ 32 → Allows disconnecting.disconnects (λ full chain. HoldsBack full chain hash) (Disconnect hash)
+allows_disconnect hash long run is valid =
+    let full = IsFullOf longest_area run (Disconnect hash) in
+    let alone : IsValidBack ⊥ (chain_of run) hash = record { none = λ refusal low holds. valid.none refusal low (back_beside full (chain_of run) hash refusal holds) } in
+    let room : ¬ (longest_area < area_of run + record_length (Disconnect hash)) = valid.none disconnecting.JournalFull (omega arith) in
+    state_with run (Disconnect hash) is (alone, long) (omega (arith, room))
+
+-- ---- what was not done
+
+-- the new store is the old one, with an index that is handed back
+pub record IsHandedBack (old new : Stored) : Type 0 where
+  pub base : new.index.base ≡ old.index.base
+  pub host : new.host ≡ old.host
+  pub area : new.area ≡ old.area
+
+module _ (old new : Stored) (back : IsHandedBack old new) where
+  pub stands_same : (run : RunState) → StandsFor old run → chains.StandsFor new.index (chain_of run) → StandsFor new run
+  stands_same run s index = record { index = index; host = subst (λ (name : List ℕ). IsHostOf run.host name) (sym back.host) s.host; area = back.area ∙ s.area; is_state = s.is_state }
+
+  module _ {R : Type 0} (tells : Bool) (disk : DiskSeen) (on : IsTrue tells → IsOn old disk.moments.now) where
+    pub leaves_refused : (refusal : R) → LeavesDisk {R = R} tells disk disk (Refused new refusal)
+    leaves_refused refusal = record {
+      later = record { count = omega arith; at_limit = λ is. is };
+      worked = tt;
+      failed = tt;
+      still_on = λ told. on_again old new disk.moments.now (on told) back.base back.host back.area;
+      others = λ told. start (λ other differ. refl);
+    }
+
+    pub leaves_lacking : LeavesDisk {R = R} tells disk disk (NoMemory new)
+    leaves_lacking = record {
+      later = record { count = omega arith; at_limit = λ is. is };
+      worked = tt;
+      failed = tt;
+      still_on = λ told. on_again old new disk.moments.now (on told) back.base back.host back.area;
+      others = λ told. start (λ other differ. refl);
+    }
+
+    pub keeps_refused : (command : Command) (refusal : R) → KeepsOn {R = R} tells old command disk disk (Refused new refusal)
+    keeps_refused command refusal = λ told run s stands. record { done = tt; any_moment = stands_still tells told old disk disk (on told) run (accepted run command) stands }
+
+    pub keeps_lacking : (command : Command) → KeepsOn {R = R} tells old command disk disk (NoMemory new)
+    keeps_lacking command = λ told run s stands. record { done = tt; any_moment = stands_still tells told old disk disk (on told) run (accepted run command) stands }
+
+  module _ {M R : Type 0} (refusals : Refusals M) (Holds : Type 0 → Chain → M → Type 0) (command : Command) where
+    pub answers_refused : (seen : R → M) (refusal : R)
+        → ((chain : Chain) → chains.StandsFor old.index chain → IsRefusedFor refusals (Holds (IsFullWith old.area longest_area command) chain) chain (seen refusal) new.index)
+        → (run : RunState) → StandsFor old run → AnswersFor refusals (Holds (IsFullOf longest_area run command) (chain_of run)) seen run command (Refused new refusal)
+    answers_refused seen refusal staging run s =
+        let it = staging (chain_of run) s.index in (
+          subst (λ (a : ℕ). IsFirst (Holds (longest_area < a + record_length command) (chain_of run)) refusals.order (seen refusal)) s.area it.refuses,
+          stands_same run s it.stands,
+        )
+
+    pub answers_lacking : (seen : R → M)
+        → ((chain : Chain) → chains.StandsFor old.index chain → LacksMemoryFor refusals (Holds (IsFullWith old.area longest_area command) chain) chain new.index)
+        → (run : RunState) → StandsFor old run → AnswersFor refusals (Holds (IsFullOf longest_area run command) (chain_of run)) seen run command (NoMemory new)
+    answers_lacking seen staging run s =
+        let it = staging (chain_of run) s.index in (
+          subst (λ (a : ℕ). HasNoneBelow (Holds (longest_area < a + record_length command) (chain_of run)) refusals.order refusals.before_memory) s.area it.takes_memory,
+          stands_same run s it.stands,
+        )
+
+-- ---- what was staged
+
+-- the command is staged on the index of a store, of every chain that it stands for
+abbrev pub IsStagedOn : {M : Type 0} → Refusals M → (Type 0 → Chain → M → Type 0) → Command → Stored → (Indexed → Type 0) → (Indexed → Type 0) → Type 0
+IsStagedOn refusals Holds command old Commits Abandons =
+    (chain : Chain) → chains.StandsFor old.index chain → IsStagedFor refusals (Holds (IsFullWith old.area longest_area command) chain) chain command Commits Abandons
+
+module _ {M : Type 0} (refusals : Refusals M) (Holds : Type 0 → Chain → M → Type 0) (command : Command) (allows : Allows refusals Holds command) (old : Stored) (Commits Abandons : Indexed → Type 0)
+    (staged : IsStagedOn refusals Holds command old Commits Abandons) where
+  pub valid_of : (run : RunState) → StandsFor old run → HasNoneBelow (Holds (IsFullOf longest_area run command) (chain_of run)) refusals.order refusals.places
+  valid_of run s = subst (λ (a : ℕ). HasNoneBelow (Holds (longest_area < a + record_length command) (chain_of run)) refusals.order refusals.places) s.area (staged (chain_of run) s.index).valid
+
+  next_of : (run : RunState) → StandsFor old run → IsRunState (accepted run command)
+  next_of run s = allows run s.is_state (valid_of run s)
+
+  -- a fault comes only behind all refusals
+  pub keeps_faulted : {R : Type 0} (tells : Bool) (before after : DiskSeen) (result : Result ℕ Failed) → (IsTrue tells → IsOn old before.moments.now) → Keeps tells old.area (record_of command) before after result
+      → KeepsOn {R = R} tells old command before after Faulted
+  keeps_faulted tells before after result on kept = λ told run s stands. record {
+    done = tt;
+    any_moment = each_stands tells told old before after (on told) (record_of command) result kept run command refl s.area (next_of run s) stands;
+  }
+
+  -- the new store is the old one, with an index behind the commit and an area that is longer by the command's record
+  pub record IsCommitted (new : Stored) : Type 0 where
+    pub commits : Commits new.index
+    pub host : new.host ≡ old.host
+    pub area : new.area ≡ old.area + record_length command
+
+  module _ (new : Stored) (done : IsCommitted new) where
+    stands_with : (run : RunState) → StandsFor old run → StandsFor new (accepted run command)
+    stands_with run s = record {
+      index = (staged (chain_of run) s.index).commits new.index done.commits;
+      host = subst (λ (name : List ℕ). IsHostOf run.host name) (sym done.host) s.host;
+      area = omega (arith, done.area, s.area);
+      is_state = next_of run s;
+    }
+
+    pub answers_done : {R : Type 0} (seen : R → M) (tip : Tip) → tip ≡ new.index.tip
+        → (run : RunState) → StandsFor old run → AnswersFor refusals (Holds (IsFullOf longest_area run command) (chain_of run)) seen run command (Done new tip)
+    answers_done seen tip same run s = (valid_of run s, done_is run command new tip (stands_with run s) same)
+
+    pub keeps_done : {R : Type 0} (tells : Bool) (before after : DiskSeen) (tip : Tip) (length_is : ℕ) → (IsTrue tells → IsOn old before.moments.now)
+        → Keeps tells old.area (record_of command) before after (Ok length_is) → KeepsOn {R = R} tells old command before after (Done new tip)
+    keeps_done tells before after tip length_is on kept = λ told run s stands. record {
+      done = stands_next tells told old before after (on told) (record_of command) length_is kept run command refl s.area (next_of run s) stands;
+      any_moment = each_stands tells told old before after (on told) (record_of command) (Ok length_is) kept run command refl s.area (next_of run s) stands;
+    }
+
+-- ---- the disk behind a command that was kept, or may have been
+
+module _ {R : Type 0} (tells : Bool) (before after : DiskSeen) (old : Stored) (record_is : List ℕ) where
+  pub leaves_faulted : (error : Failed) → Keeps tells old.area record_is before after (Err error) → LeavesDisk {R = R} tells before after Faulted
+  leaves_faulted error kept = record { later = kept.ends.later; worked = tt; failed = kept.ends.failed; still_on = λ told. tt; others = kept.others }
+
+  pub leaves_done : (new : Stored) (tip : Tip) (length_is : ℕ) → (IsTrue tells → IsOn old before.moments.now) → Keeps tells old.area record_is before after (Ok length_is)
+      → new.index.base ≡ old.index.base → new.host ≡ old.host → new.area ≡ length_is → LeavesDisk {R = R} tells before after (Done new tip)
+  leaves_done new tip length_is on kept base host area = record {
+    later = kept.ends.later;
+    worked = kept.ends.worked;
+    failed = tt;
+    still_on = λ told. on_next tells told old before after (on told) record_is length_is kept new base host area;
+    others = kept.others;
+  }
