@@ -1,14 +1,13 @@
 -- What a run over a stream read and wrote, and where its frames and replies led.
-use Rattle.std.specs.Prelude.{◌≡◌, ℕ, ◌+◌, ◌<◌, ◌≤◌, List, [], length}
+use Rattle.std.specs.Prelude.{◌≡◌, ◌⊎◌, ℕ, ◌+◌, ◌<◌, ◌≤◌, List, [], ◌∷◌, ◌++◌, length}
 use Rattle.std.specs.Io.KnownBytes.{Consumes, Appends, IsAtEnd}
 use Rattle.fault_counts.specs.Faults.{NeverFell}
 use Rattle.byte_io.specs.Source.{SourceSeen}
 use Rattle.byte_io.specs.Sink.{SinkSeen}
-use Rattle.feed_frames.specs.Frames.{Frame, IsBadFrame, IsPartialFrame}
-use Rattle.feed_frames.specs.Replies.{Reply}
+use Rattle.feed_frames.specs.Frames.{Frame, Splits, IsBadFrame, IsPartialFrame}
+use Rattle.feed_frames.specs.Replies.{Reply, reply_text, replies_text}
 use Rattle.feed_frames.specs.declared.reader.TheConstants.{PIECE}
 use Rattle.frame_loop.specs.Causes.{SourceCause, SinkCause}
-use Rattle.frame_loop.specs.Answering.{SoFar, Interrupted, BrokenOff}
 use Rattle.frame_loop.specs.declared.following.Ending.{Ending}
 use Rattle.frame_loop.specs.declared.following.Ending.TheVariants.{Done, BadFrame, CutFrame, SourceFault, SinkFault, Ended, InputLimit}
 
@@ -19,6 +18,40 @@ pub record Streams : Type 0 where
 
 abbrev pub streams : SourceSeen → SinkSeen → Streams
 streams source sink = record { source = source; sink = sink }
+
+-- the bytes read so far are whole frames and a rest, what was written is the replies to them, and they lead here
+pub record SoFar {X : Type 0} (kinds : ℕ) (Reached : List Frame → List Reply → X → Type 0) (read rest written : List ℕ) (now : X) : Type 0 where
+  pub frames : List Frame
+  pub replies : List Reply
+  pub split : Splits kinds read frames rest
+  pub reached : Reached frames replies now
+  pub told : written ≡ replies_text replies
+
+-- the same up to the last reply, of which the end is missing; no frame behind it was dealt with
+pub record Interrupted {X : Type 0} (kinds : ℕ) (Reached : List Frame → List Reply → X → Type 0) (read rest written : List ℕ) (now : X) : Type 0 where
+  pub frames : List Frame
+  pub replies : List Reply
+  pub last : Reply
+  pub split : Splits kinds read frames rest
+  pub reached : Reached frames (replies ++ last ∷ []) now
+  pub part : List ℕ
+  pub missing : List ℕ
+  pub last_is : reply_text last ≡ part ++ missing
+  pub some_missing : 0 < length missing
+  pub told : written ≡ replies_text replies ++ part
+
+-- the last frame led to the end, and its reply is whole, or else this failed
+pub record BrokenOff {X : Type 0} (kinds : ℕ) (failed : Type 0) (Broken : List Frame → List Reply → X → Type 0) (read rest written : List ℕ) (now : X) : Type 0 where
+  pub frames : List Frame
+  pub replies : List Reply
+  pub last : Reply
+  pub split : Splits kinds read frames rest
+  pub broken : Broken frames (replies ++ last ∷ []) now
+  pub part : List ℕ
+  pub missing : List ℕ
+  pub last_is : reply_text last ≡ part ++ missing
+  pub whole : (missing ≡ []) ⊎ failed
+  pub told : written ≡ replies_text replies ++ part
 
 -- the source was read to its end, and each byte belongs to a whole frame
 pub record IsDone {X : Type 0} (kinds : ℕ) (Reached : List Frame → List Reply → X → Type 0) (new : Streams) (limit : ℕ) (read written : List ℕ) (now : X) : Type 0 where

@@ -4,6 +4,7 @@ ghost use Rattle.frame_loop.specs.Transcript.{Follows, streams};
 use crate::answerer::Answerer;
 use crate::answering::{Halted, answer_all};
 use crate::filling::{Buffers, fill};
+use crate::outlet::ToSink;
 use byte_io::{Sink, Source};
 use feed_frames::PIECE;
 use nmc_base::Steps;
@@ -50,7 +51,7 @@ pub fn follow<W, T: Answerer<W>, S: Source, K: Sink, L: Ledger>(
     let mut read: u64 = 0;
     buffers.frames.restart(T::KINDS);
     'pieces: loop {
-        match answer_all(
+        match answer_all::<W, T, K, ToSink, L>(
             alloc,
             answerer,
             world,

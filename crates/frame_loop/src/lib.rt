@@ -7,13 +7,16 @@ mod delivery;
 mod filling;
 mod following;
 mod law;
+mod outlet;
 mod reply;
 
 pub use answerer::{Answerer, Over, QUERY};
+pub use answering::{Halted, answer_all};
 pub use delivery::{Undelivered, deliver};
 pub use filling::Buffers;
 pub use following::{Ending, follow};
 pub use law::one_ending;
+pub use outlet::{Outlet, ToSink};
 pub use reply::{LONGEST_REPLY, ReplyBuf};
 
 #[cfg(test)]
