@@ -7,10 +7,10 @@ use Rattle.chain_names.specs.Refusals.{number_of}
 use Rattle.chain_commands.specs.Connecting.{Refusal, BadBlock, NotOnTip, HeightLimit, MerkleMismatch, Rule, JournalFull, refusal_reply}
 use Rattle.chain_commands.specs.Disconnecting as back
 use Rattle.chain_commands.specs.Disconnecting.{BackRefusal, AtBase, NotTip, back_reply}
-use Rattle.chain_commands.specs.Reply.{no_memory_reply}
 use Rattle.chain_commands.proofs.CommandLemmas.{coded, coded_back}
 use Rattle.chain_commands.proofs.RefusalLemmas.{code_of}
 use Rattle.bridge_core.specs.Bridge.{fault_code}
+use Rattle.bridge_core.proofs.TurnLemmas.{IsOther}
 
 -- a rule's number
 numbered : (r : RuleRefusal) → number_of r ≤ 28
@@ -51,17 +51,14 @@ no_fault : (a b : Reply) → a ≡ b → b.code ≤ 28 → a.code ≡ fault_code
 no_fault a b e small is = let same = code_of a b e in omega arith
 
 module _ (reply : Reply) where
-  pub refused_not_done : (r : Refusal) → reply ≡ refusal_reply r → reply.code ≡ 0 → ⊥
-  refused_not_done r e done = coded r (sym (code_of reply (refusal_reply r) e) ∙ done)
+  pub refused_is_other : (r : Refusal) → reply ≡ refusal_reply r → IsOther reply
+  refused_is_other r e = record {
+    not_done = λ done. coded r (sym (code_of reply (refusal_reply r) e) ∙ done);
+    no_fault = λ is. no_fault reply (refusal_reply r) e (refusal_small r) is;
+  }
 
-  pub refused_no_fault : (r : Refusal) → reply ≡ refusal_reply r → reply.code ≡ fault_code → ⊥
-  refused_no_fault r e is = no_fault reply (refusal_reply r) e (refusal_small r) is
-
-  pub back_not_done : (r : BackRefusal) → reply ≡ back_reply r → reply.code ≡ 0 → ⊥
-  back_not_done r e done = coded_back r (sym (code_of reply (back_reply r) e) ∙ done)
-
-  pub back_no_fault : (r : BackRefusal) → reply ≡ back_reply r → reply.code ≡ fault_code → ⊥
-  back_no_fault r e is = no_fault reply (back_reply r) e (back_small r) is
-
-  pub lacking_not_done : reply ≡ no_memory_reply → reply.code ≡ 0 → ⊥
-  lacking_not_done e done = let same = code_of reply no_memory_reply e in omega arith
+  pub back_is_other : (r : BackRefusal) → reply ≡ back_reply r → IsOther reply
+  back_is_other r e = record {
+    not_done = λ done. coded_back r (sym (code_of reply (back_reply r) e) ∙ done);
+    no_fault = λ is. no_fault reply (back_reply r) e (back_small r) is;
+  }

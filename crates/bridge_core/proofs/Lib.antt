@@ -1,7 +1,6 @@
 pub mod CodeLemmas
 pub mod FileLemmas
 pub mod TurnLemmas
-pub mod KeptLemmas
 pub mod ReachedLemmas
 pub mod AnsweringLemmas
 pub mod OutcomeLemmas
@@ -10,3 +9,4 @@ pub mod DumpingLemmas
 pub mod ServingLemmas
 pub mod WordLemmas
 pub mod StatusLemmas
+pub mod MakingLemmas

@@ -2,7 +2,8 @@
 use Rattle.std.proofs.Common.{◌≡◌, inl, Bool, [], Some, None, Err, Ok, refl, sym, subst, arith}
 use Rattle.std.specs.Prelude.{IsTrue}
 use Rattle.fault_counts.specs.Faults.{NeverFell, Rose}
-use Rattle.disk_model.specs.Moments.{EachMoment, start}
+use Rattle.disk_model.specs.Moments.{EachMoment}
+use Rattle.disk_model.specs.Moments as moments
 use Rattle.disk_model.specs.DiskSeen.{DiskSeen, HasFailed, bytes_in}
 use Rattle.disk_model.proofs.MomentLemmas.{weaken}
 use Rattle.disk_model.proofs.ImageLemmas.{KeepsSettled-images}
@@ -18,7 +19,7 @@ use Rattle.name_store.specs.Stands.{Stands}
 use Rattle.name_store.specs.Stored.{Stored}
 use Rattle.bridge_core.specs.Bridge.{AreFilesOf}
 use Rattle.bridge_core.specs.Opening.{status_of_fault, HasOpened, WritesNothing, IsUnbegun, uninitialised, damaged, disk_fault, no_memory, EndsWell, lacks_memory}
-use Rattle.bridge_core.specs.Reached.{Beginning, Begins, none_yet, asked, LeavesOldOrFront, LeadsTo, IsReached}
+use Rattle.bridge_core.specs.Reached.{Beginning, Begins, Passes, none_yet, asked, LeavesOldOrFront, LeadsTo, IsReached}
 use Rattle.bridge_core.proofs.FileLemmas.{files_of}
 use Rattle.bridge_core.proofs.ReachedLemmas.{front_of_all}
 
@@ -37,21 +38,24 @@ module _ {D : Type 0} (tells : Bool) (seen : D → DiskSeen) (begun : Beginning 
   files_first run b told =
       files_of begun.bridge (seen begun.opened) (o.opened told).on_disk run (stands_alike begun.before (seen begun.opened) run (o.synced told) (b.files told))
 
-  leads_first : (run : RunState) → Begins tells begun run → LeadsTo (none_yet {tells = tells} {seen = seen} {start = begun}) run
+  abbrev no_turn : Passes tells seen begun [] [] begun.bridge begun.opened
+  no_turn = none_yet
+
+  leads_first : (run : RunState) → Begins tells begun run → LeadsTo no_turn run
   leads_first run b = record {
     new = run;
     runs = refl;
     stands = b.stands;
     files = λ told. files_first run b told;
     any_moment = λ told. weaken (LeavesOldOrFront begun.before run (asked [] [] None)) (λ files kept image_is is. inl (KeepsSettled-images begun.before.moments.now files image_is kept is)) (o.writes_nothing.any_moment told);
-    acknowledged = λ told. start (λ image_is is. inl (front_of_all run {events = []} {replies = []} 0 (omega arith) refl ((files_first run b told).each image_is is)));
+    acknowledged = λ told. moments.start (λ image_is is. inl (front_of_all run {events = []} {replies = []} 0 (omega arith) refl ((files_first run b told).each image_is is)));
   }
 
   pub first_reached : IsReached tells seen begun [] [] begun.bridge begun.opened
   first_reached = record {
     events = [];
     frames_are = refl;
-    passes = none_yet;
+    passes = no_turn;
     later = o.later;
     each = λ run b. leads_first run b;
   }

@@ -12,11 +12,12 @@ use Rattle.frame_loop.specs.Outcome as outcomes
 use Rattle.frame_loop.specs.declared.following.Ending.{Ending}
 use Rattle.frame_loop.specs.declared.following.Ending.TheVariants as endings
 use Rattle.frame_loop.proofs.OutcomeLemmas as loop_outcomes
+use Rattle.chain_commands.specs.Event.{last_kind}
 use Rattle.name_store.specs.declared.faults.OpenFault.{OpenFault}
 use Rattle.name_store.specs.declared.faults.OpenFault.TheVariants as faults
 use Rattle.bridge_core.specs.Reached.{Beginning, HasReached, Reached, Broken, IsBroken}
-use Rattle.bridge_core.specs.Outcome.{Outside, IsDetermined, IsComplete, whole, bad, cut, over, uninitialised, damaged, lacking}
-use Rattle.bridge_core.specs.Opening.{status_of_fault, HasOpened, is_done}
+use Rattle.bridge_core.specs.Outcome.{Outside, IsDecided, IsDetermined, IsComplete, whole, bad, cut, over, uninitialised, damaged, lacking}
+use Rattle.bridge_core.specs.Opening.{status_of_fault, HasOpened, EndsWell, is_done}
 use Rattle.bridge_core.specs.Replaying.{status_of_ending, EndsSo, unbegun, ended, Replays}
 use Rattle.bridge_core.specs.declared.bridge.Turned.{Turned}
 use Rattle.bridge_core.specs.declared.bridge.Turned.TheVariants.{On, Ended}
@@ -43,7 +44,7 @@ pub record Loop {D : Type 0} (s : Scene D) : Type 0 where
   pub opened : HasOpened s.tells s.old.disk (s.seen begun.opened) begun.bridge
   pub how : Ending
   pub last : Turned
-  pub transcript : Transcript (Reached s.tells s.seen begun) (Broken s.tells s.seen begun) s.old.streams s.new.streams s.limit how (last, s.disk)
+  pub transcript : Transcript last_kind (Reached s.tells s.seen begun) (Broken s.tells s.seen begun) s.old.streams s.new.streams s.limit how (last, s.disk)
   pub source_later : NeverFell s.old.streams.source.faults s.new.streams.source.faults
   pub sink_later : NeverFell s.old.streams.sink.faults s.new.streams.sink.faults
   pub now : s.seen s.disk ≡ s.new.disk
@@ -56,7 +57,7 @@ module _ {D : Type 0} (s : Scene D) (l : Loop s) where
   Breaks = Broken s.tells s.seen l.begun
 
   abbrev EndedBy : Ending → Type 0
-  EndedBy how = loops.Ends Reaches Breaks s.old.streams s.new.streams s.limit (passed l.transcript.read l.transcript.written) how (l.last, s.disk)
+  EndedBy how = loops.Ends last_kind Reaches Breaks s.old.streams s.new.streams s.limit (passed l.transcript.read l.transcript.written) how (l.last, s.disk)
 
   -- the counts of the disk at the start and at the end
   around : (P : (before after : DiskSeen) → Type 0) → P l.begun.before (s.seen s.disk) → P s.old.disk s.new.disk
@@ -80,26 +81,20 @@ module _ {D : Type 0} (s : Scene D) (l : Loop s) where
   fault_rose : l.how ≡ endings.Ended → Rose s.old.disk.faults s.new.disk.faults
   fault_rose is = around (λ before after. Rose before.faults after.faults) (subst (λ (how : Ending). EndedBy how) is l.transcript.ending).broken_off.broken.rose.rose
 
-  loop_determined : outcomes.IsDetermined s.old.streams s.new.streams s.limit l.how
+  loop_determined : outcomes.IsDetermined last_kind s.old.streams s.new.streams s.limit l.how
   loop_determined = loop_outcomes.determined Reaches Breaks s.old.streams s.new.streams s.limit l.how (l.last, s.disk) l.transcript
 
-  determined : (how : Ending) → l.how ≡ how → outcomes.IsDetermined s.old.streams s.new.streams s.limit how → IsDetermined s.old s.new s.limit (status_of_ending how)
-  determined endings.Done is d = λ bytes frames rest left split is_rest well. whole (d bytes frames rest left split is_rest well.streams)
-  determined (endings.BadFrame offset) is d = λ bytes frames rest left split is_rest well. bad offset (d bytes frames rest left split is_rest well.streams)
-  determined (endings.CutFrame offset) is d = λ bytes frames rest left split is_rest well. cut offset (d bytes frames rest left split is_rest well.streams)
-  determined endings.InputLimit is d = λ bytes frames rest left split is_rest well. over (d bytes frames rest left split is_rest well.streams)
-  determined endings.SourceFault is d = λ bytes frames rest left split is_rest well. absurd (d bytes frames rest left split is_rest well.streams)
-  determined endings.SinkFault is d = λ bytes frames rest left split is_rest well. absurd (d bytes frames rest left split is_rest well.streams)
-  determined endings.Ended is d = λ bytes frames rest left split is_rest well. absurd (well.disk (fault_rose is))
+  decided : {bytes : List ℕ} {frames : List Frame} {rest : List ℕ} {how : Ending} → ¬ (how ≡ endings.Ended) → outcomes.IsOutcome last_kind s.limit bytes frames rest how
+      → IsDecided s.limit bytes frames rest (status_of_ending how)
+  decided not_ended (outcomes.whole o) = whole o
+  decided not_ended (outcomes.bad offset o) = bad offset o
+  decided not_ended (outcomes.cut offset o) = cut offset o
+  decided not_ended (outcomes.over o) = over o
+  decided not_ended outcomes.broken = absurd (not_ended refl)
 
-  complete : (how : Ending) → l.how ≡ how → outcomes.IsComplete s.old.streams s.new.streams s.limit how → IsComplete s.tells s.old s.new s.limit (status_of_ending how)
-  complete endings.Done is c = λ tells run stands bytes frames left split below well. is_done
-  complete (endings.BadFrame offset) is c = λ tells run stands bytes frames left split below well. absurd (c bytes frames left split below well.streams)
-  complete (endings.CutFrame offset) is c = λ tells run stands bytes frames left split below well. absurd (c bytes frames left split below well.streams)
-  complete endings.InputLimit is c = λ tells run stands bytes frames left split below well. absurd (c bytes frames left split below well.streams)
-  complete endings.SourceFault is c = λ tells run stands bytes frames left split below well. absurd (c bytes frames left split below well.streams)
-  complete endings.SinkFault is c = λ tells run stands bytes frames left split below well. absurd (c bytes frames left split below well.streams)
-  complete endings.Ended is c = λ tells run stands bytes frames left split below well. absurd (well.disk (fault_rose is))
+  completed : {how : Ending} → ¬ (how ≡ endings.Ended) → outcomes.EndsWell how → EndsWell (status_of_ending how)
+  completed not_ended outcomes.all_answered = is_done
+  completed not_ended outcomes.ended_before = absurd (not_ended refl)
 
   pub replays_loop : Replays s.tells s.seen s.disk s.old s.new s.limit (status_of_ending l.how)
   replays_loop = record {
@@ -107,8 +102,9 @@ module _ {D : Type 0} (s : Scene D) (l : Loop s) where
     sink_later = l.sink_later;
     disk_later = disk_later;
     ending = ended l.how (record { start = l.begun; start_is = l.begun_is; opened = l.opened; last = l.last; transcript = l.transcript });
-    determined = determined l.how refl loop_determined;
-    complete = complete l.how refl (loop_outcomes.complete s.old.streams s.new.streams s.limit l.how loop_determined);
+    determined = λ bytes frames rest left split is_rest well. decided (λ is. well.disk (fault_rose is)) (loop_determined bytes frames rest left split is_rest well.streams);
+    complete = λ told run stands bytes frames left split below well.
+        completed (λ is. well.disk (fault_rose is)) (loop_outcomes.complete s.old.streams s.new.streams s.limit l.how loop_determined bytes frames left split below well.streams);
   }
 
 -- ---- files that weren't opened

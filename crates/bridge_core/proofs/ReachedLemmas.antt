@@ -76,8 +76,8 @@ module _ (run : RunState) where
     stands = f.stands;
   }
 
-  pub leaves_fewer : {least most : ℕ} {so_far : Asked} → least ≤ most → (files : Files) → LeavesFront run most so_far files → LeavesFront run least so_far files
-  leaves_fewer fewer files leaves = λ image_is is. elim (leaves image_is is) [ inl f ↦ inl (front_fewer fewer f) | inr kept ↦ inr kept ]
+  pub leaves_fewer : {least most : ℕ} (so_far : Asked) → least ≤ most → (files : Files) → LeavesFront run most so_far files → LeavesFront run least so_far files
+  leaves_fewer so_far fewer files leaves = λ image_is is. elim (leaves image_is is) [ inl f ↦ inl (front_fewer fewer f) | inr kept ↦ inr kept ]
 
   -- what stands for a front of these events stands for one of more
   pub leaves_more : {least : ℕ} {events : List Event} {replies : List Reply} (event : Event) (reply : Reply) (files : Files)
@@ -94,10 +94,10 @@ module _ (run : RunState) where
       → length events ≤ most → ((least : ℕ) (files : Files) → LeavesFront run least few files → LeavesFront run least many files)
       → EachMoment (LeavesFront run most many) mid.moments now.moments → HoldsAnswered run few mid passes → HoldsAnswered run many now passes
   holds_more few many most mid now none_yet no_more more turn held =
-      join (weaken (LeavesFront run 0 many) (more 0) held) (weaken (LeavesFront run 0 many) (leaves_fewer {so_far = many} (omega arith)) turn)
+      join (weaken (LeavesFront run 0 many) (more 0) held) (weaken (LeavesFront run 0 many) (leaves_fewer many (omega arith)) turn)
   holds_more few many most mid now (one_more {events = events} event reply new after before by) no_more more turn held =
       let here : length events + 1 ≤ most = omega (arith, no_more, length-append events (event ∷ [])) in
-      (join (weaken (LeavesFront run (length events + 1) many) (more (length events + 1)) held.0) (weaken (LeavesFront run (length events + 1) many) (leaves_fewer {so_far = many} here) turn),
+      (join (weaken (LeavesFront run (length events + 1) many) (more (length events + 1)) held.0) (weaken (LeavesFront run (length events + 1) many) (leaves_fewer many here) turn),
       holds_more few many most mid now before (omega (arith, here)) more turn held.1)
 
 -- ---- the state behind one step
@@ -191,7 +191,7 @@ module _ {D : Type 0} (tells : Bool) (seen : D → DiskSeen) (begun : Beginning 
             | inl there ↦ inl there
             | inr so ↦ inr (elim so [ inl f ↦ inl (front_more run event reply f) | inr none ↦ absurd none ])
           ]) (led.any_moment told))
-          (weaken (LeavesOldOrFront begun.before run with_event) (λ files leaves image_is is. inr (leaves_fewer run {so_far = with_event} (omega arith) files leaves image_is is)) (moments_by told came));
+          (weaken (LeavesOldOrFront begun.before run with_event) (λ files leaves image_is is. inr (leaves_fewer run with_event (omega arith) files leaves image_is is)) (moments_by told came));
       acknowledged = λ told.
           (start (λ image_is is. inl (front_of_all run (length r.events + 1) (omega (arith, length-append r.events (event ∷ []))) runs_next ((files_by told came).each image_is is))),
           holds_more run (asked r.events replies None) with_event (length r.events) (seen before) (seen after) r.passes (omega arith) (λ least files leaves. leaves_more run event reply files leaves)
@@ -241,7 +241,7 @@ module _ {D : Type 0} (tells : Bool) (seen : D → DiskSeen) (begun : Beginning 
               | inl there ↦ inl there
               | inr so ↦ inr (elim so [ inl f ↦ inl f | inr none ↦ absurd none ])
             ]) (led_to.any_moment told))
-            (weaken (LeavesOldOrFront begun.before run keeping) (λ files leaves image_is is. inr (leaves_fewer run {so_far = keeping} (omega arith) files leaves image_is is)) (moments_broken told));
+            (weaken (LeavesOldOrFront begun.before run keeping) (λ files leaves image_is is. inr (leaves_fewer run keeping (omega arith) files leaves image_is is)) (moments_broken told));
         acknowledged = λ told.
             holds_more run (asked r.events replies None) keeping (length r.events) (seen before) (seen after) r.passes (omega arith) (λ least files leaves. leaves_kept run keeping.kept files leaves)
             (moments_broken told) (led_to.acknowledged told);

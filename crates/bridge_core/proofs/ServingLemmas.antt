@@ -9,6 +9,7 @@ use Rattle.disk_model.specs.DiskSeen.{DiskSeen}
 use Rattle.port_loop.specs.Transcript.{Transcript, Attends}
 use Rattle.port_loop.specs.declared.attending.Ending.{Ending}
 use Rattle.port_loop.specs.declared.attending.Ending.TheVariants as endings
+use Rattle.chain_commands.specs.Event.{last_kind}
 use Rattle.name_store.specs.declared.faults.OpenFault.{OpenFault}
 use Rattle.name_store.specs.Stored.{Stored}
 use Rattle.bridge_core.specs.Opening.{status_of_fault, HasOpened, EndsWell, is_done}
@@ -40,12 +41,12 @@ pub record Loop {D : Type 0} (s : Scene D) : Type 0 where
   pub reached : IsReached s.tells s.seen begun [] [] begun.bridge begun.opened
   pub how : Ending
   pub last : Turned
-  pub attends : Attends (Reached s.tells s.seen) (Broken s.tells s.seen) mid s.new.port s.plan.turns (On begun.bridge, begun.opened) how (last, s.disk)
+  pub attends : Attends last_kind (Reached s.tells s.seen) (Broken s.tells s.seen) mid s.new.port s.plan.turns (On begun.bridge, begun.opened) how (last, s.disk)
   pub now : s.seen s.disk ≡ s.new.disk
 
 module _ {D : Type 0} (s : Scene D) (l : Loop s) where
   abbrev EndsBy : Ending → Type 0
-  EndsBy how = Transcript (Reached s.tells s.seen) (Broken s.tells s.seen) s.plan.turns l.attends.notes (On l.begun.bridge, l.begun.opened) how (l.last, s.disk)
+  EndsBy how = Transcript last_kind (Reached s.tells s.seen) (Broken s.tells s.seen) s.plan.turns l.attends.notes (On l.begun.bridge, l.begun.opened) how (l.last, s.disk)
 
   added : Adds s.old.port.notes s.new.port.notes l.attends.notes
   added = λ after told.

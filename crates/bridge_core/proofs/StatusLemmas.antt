@@ -2,22 +2,24 @@
 use Rattle.std.proofs.Common.{◌≡◌, ℕ, Bool, List, Some, subst}
 use Rattle.nmc_base.specs.declared.chain_ends.Base.{Base}
 use Rattle.name_store.specs.declared.faults.OpenFault.TheVariants as faults
-use Rattle.name_store.specs.Stands.{Bytes}
-use Rattle.bridge_core.specs.Making.{InitAnswer}
+use Rattle.disk_model.specs.DiskSeen.{DiskSeen}
+use Rattle.bridge_core.specs.Making.{InitEnds, made, stays, failed}
 use Rattle.bridge_core.specs.declared.status.Status.{Status}
 use Rattle.bridge_core.specs.declared.status.Status.TheVariants.{Done, Words, Initialised, DiskFault}
 use Rattle.bridge_core.specs.declared.words.Command.TheVariants.{Init, Serve}
 use Rattle.bridge_core.specs.declared.words.Plan.{Plan}
 
-pub done_not_initialised : {P : Type 0} → Done ≡ Initialised → P
-done_not_initialised e = cc
+pub initialised_not_done : {P : Type 0} → Initialised ≡ Done → P
+initialised_not_done e = cc
 
-pub done_not_fault : {P : Type 0} → Done ≡ DiskFault → P
-done_not_fault e = cc
+pub fault_not_done : {P : Type 0} → DiskFault ≡ Done → P
+fault_not_done e = cc
 
 -- `init` never ends for its words
-pub init_not_words : (tells : Bool) (old : Bytes) (status : Status) → InitAnswer tells old status → status ≡ Words → ⊥
-init_not_words tells old status answer is = subst (λ (s : Status). InitAnswer tells old s) is answer
+pub init_not_words : {tells : Bool} {old new : DiskSeen} {status : Status} → InitEnds tells old new status → status ≡ Words → ⊥
+init_not_words (made was) e = cc
+init_not_words (stays was only) e = cc
+init_not_words (failed has) e = cc
 
 pub same_base : (found base : Base) (host name : List ℕ) → Some (Init found host) ≡ Some (Init base name) → found ≡ base
 same_base found base host name e = cc

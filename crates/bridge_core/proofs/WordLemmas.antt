@@ -1,5 +1,5 @@
 -- The words of a command line, both ways.
-use Rattle.std.proofs.Common.{◌≡◌, ℕ, ◌<◌, ◌≤◌, ◌^◌, List, [], ◌∷◌, length, get_or, Ok, Err, Option, Some, sym, ap, subst, ◌∙◌, arith, inl, inr}
+use Rattle.std.proofs.Common.{◌≡◌, ℕ, ◌<◌, ◌≤◌, ◌^◌, List, [], ◌∷◌, length, get_or, Ok, Err, Option, Some, None, sym, ap, subst, ◌∙◌, arith, inl, inr}
 use Rattle.std.specs.Prelude.{slice_index}
 use Rattle.std.specs.Fmt.{decimal}
 use Rattle.std.specs.Str.{IsUtf8}
@@ -66,14 +66,19 @@ pub record HasFields (words : List (List ℕ)) : Type 0 where
   pub host_at : host ≡ get_or words 4 host
   pub long : 5 ≤ length words
 
--- a command whose fields they are is the one that is asked for
-pub asked_by : (words : List (List ℕ)) (has : HasFields words) (found : Option Command)
-    → ((base : Base) (name : List ℕ) → AreFields has.height has.hash has.host base name → found ≡ Some (Init base name))
-    → (asked : Command) → Asks words asked → found ≡ Some asked
+-- the command of what was found there
+abbrev pub init_of : Option (Base × List ℕ) → Option Command
+init_of None = None
+init_of (Some made) = Some (Init made.0 made.1)
+
+-- the command whose fields they are is the one that is asked for
+pub asked_by : (words : List (List ℕ)) (has : HasFields words) (found : Option (Base × List ℕ))
+    → ((base : Base) (name : List ℕ) → AreFields has.height has.hash has.host base name → found ≡ Some (base, name))
+    → (asked : Command) → Asks words asked → init_of found ≡ Some asked
 asked_by words has found one Replay is = absurd (omega (arith, has.long, ap length is))
 asked_by words has found one Dump is = absurd (omega (arith, has.long, ap length is))
 asked_by words has found one (Serve plan) is = absurd (omega (arith, has.long, ap length is.words_are))
-asked_by words has found one (Init base name) is =
+asked_by words has found one (Init base name) is = ap init_of (
     let height : has.height ≡ is.height = has.height_at ∙ ap (λ (w : List (List ℕ)). get_or w 2 has.height) is.words_are in
     let hash : has.hash ≡ is.hash = has.hash_at ∙ ap (λ (w : List (List ℕ)). get_or w 3 has.hash) is.words_are in
     let host : has.host ≡ is.host = has.host_at ∙ ap (λ (w : List (List ℕ)). get_or w 4 has.host) is.words_are in
@@ -82,7 +87,7 @@ asked_by words has found one (Init base name) is =
       height_is = subst (λ (t : List ℕ). IsHeight t base.height) (sym height) is.fields.height_is;
       hash_is = subst (λ (t : List ℕ). IsHash t base.hash.0) (sym hash) is.fields.hash_is;
       host_is = subst (λ (t : List ℕ). IsHostOf t name) (sym host) is.fields.host_is;
-    })
+    }))
 
 -- ---- four words
 
@@ -96,14 +101,19 @@ pub record HasNumbers (words : List (List ℕ)) : Type 0 where
   pub turns_at : turns ≡ get_or words 3 turns
   pub long : length words ≡ 4
 
--- a command whose numbers they are is the one that is asked for
-pub served_by : (words : List (List ℕ)) (has : HasNumbers words) (found : Option Command)
-    → ((plan : Plan) → AreNumbers has.udp has.feed has.turns plan → found ≡ Some (Serve plan))
-    → (asked : Command) → Asks words asked → found ≡ Some asked
+-- the command of what was found there
+abbrev pub serve_of : Option Plan → Option Command
+serve_of None = None
+serve_of (Some plan) = Some (Serve plan)
+
+-- the command whose numbers they are is the one that is asked for
+pub served_by : (words : List (List ℕ)) (has : HasNumbers words) (found : Option Plan)
+    → ((plan : Plan) → AreNumbers has.udp has.feed has.turns plan → found ≡ Some plan)
+    → (asked : Command) → Asks words asked → serve_of found ≡ Some asked
 served_by words has found one Replay is = absurd (omega (arith, has.long, ap length is))
 served_by words has found one Dump is = absurd (omega (arith, has.long, ap length is))
 served_by words has found one (Init base name) is = absurd (omega (arith, has.long, ap length is.words_are))
-served_by words has found one (Serve plan) is =
+served_by words has found one (Serve plan) is = ap serve_of (
     let udp : has.udp ≡ is.udp = has.udp_at ∙ ap (λ (w : List (List ℕ)). get_or w 1 has.udp) is.words_are in
     let feed : has.feed ≡ is.feed = has.feed_at ∙ ap (λ (w : List (List ℕ)). get_or w 2 has.feed) is.words_are in
     let turns : has.turns ≡ is.turns = has.turns_at ∙ ap (λ (w : List (List ℕ)). get_or w 3 has.turns) is.words_are in
@@ -111,4 +121,4 @@ served_by words has found one (Serve plan) is =
       udp_is = subst (λ (t : List ℕ). IsPort t plan.udp) (sym udp) is.numbers.udp_is;
       feed_is = subst (λ (t : List ℕ). IsPort t plan.feed) (sym feed) is.numbers.feed_is;
       turns_are = subst (λ (t : List ℕ). AreTurns t plan.turns) (sym turns) is.numbers.turns_are;
-    })
+    }))

@@ -1,15 +1,23 @@
 -- What `init` comes to.
-use Rattle.std.specs.Prelude.{◌≡◌, ℕ, Bool, IsTrue, List}
+use Rattle.std.specs.Prelude.{◌≡◌, ℕ, Bool, IsTrue, List, Result, Ok, Err}
 use Rattle.fault_counts.specs.Faults.{NeverFell}
 use Rattle.nmc_base.specs.declared.chain_ends.Base.{Base}
 use Rattle.disk_model.specs.Moments.{EachMoment}
 use Rattle.disk_model.specs.Changes.{LeavesFrom}
 use Rattle.disk_model.specs.DiskSeen.{DiskSeen, HasFailed, file_in, bytes_in}
+use Rattle.name_store.specs.declared.faults.CreateFault.{CreateFault}
+use Rattle.name_store.specs.declared.faults.CreateFault.TheVariants as faults
 use Rattle.name_store.specs.Header.{IsInitialised, IsUninitialised}
 use Rattle.name_store.specs.Making.{IsEmpty, EachIsBegun, OnlyReads}
 use Rattle.name_store.specs.Stands.{EachStands, begun_on}
 use Rattle.bridge_core.specs.declared.status.Status.{Status}
 use Rattle.bridge_core.specs.declared.status.Status.TheVariants.{Done, Initialised, DiskFault}
+
+-- the status of a making that ended so
+abbrev pub status_of_making : Result (Unit {0}) CreateFault → Status
+status_of_making (Ok done) = Done
+status_of_making (Err faults.Initialised) = Initialised
+status_of_making (Err faults.DiskFault) = DiskFault
 
 -- Files that are initialised stay as they are, and others are made. A fault of the disk may stand in the place of both, and
 -- there is no other status. Where the disk doesn't tell its files, nothing is said of them.

@@ -1,5 +1,5 @@
 -- Where the frames of a run have led the bridge and its files.
-use Rattle.std.specs.Prelude.{◌≡◌, ◌⊎◌, ◌×◌, ℕ, ◌+◌, ◌≤◌, Option, Some, None, Bool, IsTrue, List, [], ◌∷◌, ◌++◌, length, map}
+use Rattle.std.specs.Prelude.{◌≡◌, ◌⊎◌, ℕ, ◌+◌, ◌≤◌, Option, Some, None, Bool, IsTrue, List, [], ◌∷◌, ◌++◌, length, map}
 use Rattle.fault_counts.specs.Faults.{NeverFell}
 use Rattle.disk_model.specs.Moments.{Files, EachMoment, IsImage}
 use Rattle.disk_model.specs.DiskSeen.{DiskSeen, HasFailed, bytes_in}

@@ -5,6 +5,7 @@ use Rattle.disk_model.specs.DiskSeen.{DiskSeen}
 use Rattle.frame_loop.specs.Transcript.{Transcript}
 use Rattle.frame_loop.specs.declared.following.Ending.{Ending}
 use Rattle.frame_loop.specs.declared.following.Ending.TheVariants as endings
+use Rattle.chain_commands.specs.Event.{last_kind}
 use Rattle.bridge_core.specs.Reached.{Beginning, Reached, Broken}
 use Rattle.bridge_core.specs.Opening.{IsUnbegun, HasOpened, WritesNothing}
 use Rattle.bridge_core.specs.Outcome.{Outside, IsDetermined, IsComplete}
@@ -28,7 +29,7 @@ pub record EndsSo {D : Type 0} (tells : Bool) (seen : D → DiskSeen) (disk : D)
   pub start_is : start.before ≡ old.disk
   pub opened : HasOpened tells old.disk (seen start.opened) start.bridge
   pub last : Turned
-  pub transcript : Transcript (Reached tells seen start) (Broken tells seen start) old.streams new.streams limit how (last, disk)
+  pub transcript : Transcript last_kind (Reached tells seen start) (Broken tells seen start) old.streams new.streams limit how (last, disk)
 
 -- Nothing was read and nothing written, nothing was written to the files, and the status has its cause.
 pub record StaysUnread (tells : Bool) (old new : Outside) (status : Status) : Type 0 where

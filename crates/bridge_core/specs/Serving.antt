@@ -6,6 +6,7 @@ use Rattle.disk_model.specs.DiskSeen.{DiskSeen, bytes_in}
 use Rattle.port_loop.specs.Transcript.{Transcript}
 use Rattle.port_loop.specs.declared.attending.Ending.{Ending}
 use Rattle.port_loop.specs.declared.attending.Ending.TheVariants as endings
+use Rattle.chain_commands.specs.Event.{last_kind}
 use Rattle.chain_commands.specs.RunState.{RunState}
 use Rattle.name_store.specs.Stands.{Stands}
 use Rattle.name_store.specs.Stored.{Stored}
@@ -41,7 +42,7 @@ pub record ServesSo {D : Type 0} (tells : Bool) (seen : D → DiskSeen) (disk : 
   pub added : Adds old.port.notes new.port.notes notes
   pub at_first : Reached tells seen start [] [] (On start.bridge, start.opened)
   pub last : Turned
-  pub transcript : Transcript (Reached tells seen) (Broken tells seen) plan.turns notes (On start.bridge, start.opened) how (last, disk)
+  pub transcript : Transcript last_kind (Reached tells seen) (Broken tells seen) plan.turns notes (On start.bridge, start.opened) how (last, disk)
 
 -- the files were opened, and nothing came of it
 pub record StaysOpened (tells : Bool) (old new : DiskSeen) : Type 0 where

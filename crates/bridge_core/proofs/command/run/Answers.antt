@@ -1,7 +1,6 @@
 use Rattle.std.proofs.Common.{List, ℕ, Some, sym, ap, subst, ◌∙◌}
 use Rattle.std.proofs.lemmas.Option.{none-some}
 use Rattle.nmc_base.specs.declared.chain_ends.Base.{Base}
-use Rattle.disk_model.specs.DiskSeen.{bytes_in}
 use Rattle.name_store.specs.Host.{IsHostOf}
 use Rattle.bridge_core.specs.Making.{Inits}
 use Rattle.bridge_core.specs.Serving.{Serves, serve_seen}
@@ -33,14 +32,14 @@ returns-in-Some-Serve-clause-serve g c = λ plan asked.
 pub returns-in-Some-Init-clause-words : goal.returns-in-Some-Init-clause-words
 returns-in-Some-Init-clause-words g c =
     let asked = subst (λ (x : Command). Asks c.args.words.now.items x) c.in-Some-Init.field-0-is c.in-Some-Init.ensures.found in (
-      λ is. absurd (init_not_words g.D.Disk.tells (bytes_in (g.D.Disk.seen c.args.disk.now)) c.init.result (c.init.ensures asked.host asked.fields.host_is).answer is),
+      λ is. absurd (init_not_words (c.init.ensures asked.host asked.fields.host_is).ending is),
       λ none. absurd (none (Init c.in-Some-Init.base c.in-Some-Init.host) asked),
     )
 
 pub returns-in-Some-Init-clause-untouched : goal.returns-in-Some-Init-clause-untouched
 returns-in-Some-Init-clause-untouched g c = λ is.
     let asked = subst (λ (x : Command). Asks c.args.words.now.items x) c.in-Some-Init.field-0-is c.in-Some-Init.ensures.found in
-    absurd (init_not_words g.D.Disk.tells (bytes_in (g.D.Disk.seen c.args.disk.now)) c.init.result (c.init.ensures asked.host asked.fields.host_is).answer is)
+    absurd (init_not_words (c.init.ensures asked.host asked.fields.host_is).ending is)
 
 pub returns-in-Some-Init-clause-init : goal.returns-in-Some-Init-clause-init
 returns-in-Some-Init-clause-init g c = λ base name asked.

@@ -1,12 +1,21 @@
-use Rattle.bridge_core.proofs.StatusLemmas.{done_not_initialised, done_not_fault}
+use Rattle.std.proofs.Common.{sym, subst}
+use Rattle.bridge_core.specs.Making.{Inits}
+use Rattle.bridge_core.specs.declared.status.Status.{Status}
+use Rattle.bridge_core.proofs.MakingLemmas.{inits}
 use Rattle.bridge_core.proofs.making.init.Goals as goal
 
-pub returns-in-Ok : goal.returns-in-Ok
-returns-in-Ok g c = λ text is. record {
-  answer = c.in-Ok.ensures.answer;
-  made = λ told done. c.in-Ok.ensures.made told c.requires.network text is;
-  untouched = λ told other. done_not_initialised other;
-  from_empty = λ told empty. c.in-Ok.ensures.from_empty told c.requires.network text is empty;
-  later = c.in-Ok.ensures.later;
-  fault = λ other. done_not_fault other;
-}
+pub returns : goal.returns
+returns g c = λ text is.
+    let tells = g.D.Disk.tells in
+    let base = c.args.base.now in
+    let old = g.D.Disk.seen c.args.disk.now in
+    let new = g.D.Disk.seen c.create-made.new.disk in
+    let by = c.create-made.ensures in
+    subst (λ (s : Status). Inits tells base text old new s) (sym c.status_of.ensures) (inits tells base text old new c.create-made.result (record {
+      answer = by.answer;
+      spared = by.spared;
+      made = λ told. by.made told c.requires.network text is;
+      from_empty = λ told empty. by.from_empty told c.requires.network text is empty;
+      others = by.others;
+      ends = by.ends;
+    }))

@@ -1,6 +1,7 @@
 use Rattle.std.proofs.Common.{refl}
 use Rattle.fault_counts.proofs.FaultLemmas.{NeverFell_refl}
 use Rattle.disk_model.specs.Moments.{start}
+use Rattle.disk_model.proofs.ImageLemmas.{keeps_unchanged}
 use Rattle.frame_loop.specs.Transcript.{streams}
 use Rattle.name_store.specs.declared.faults.OpenFault.TheVariants.{NoMemory}
 use Rattle.bridge_core.specs.Outcome.{outside}
@@ -14,7 +15,7 @@ returns-in-Err g c =
     let same = outside (streams (g.S.Source.seen c.args.source.now) (g.K.Sink.seen c.args.sink.now)) (seen c.args.disk.now) in
     replays_unbegun (record { tells = g.D.Disk.tells; seen = seen; disk = c.args.disk.now; old = same; new = same; limit = c.args.limit }) NoMemory refl
     (record {
-      untouched = λ told. start (λ image_is is. is);
+      writes_nothing = record { unchanged = refl; any_moment = λ told. keeps_unchanged (start refl) };
       answer = λ told. tt;
       follows = λ told run stands. tt;
       never_fell = NeverFell_refl (seen c.args.disk.now).faults;

@@ -1,11 +1,11 @@
-use Rattle.std.proofs.Common.{List, ℕ, sym, subst, arith}
+use Rattle.std.proofs.Common.{List, ℕ, Some, None, sym, subst, ◌∙◌, arith}
 use Rattle.name_store.specs.Host.{IsHostOf}
 use Rattle.bridge_core.specs.Words.{Asks, IsHeight, IsPort, AreTurns, IsHash}
 use Rattle.bridge_core.proofs.WordLemmas.{asked_by, served_by}
 use Rattle.bridge_core.proofs.words.read_words.Goals as goal
 
-pub returns-in-len4-clause-one : goal.returns-in-len4-clause-one
-returns-in-len4-clause-one c = λ asked is.
+pub returns-in_ok-plan-in-len4-clause-one : goal.returns-in_ok-plan-in-len4-clause-one
+returns-in_ok-plan-in-len4-clause-one c = λ asked is.
     served_by c.as_slice.result.now (record {
       udp = c.udp-item.result;
       feed = c.feed-item.result;
@@ -14,14 +14,30 @@ returns-in-len4-clause-one c = λ asked is.
       feed_at = c.feed-item.is;
       turns_at = c.turns-item.is;
       long = omega (arith, c.in-len4.len_at_least, c.in-len4.len_below);
-    }) c.read_plan.result (λ plan are. c.read_plan.ensures.one plan (record {
+    }) (Some c.in_ok-plan-in-len4.plan) (λ plan are. c.in_ok-plan-in-len4.ensures.one plan (record {
       udp_is = subst (λ (t : List ℕ). IsPort t plan.udp) (sym c.as_slice-in-len4.ensures) are.udp_is;
       feed_is = subst (λ (t : List ℕ). IsPort t plan.feed) (sym c.as_slice-in-len4-2.ensures) are.feed_is;
       turns_are = subst (λ (t : List ℕ). AreTurns t plan.turns) (sym c.as_slice-in-len4-3.ensures) are.turns_are;
     })) asked (subst (λ (w : List (List ℕ)). Asks w asked) (sym c.as_slice.ensures) is)
 
-pub returns-in-len5-clause-one : goal.returns-in-len5-clause-one
-returns-in-len5-clause-one c = λ asked is.
+pub returns-in_err-plan-in-len4-clause-one : goal.returns-in_err-plan-in-len4-clause-one
+returns-in_err-plan-in-len4-clause-one c = λ asked is.
+    c.from_residual.ensures ∙ served_by c.as_slice.result.now (record {
+      udp = c.udp-item.result;
+      feed = c.feed-item.result;
+      turns = c.turns-item.result;
+      udp_at = c.udp-item.is;
+      feed_at = c.feed-item.is;
+      turns_at = c.turns-item.is;
+      long = omega (arith, c.in-len4.len_at_least, c.in-len4.len_below);
+    }) None (λ plan are. c.in_err-plan-in-len4.ensures.one plan (record {
+      udp_is = subst (λ (t : List ℕ). IsPort t plan.udp) (sym c.as_slice-in-len4.ensures) are.udp_is;
+      feed_is = subst (λ (t : List ℕ). IsPort t plan.feed) (sym c.as_slice-in-len4-2.ensures) are.feed_is;
+      turns_are = subst (λ (t : List ℕ). AreTurns t plan.turns) (sym c.as_slice-in-len4-3.ensures) are.turns_are;
+    })) asked (subst (λ (w : List (List ℕ)). Asks w asked) (sym c.as_slice.ensures) is)
+
+pub returns-in_ok-base-in-len5-clause-one : goal.returns-in_ok-base-in-len5-clause-one
+returns-in_ok-base-in-len5-clause-one c = λ asked is.
     asked_by c.as_slice.result.now (record {
       height = c.height-item.result;
       hash = c.hash-item.result;
@@ -30,7 +46,24 @@ returns-in-len5-clause-one c = λ asked is.
       hash_at = c.hash-item.is;
       host_at = c.host-item.is;
       long = c.in-len5.len_at_least;
-    }) c.read_fields.result (λ base name are. c.read_fields.ensures.one base name (record {
+    }) (Some (c.in_ok-base-in-len5.base, c.in_ok-base-in-len5.name)) (λ base name are. c.in_ok-base-in-len5.ensures.one base name (record {
+      profile_is = are.profile_is;
+      height_is = subst (λ (t : List ℕ). IsHeight t base.height) (sym c.as_slice-in-len5.ensures) are.height_is;
+      hash_is = subst (λ (t : List ℕ). IsHash t base.hash.0) (sym c.as_slice-in-len5-2.ensures) are.hash_is;
+      host_is = subst (λ (t : List ℕ). IsHostOf t name) (sym c.as_slice-in-len5-3.ensures) are.host_is;
+    })) asked (subst (λ (w : List (List ℕ)). Asks w asked) (sym c.as_slice.ensures) is)
+
+pub returns-in_err-base-in-len5-clause-one : goal.returns-in_err-base-in-len5-clause-one
+returns-in_err-base-in-len5-clause-one c = λ asked is.
+    c.from_residual-in_err-base-in-len5.ensures ∙ asked_by c.as_slice.result.now (record {
+      height = c.height-item.result;
+      hash = c.hash-item.result;
+      host = c.host-item.result;
+      height_at = c.height-item.is;
+      hash_at = c.hash-item.is;
+      host_at = c.host-item.is;
+      long = c.in-len5.len_at_least;
+    }) None (λ base name are. c.in_err-base-in-len5.ensures.one base name (record {
       profile_is = are.profile_is;
       height_is = subst (λ (t : List ℕ). IsHeight t base.height) (sym c.as_slice-in-len5.ensures) are.height_is;
       hash_is = subst (λ (t : List ℕ). IsHash t base.hash.0) (sym c.as_slice-in-len5-2.ensures) are.hash_is;

@@ -1,41 +1,63 @@
-use Rattle.std.proofs.Common.{sym, ap, subst}
-use Rattle.feed_frames.specs.Replies.{Reply}
+use Rattle.std.proofs.Common.{List, ℕ, Bool}
+use Rattle.disk_model.specs.DiskSeen.{DiskSeen}
+use Rattle.chain_state.specs.declared.stage.Refusal as stage
+use Rattle.chain_commands.specs.Connecting.{Refusal}
+use Rattle.std.proofs.Common.{ap, subst}
 use Rattle.chain_commands.specs.Event.{Connect, Do}
+use Rattle.chain_commands.specs.RunState.{RunState, chain_of, IsFull}
+use Rattle.chain_commands.specs.Connecting.{Holds, connects}
 use Rattle.name_store.specs.Views.{refusal_of}
-use Rattle.name_store.specs.Stored.{Stored, StandsFor}
-use Rattle.bridge_core.specs.Bridge.{Turns}
-use Rattle.bridge_core.specs.declared.bridge.Turned.TheVariants.{On}
-use Rattle.bridge_core.proofs.CodeLemmas.{refused_not_done, refused_no_fault, lacking_not_done}
-use Rattle.bridge_core.proofs.KeptLemmas.{command_kept, command_not_kept}
-use Rattle.bridge_core.proofs.TurnLemmas.{connect_done, connect_refused}
+use Rattle.name_store.specs.Stored.{Stored}
+use Rattle.bridge_core.specs.Bridge.{AnswersEvent}
+use Rattle.bridge_core.specs.declared.bridge.Turned.{Turned}
+use Rattle.bridge_core.specs.declared.bridge.Turned.TheVariants.{On, Ended}
+use Rattle.bridge_core.proofs.CodeLemmas.{refused_is_other}
+use Rattle.bridge_core.proofs.TurnLemmas.{IsKind, command_done, command_refused, command_lacking, command_faulted}
 use Rattle.bridge_core.proofs.bridge.Bridge.connect.Goals as goal
 
-pub returns-in-Done-clause-turns : goal.returns-in-Done-clause-turns
-returns-in-Done-clause-turns g c =
-    subst (λ (old : Stored). Turns old (Do (Connect c.args.bytes.now)) c.accept.new.reply (On c.in-Done.store)) c.self.view_is
-    (connect_done c.self.inside.store c.in-Done.store c.args.bytes.now c.accept.new.reply c.in-Done.tip c.in-Done.ensures.connects c.accept.ensures)
+-- the refusals are looked for so
+abbrev looks : List ℕ → RunState → Refusal → Type 0
+looks bytes run = Holds (IsFull run (Connect bytes)) (chain_of run) bytes
 
-pub returns-in-Refused-clause-turns : goal.returns-in-Refused-clause-turns
-returns-in-Refused-clause-turns g c =
-    subst (λ (old : Stored). Turns old (Do (Connect c.args.bytes.now)) c.refuse.new.reply (On c.in-Refused.store)) c.self.view_is
-    (connect_refused c.self.inside.store c.in-Refused.store c.args.bytes.now c.refuse.new.reply c.in-Refused.refusal c.in-Refused.ensures.connects c.refuse.ensures)
+kind : {D : Type 0} (tells : Bool) (seen : D → DiskSeen) (bytes : List ℕ) → IsKind tells seen {R = stage.Refusal} connects (looks bytes) refusal_of (Connect bytes)
+kind tells seen bytes = record { steps = λ run reply new answers. answers; valid = λ run none. none }
 
-pub returns-in-Refused-clause-told : goal.returns-in-Refused-clause-told
-returns-in-Refused-clause-told g c = refused_no_fault c.refuse.new.reply (refusal_of c.in-Refused.refusal) c.refuse.ensures
+pub returns-in-Done-clause-answers : goal.returns-in-Done-clause-answers
+returns-in-Done-clause-answers g c =
+    let tells = g.D.Disk.tells in
+    let seen = g.D.Disk.seen in
+    let bytes = c.args.bytes.now in
+    let by = c.in-Done.ensures in
+    subst (λ (old : Stored). AnswersEvent tells seen old c.args.disk.now (Do (Connect bytes)) c.accept.new.reply (On c.in-Done.store) c.connect.new.disk) c.self.view_is
+    (command_done tells seen connects (looks bytes) refusal_of (Connect bytes) (kind tells seen bytes) c.self.inside.store c.args.disk.now c.connect.new.disk c.accept.new.reply c.in-Done.store c.in-Done.tip
+    (record { answers = by.connects; undone = by.undone; leaves = by.leaves; kept = by.kept }) c.accept.ensures)
 
-pub returns-in-Done-clause-kept : goal.returns-in-Done-clause-kept
-returns-in-Done-clause-kept g c = λ told run s.
-    let on = c.in-Done.ensures.kept told run (subst (λ (x : Stored). StandsFor x run) (sym c.self.view_is) s) in
-    command_kept run (Connect c.args.bytes.now) (record { still_on = on.still_on; done = on.done; any_moment = on.any_moment }) (ap (λ (r : Reply). r.code) c.accept.ensures)
+pub returns-in-Refused-clause-answers : goal.returns-in-Refused-clause-answers
+returns-in-Refused-clause-answers g c =
+    let tells = g.D.Disk.tells in
+    let seen = g.D.Disk.seen in
+    let bytes = c.args.bytes.now in
+    let by = c.in-Refused.ensures in
+    subst (λ (old : Stored). AnswersEvent tells seen old c.args.disk.now (Do (Connect bytes)) c.refuse.new.reply (On c.in-Refused.store) c.connect.new.disk) c.self.view_is
+    (command_refused tells seen connects (looks bytes) refusal_of (Connect bytes) (kind tells seen bytes) c.self.inside.store c.args.disk.now c.connect.new.disk c.refuse.new.reply c.in-Refused.store c.in-Refused.refusal
+    (record { answers = by.connects; undone = by.undone; leaves = by.leaves; kept = by.kept }) c.refuse.ensures (refused_is_other c.refuse.new.reply (refusal_of c.in-Refused.refusal) c.refuse.ensures))
 
-pub returns-in-Refused-clause-kept : goal.returns-in-Refused-clause-kept
-returns-in-Refused-clause-kept g c = λ told run s.
-    let on = c.in-Refused.ensures.kept told run (subst (λ (x : Stored). StandsFor x run) (sym c.self.view_is) s) in
-    command_not_kept run (Connect c.args.bytes.now) (record { still_on = on.still_on; same = ap g.D.Disk.seen c.in-Refused.ensures.undone; any_moment = on.any_moment })
-    (refused_not_done c.refuse.new.reply (refusal_of c.in-Refused.refusal) c.refuse.ensures)
+pub returns-in-NoMemory-clause-answers : goal.returns-in-NoMemory-clause-answers
+returns-in-NoMemory-clause-answers g c =
+    let tells = g.D.Disk.tells in
+    let seen = g.D.Disk.seen in
+    let bytes = c.args.bytes.now in
+    let by = c.in-NoMemory.ensures in
+    subst (λ (old : Stored). AnswersEvent tells seen old c.args.disk.now (Do (Connect bytes)) c.lack_memory.new.reply (On c.in-NoMemory.store) c.connect.new.disk) c.self.view_is
+    (command_lacking tells seen connects (looks bytes) refusal_of (Connect bytes) (kind tells seen bytes) c.self.inside.store c.args.disk.now c.connect.new.disk c.lack_memory.new.reply c.in-NoMemory.store
+    (record { answers = by.connects; undone = by.undone; leaves = by.leaves; kept = by.kept }) c.lack_memory.ensures)
 
-pub returns-in-NoMemory-clause-kept : goal.returns-in-NoMemory-clause-kept
-returns-in-NoMemory-clause-kept g c = λ told run s.
-    let on = c.in-NoMemory.ensures.kept told run (subst (λ (x : Stored). StandsFor x run) (sym c.self.view_is) s) in
-    command_not_kept run (Connect c.args.bytes.now) (record { still_on = on.still_on; same = ap g.D.Disk.seen c.in-NoMemory.ensures.undone; any_moment = on.any_moment })
-    (lacking_not_done c.lack_memory.new.reply c.lack_memory.ensures)
+pub returns-in-Faulted-clause-answers : goal.returns-in-Faulted-clause-answers
+returns-in-Faulted-clause-answers g c =
+    let tells = g.D.Disk.tells in
+    let seen = g.D.Disk.seen in
+    let bytes = c.args.bytes.now in
+    let by = c.in-Faulted.ensures in
+    subst (λ (old : Stored). AnswersEvent tells seen old c.args.disk.now (Do (Connect bytes)) c.tell_fault.new.reply Ended c.connect.new.disk) c.self.view_is
+    (command_faulted tells seen connects (looks bytes) refusal_of (Connect bytes) (kind tells seen bytes) c.self.inside.store c.args.disk.now c.connect.new.disk c.tell_fault.new.reply
+    (record { answers = by.connects; undone = by.undone; leaves = by.leaves; kept = by.kept }) c.tell_fault.ensures)

@@ -1,41 +1,63 @@
-use Rattle.std.proofs.Common.{sym, ap, subst}
-use Rattle.feed_frames.specs.Replies.{Reply}
+use Rattle.std.proofs.Common.{List, ℕ, Bool}
+use Rattle.disk_model.specs.DiskSeen.{DiskSeen}
+use Rattle.chain_state.specs.declared.back.BackRefusal as back
+use Rattle.chain_commands.specs.Disconnecting.{BackRefusal}
+use Rattle.std.proofs.Common.{ap, subst}
 use Rattle.chain_commands.specs.Event.{Disconnect, Do}
+use Rattle.chain_commands.specs.RunState.{RunState, chain_of, IsFull}
+use Rattle.chain_commands.specs.Disconnecting.{HoldsBack, disconnects}
 use Rattle.name_store.specs.Views.{back_refusal_of}
-use Rattle.name_store.specs.Stored.{Stored, StandsFor}
-use Rattle.bridge_core.specs.Bridge.{Turns}
-use Rattle.bridge_core.specs.declared.bridge.Turned.TheVariants.{On}
-use Rattle.bridge_core.proofs.CodeLemmas.{back_not_done, back_no_fault, lacking_not_done}
-use Rattle.bridge_core.proofs.KeptLemmas.{command_kept, command_not_kept}
-use Rattle.bridge_core.proofs.TurnLemmas.{disconnect_done, disconnect_refused}
+use Rattle.name_store.specs.Stored.{Stored}
+use Rattle.bridge_core.specs.Bridge.{AnswersEvent}
+use Rattle.bridge_core.specs.declared.bridge.Turned.{Turned}
+use Rattle.bridge_core.specs.declared.bridge.Turned.TheVariants.{On, Ended}
+use Rattle.bridge_core.proofs.CodeLemmas.{back_is_other}
+use Rattle.bridge_core.proofs.TurnLemmas.{IsKind, command_done, command_refused, command_lacking, command_faulted}
 use Rattle.bridge_core.proofs.bridge.Bridge.disconnect.Goals as goal
 
-pub returns-in-Done-clause-turns : goal.returns-in-Done-clause-turns
-returns-in-Done-clause-turns g c =
-    subst (λ (old : Stored). Turns old (Do (Disconnect c.args.hash.0)) c.accept.new.reply (On c.in-Done.store)) c.self.view_is
-    (disconnect_done c.self.inside.store c.in-Done.store c.args.hash.0 c.accept.new.reply c.in-Done.tip c.in-Done.ensures.disconnects c.accept.ensures)
+-- the refusals are looked for so
+abbrev looks : List ℕ → RunState → BackRefusal → Type 0
+looks bytes run = HoldsBack (IsFull run (Disconnect bytes)) (chain_of run) bytes
 
-pub returns-in-Refused-clause-turns : goal.returns-in-Refused-clause-turns
-returns-in-Refused-clause-turns g c =
-    subst (λ (old : Stored). Turns old (Do (Disconnect c.args.hash.0)) c.refuse_back.new.reply (On c.in-Refused.store)) c.self.view_is
-    (disconnect_refused c.self.inside.store c.in-Refused.store c.args.hash.0 c.refuse_back.new.reply c.in-Refused.refusal c.in-Refused.ensures.disconnects c.refuse_back.ensures)
+kind : {D : Type 0} (tells : Bool) (seen : D → DiskSeen) (bytes : List ℕ) → IsKind tells seen {R = back.BackRefusal} disconnects (looks bytes) back_refusal_of (Disconnect bytes)
+kind tells seen bytes = record { steps = λ run reply new answers. answers; valid = λ run none. none }
 
-pub returns-in-Refused-clause-told : goal.returns-in-Refused-clause-told
-returns-in-Refused-clause-told g c = back_no_fault c.refuse_back.new.reply (back_refusal_of c.in-Refused.refusal) c.refuse_back.ensures
+pub returns-in-Done-clause-answers : goal.returns-in-Done-clause-answers
+returns-in-Done-clause-answers g c =
+    let tells = g.D.Disk.tells in
+    let seen = g.D.Disk.seen in
+    let bytes = c.args.hash.0 in
+    let by = c.in-Done.ensures in
+    subst (λ (old : Stored). AnswersEvent tells seen old c.args.disk.now (Do (Disconnect bytes)) c.accept.new.reply (On c.in-Done.store) c.disconnect.new.disk) c.self.view_is
+    (command_done tells seen disconnects (looks bytes) back_refusal_of (Disconnect bytes) (kind tells seen bytes) c.self.inside.store c.args.disk.now c.disconnect.new.disk c.accept.new.reply c.in-Done.store c.in-Done.tip
+    (record { answers = by.disconnects; undone = by.undone; leaves = by.leaves; kept = by.kept }) c.accept.ensures)
 
-pub returns-in-Done-clause-kept : goal.returns-in-Done-clause-kept
-returns-in-Done-clause-kept g c = λ told run s.
-    let on = c.in-Done.ensures.kept told run (subst (λ (x : Stored). StandsFor x run) (sym c.self.view_is) s) in
-    command_kept run (Disconnect c.args.hash.0) (record { still_on = on.still_on; done = on.done; any_moment = on.any_moment }) (ap (λ (r : Reply). r.code) c.accept.ensures)
+pub returns-in-Refused-clause-answers : goal.returns-in-Refused-clause-answers
+returns-in-Refused-clause-answers g c =
+    let tells = g.D.Disk.tells in
+    let seen = g.D.Disk.seen in
+    let bytes = c.args.hash.0 in
+    let by = c.in-Refused.ensures in
+    subst (λ (old : Stored). AnswersEvent tells seen old c.args.disk.now (Do (Disconnect bytes)) c.refuse_back.new.reply (On c.in-Refused.store) c.disconnect.new.disk) c.self.view_is
+    (command_refused tells seen disconnects (looks bytes) back_refusal_of (Disconnect bytes) (kind tells seen bytes) c.self.inside.store c.args.disk.now c.disconnect.new.disk c.refuse_back.new.reply c.in-Refused.store c.in-Refused.refusal
+    (record { answers = by.disconnects; undone = by.undone; leaves = by.leaves; kept = by.kept }) c.refuse_back.ensures (back_is_other c.refuse_back.new.reply (back_refusal_of c.in-Refused.refusal) c.refuse_back.ensures))
 
-pub returns-in-Refused-clause-kept : goal.returns-in-Refused-clause-kept
-returns-in-Refused-clause-kept g c = λ told run s.
-    let on = c.in-Refused.ensures.kept told run (subst (λ (x : Stored). StandsFor x run) (sym c.self.view_is) s) in
-    command_not_kept run (Disconnect c.args.hash.0) (record { still_on = on.still_on; same = ap g.D.Disk.seen c.in-Refused.ensures.undone; any_moment = on.any_moment })
-    (back_not_done c.refuse_back.new.reply (back_refusal_of c.in-Refused.refusal) c.refuse_back.ensures)
+pub returns-in-NoMemory-clause-answers : goal.returns-in-NoMemory-clause-answers
+returns-in-NoMemory-clause-answers g c =
+    let tells = g.D.Disk.tells in
+    let seen = g.D.Disk.seen in
+    let bytes = c.args.hash.0 in
+    let by = c.in-NoMemory.ensures in
+    subst (λ (old : Stored). AnswersEvent tells seen old c.args.disk.now (Do (Disconnect bytes)) c.lack_memory.new.reply (On c.in-NoMemory.store) c.disconnect.new.disk) c.self.view_is
+    (command_lacking tells seen disconnects (looks bytes) back_refusal_of (Disconnect bytes) (kind tells seen bytes) c.self.inside.store c.args.disk.now c.disconnect.new.disk c.lack_memory.new.reply c.in-NoMemory.store
+    (record { answers = by.disconnects; undone = by.undone; leaves = by.leaves; kept = by.kept }) c.lack_memory.ensures)
 
-pub returns-in-NoMemory-clause-kept : goal.returns-in-NoMemory-clause-kept
-returns-in-NoMemory-clause-kept g c = λ told run s.
-    let on = c.in-NoMemory.ensures.kept told run (subst (λ (x : Stored). StandsFor x run) (sym c.self.view_is) s) in
-    command_not_kept run (Disconnect c.args.hash.0) (record { still_on = on.still_on; same = ap g.D.Disk.seen c.in-NoMemory.ensures.undone; any_moment = on.any_moment })
-    (lacking_not_done c.lack_memory.new.reply c.lack_memory.ensures)
+pub returns-in-Faulted-clause-answers : goal.returns-in-Faulted-clause-answers
+returns-in-Faulted-clause-answers g c =
+    let tells = g.D.Disk.tells in
+    let seen = g.D.Disk.seen in
+    let bytes = c.args.hash.0 in
+    let by = c.in-Faulted.ensures in
+    subst (λ (old : Stored). AnswersEvent tells seen old c.args.disk.now (Do (Disconnect bytes)) c.tell_fault.new.reply Ended c.disconnect.new.disk) c.self.view_is
+    (command_faulted tells seen disconnects (looks bytes) back_refusal_of (Disconnect bytes) (kind tells seen bytes) c.self.inside.store c.args.disk.now c.disconnect.new.disk c.tell_fault.new.reply
+    (record { answers = by.disconnects; undone = by.undone; leaves = by.leaves; kept = by.kept }) c.tell_fault.ensures)
