@@ -8,7 +8,8 @@ use Rattle.byte_io.specs.Port.{Note, replied, PortSeen, IsBound, Notes, Sends}
 use Rattle.byte_io.specs.declared.errors.Failed.{Failed}
 use Rattle.feed_frames.specs.Frames.{Frame}
 use Rattle.feed_frames.specs.Replies.{Reply}
-use Rattle.port_loop.specs.Sends.{to_client, Replied, none, one, SendsOne}
+use Rattle.frame_loop.specs.Answering.{GivesAll, none_yet, one_more}
+use Rattle.port_loop.specs.Sends.{to_client, to_feed, Replied, none, one, SendsOne, SendsToFeed}
 use Rattle.port_loop.specs.declared.sending.TheConstants.{DROPPED}
 
 pub Notes_nothing : (port : PortSeen) → Notes port port []
@@ -42,6 +43,23 @@ replied_then {to = to} {gs = gs} {qs = qs} {ys = ys} (one frame reply is_sent fr
 -- a reply to one frame
 pub replied_one : (to : Reply → Bool → List Note) (frame : Frame) (reply : Reply) (is_sent : Bool) → Replied to (frame ∷ []) (reply ∷ []) (to reply is_sent)
 replied_one to frame reply is_sent = subst (λ (q : List Note). Replied to (frame ∷ []) (reply ∷ []) q) (append-nil (to reply is_sent)) (one frame reply is_sent [] [] [] none)
+
+-- the sends for replies that were given to the feed
+pub record SentAll (old new : PortSeen) (frames : List Frame) (replies : List Reply) : Type 0 where
+  pub sends : List Note
+  pub replied : Replied to_feed frames replies sends
+  pub noted : Notes old new sends
+
+pub sent_all : {old new : PortSeen} {frames : List Frame} {replies : List Reply} → GivesAll SendsToFeed old frames replies new → SentAll old new frames replies
+sent_all {old = old} (none_yet outlet) = record { sends = []; replied = none; noted = Notes_nothing old }
+sent_all {old = old} (one_more {mid = mid} {new = new} frame reply before sent) =
+    let first = sent_all before in
+    let send = to_feed reply sent.is_sent in
+    record {
+      sends = first.sends ++ send;
+      replied = replied_then first.replied (replied_one to_feed frame reply sent.is_sent);
+      noted = Notes_append old mid new first.sends send first.noted sent.noted;
+    }
 
 -- the reply to a dropped query isn't sent
 pub dropped : (port : PortSeen) (client : ℕ) (reply : Reply) → reply.code ≡ DROPPED → SendsOne port port (to_client client reply)

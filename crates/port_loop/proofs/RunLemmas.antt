@@ -5,23 +5,23 @@ use Rattle.byte_io.specs.declared.port.TheConstants.{POLL_ROOM}
 use Rattle.feed_frames.specs.Frames.{Frame, IsPartialFrame, nothing}
 use Rattle.feed_frames.specs.Feed.{Feed, fresh_feed}
 use Rattle.feed_frames.specs.Replies.{Reply}
-use Rattle.port_loop.specs.Transcript.{DealsWithAll, none_yet, one_more, LeadsTo, Attends}
-use Rattle.port_loop.specs.Answering.{Desk, desk, fed_to}
+use Rattle.port_loop.specs.Transcript.{DealsWithAll, none_yet, one_more, Attends}
+use Rattle.frame_loop.specs.Answering.{Desk, desk, fed_to, LeadsTo}
 use Rattle.port_loop.specs.Attending.{parts_of, Deals, Breaks}
 use Rattle.port_loop.specs.declared.attending.Ending.TheVariants.{Done, Ended}
 use Rattle.port_loop.proofs.NoteLemmas.{Notes_nothing, Notes_append, still_bound}
-use Rattle.port_loop.proofs.DeskLemmas.{leads_nowhere, leads_then}
+use Rattle.frame_loop.proofs.DeskLemmas.{leads_nowhere, leads_then}
 
 -- so many polls were dealt with
-pub record SoFar {Start X : Type 0} (kinds : ℕ) (Ready : X → Type 0) (Reached : Start → List Frame → List Reply → X → Type 0) (old : PortSeen) (first : X) (polls : ℕ) (now : Desk X) : Type 0 where
+pub record SoFar {Start X : Type 0} (kinds : ℕ) (Ready : X → Type 0) (Reached : Start → List Frame → List Reply → X → Type 0) (old : PortSeen) (first : X) (polls : ℕ) (now : Desk PortSeen X) : Type 0 where
   pub frames : List Frame
   pub replies : List Reply
   pub notes : List Note
   pub dealt : DealsWithAll kinds polls (parts_of now.feed) frames replies notes
-  pub noted : Notes old now.port notes
+  pub noted : Notes old now.outlet notes
   pub leads : LeadsTo Reached Reached first frames replies now.now
   pub reads : now.feed.kinds ≡ kinds
-  pub bound : IsBound now.port
+  pub bound : IsBound now.outlet
   pub ready : Ready now.now
   pub partial : IsPartialFrame kinds now.feed.left
   pub fed : fed_to now.feed ≤ polls * POLL_ROOM
@@ -43,29 +43,29 @@ module _ {kinds : ℕ} where
     fed = omega arith;
   })
 
-  dealt_more : {Start X : Type 0} {Ready : X → Type 0} {Reached : Start → List Frame → List Reply → X → Type 0} {old : PortSeen} {first : X} {polls : ℕ} (now new : Desk X)
+  dealt_more : {Start X : Type 0} {Ready : X → Type 0} {Reached : Start → List Frame → List Reply → X → Type 0} {old : PortSeen} {first : X} {polls : ℕ} (now new : Desk PortSeen X)
       → SoFar kinds Ready Reached old first polls now → Deals kinds Ready Reached now new → SoFar kinds Ready Reached old first (suc polls) new
   dealt_more {old = old} {polls = polls} now new s d = record {
     frames = s.frames ++ d.frames;
     replies = s.replies ++ d.replies;
     notes = s.notes ++ d.notes;
     dealt = one_more polls (parts_of now.feed) (parts_of new.feed) s.dealt d.deals;
-    noted = Notes_append old now.port new.port s.notes d.notes s.noted d.noted;
+    noted = Notes_append old now.outlet new.outlet s.notes d.notes s.noted d.noted;
     leads = leads_then s.leads d.leads;
     reads = d.kinds_are ∙ s.reads;
-    bound = still_bound now.port new.port d.notes d.noted s.bound;
+    bound = still_bound now.outlet new.outlet d.notes d.noted s.bound;
     ready = d.ready;
     partial = d.partial;
     fed = omega (arith, s.fed, d.fed);
   }
 
-  pub goes_on : {Start X : Type 0} {Ready : X → Type 0} {Reached : Start → List Frame → List Reply → X → Type 0} {old : PortSeen} {first : X} {polls : ℕ} (now new : Desk X)
+  pub goes_on : {Start X : Type 0} {Ready : X → Type 0} {Reached : Start → List Frame → List Reply → X → Type 0} {old : PortSeen} {first : X} {polls : ℕ} (now new : Desk PortSeen X)
       → SoFar kinds Ready Reached old first polls now → Deals kinds Ready Reached now new → SoFar kinds Ready Reached old first (polls + 1) new
   goes_on {Ready = Ready} {Reached = Reached} {old = old} {first = first} {polls = polls} now new s d =
       subst (λ (n : ℕ). SoFar kinds Ready Reached old first n new) (omega arith) (dealt_more now new s d)
 
-  pub is_done : {Start X : Type 0} {Ready : X → Type 0} {Reached Broken : Start → List Frame → List Reply → X → Type 0} {old : PortSeen} {first : X} {polls turns : ℕ} (now : Desk X)
-      → SoFar kinds Ready Reached old first polls now → polls ≡ turns → Attends kinds Reached Broken old now.port turns first Done now.now
+  pub is_done : {Start X : Type 0} {Ready : X → Type 0} {Reached Broken : Start → List Frame → List Reply → X → Type 0} {old : PortSeen} {first : X} {polls turns : ℕ} (now : Desk PortSeen X)
+      → SoFar kinds Ready Reached old first polls now → polls ≡ turns → Attends kinds Reached Broken old now.outlet turns first Done now.now
   is_done {Ready = Ready} {Reached = Reached} {old = old} {first = first} now s all =
       let whole = subst (λ (n : ℕ). SoFar kinds Ready Reached old first n now) all s in
       record {
@@ -74,11 +74,11 @@ module _ {kinds : ℕ} where
         transcript = record { part = parts_of now.feed; frames = whole.frames; replies = whole.replies; dealt = whole.dealt; leads = whole.leads };
       }
 
-  pub has_ended : {Start X : Type 0} {Ready : X → Type 0} {Reached Broken : Start → List Frame → List Reply → X → Type 0} {old : PortSeen} {first : X} {polls turns : ℕ} (now new : Desk X)
-      → SoFar kinds Ready Reached old first polls now → Breaks kinds Reached Broken now new → polls < turns → Attends kinds Reached Broken old new.port turns first Ended new.now
+  pub has_ended : {Start X : Type 0} {Ready : X → Type 0} {Reached Broken : Start → List Frame → List Reply → X → Type 0} {old : PortSeen} {first : X} {polls turns : ℕ} (now new : Desk PortSeen X)
+      → SoFar kinds Ready Reached old first polls now → Breaks kinds Reached Broken now new → polls < turns → Attends kinds Reached Broken old new.outlet turns first Ended new.now
   has_ended {old = old} {polls = polls} now new s b fewer = record {
     notes = s.notes ++ b.notes;
-    noted = Notes_append old now.port new.port s.notes b.notes s.noted b.noted;
+    noted = Notes_append old now.outlet new.outlet s.notes b.notes s.noted b.noted;
     transcript = record {
       polls = polls;
       part = parts_of now.feed;

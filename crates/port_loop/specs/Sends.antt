@@ -1,6 +1,7 @@
 -- Where replies go.
 use Rattle.std.specs.Prelude.{ℕ, Bool, map, ◌==◌, if◌then◌else◌, List, [], ◌∷◌, ◌++◌}
-use Rattle.byte_io.specs.Port.{Note, replied, fed_back, closed, Got, datagram, piece, feed_end, nothing, fault, PortSeen, Notes}
+use Rattle.std.proofs.Common.{◌∙◌}
+use Rattle.byte_io.specs.Port.{Note, replied, fed_back, closed, Got, datagram, piece, feed_end, nothing, fault, PortSeen, IsBound, Notes}
 use Rattle.feed_frames.specs.Frames.{Frame}
 use Rattle.feed_frames.specs.Replies.{Reply, reply_text}
 use Rattle.port_loop.specs.Polls.{Closing, the_feed}
@@ -48,3 +49,11 @@ closings = map closing
 pub record SendsOne (old new : PortSeen) (sends : Bool → List Note) : Type 0 where
   pub is_sent : Bool
   pub noted : Notes old new (sends is_sent)
+
+-- so to the feed
+abbrev pub SendsToFeed : PortSeen → Reply → PortSeen → Type 0
+SendsToFeed old reply new = SendsOne old new (to_feed reply)
+
+-- a port to whose feed a reply was sent stays bound
+pub bound_behind : (old : PortSeen) (reply : Reply) (new : PortSeen) → SendsToFeed old reply new → IsBound old → IsBound new
+bound_behind old reply new sent bound = record { numbers = bound.numbers; are = sent.noted.bound ∙ bound.are }

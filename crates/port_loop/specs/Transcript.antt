@@ -3,6 +3,7 @@ use Rattle.std.specs.Prelude.{◌≡◌, ℕ, suc, ◌<◌, Bool, List, [], ◌�
 use Rattle.byte_io.specs.Port.{Note, polled, Got, PortSeen, Notes}
 use Rattle.feed_frames.specs.Frames.{Frame}
 use Rattle.feed_frames.specs.Replies.{Reply}
+use Rattle.frame_loop.specs.Answering.{LeadsTo}
 use Rattle.port_loop.specs.Polls.{Parts, no_parts, Closing, Brings, BringsFirst}
 use Rattle.port_loop.specs.Sends.{sends_of, Replied, closings}
 use Rattle.port_loop.specs.declared.attending.Ending.{Ending}
@@ -34,10 +35,6 @@ pub data DealsWithAll (kinds : ℕ) : ℕ → Parts → List Frame → List Repl
       → DealsWithAll kinds polls part frames replies notes → DealsWith kinds part after more answers added
       → DealsWithAll kinds (suc polls) after (frames ++ more) (replies ++ answers) (notes ++ added)
 
--- whatever came before, these frames and replies lead on from there
-pub record LeadsTo {Start X : Type 0} (Reached After : Start → List Frame → List Reply → X → Type 0) (old : X) (frames : List Frame) (replies : List Reply) (new : X) : Type 0 where
-  pub from : (start : Start) (before : List Frame) (answered : List Reply) → Reached start before answered old → After start (before ++ frames) (answered ++ replies) new
-
 -- all polls were made and dealt with
 pub record IsDone {Start X : Type 0} (kinds : ℕ) (Reached : Start → List Frame → List Reply → X → Type 0) (turns : ℕ) (notes : List Note) (first now : X) : Type 0 where
   pub part : Parts
@@ -62,12 +59,12 @@ pub record HasEnded {Start X : Type 0} (kinds : ℕ) (Reached Broken : Start →
   pub notes_are : notes ≡ before ++ last_notes
   pub leads : LeadsTo Reached Broken first (frames ++ last_frames) (replies ++ last_replies) now
 
-abbrev pub Transcript : {Start X : Type 0} (kinds : ℕ) (Reached Broken : Start → List Frame → List Reply → X → Type 0) (turns : ℕ) (notes : List Note) (first : X) → Ending → X → Type 0
-Transcript kinds Reached Broken turns notes first Done now = IsDone kinds Reached turns notes first now
-Transcript kinds Reached Broken turns notes first Ended now = HasEnded kinds Reached Broken turns notes first now
+abbrev pub PollTranscript : {Start X : Type 0} (kinds : ℕ) (Reached Broken : Start → List Frame → List Reply → X → Type 0) (turns : ℕ) (notes : List Note) (first : X) → Ending → X → Type 0
+PollTranscript kinds Reached Broken turns notes first Done now = IsDone kinds Reached turns notes first now
+PollTranscript kinds Reached Broken turns notes first Ended now = HasEnded kinds Reached Broken turns notes first now
 
 -- what the port noted, which stays bound, and how the run ended
 pub record Attends {Start X : Type 0} (kinds : ℕ) (Reached Broken : Start → List Frame → List Reply → X → Type 0) (old new : PortSeen) (turns : ℕ) (first : X) (how : Ending) (now : X) : Type 0 where
   pub notes : List Note
   pub noted : Notes old new notes
-  pub transcript : Transcript kinds Reached Broken turns notes first how now
+  pub transcript : PollTranscript kinds Reached Broken turns notes first how now

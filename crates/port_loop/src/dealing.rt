@@ -2,15 +2,15 @@ ghost use Rattle.std.specs.Prelude.{◌≡◌, ◌<◌, ◌+◌, ◌^◌};
 ghost use Rattle.byte_io.specs.Port.{IsBound};
 ghost use Rattle.byte_io.specs.declared.port.TheConstants.{POLL_ROOM};
 ghost use Rattle.feed_frames.specs.Frames.{IsPartialFrame};
-ghost use Rattle.port_loop.specs.Answering.{desk, fed_to};
+ghost use Rattle.frame_loop.specs.Answering.{desk, fed_to};
 ghost use Rattle.port_loop.specs.Attending.{AnswersPiece, AnswersPoll};
 
-use crate::answering::{Halted, answer, answer_all};
+use crate::answering::answer;
 use crate::polling::{PollRoom, feed_front};
-use crate::sending::{Destination, drop_feed};
+use crate::sending::{Destination, ToFeed, drop_feed};
 use byte_io::{Polled, Port};
 use feed_frames::{Frame, Frames};
-use frame_loop::{Answerer, Over, QUERY, ReplyBuf};
+use frame_loop::{Answerer, Halted, Over, QUERY, ReplyBuf, answer_all};
 use nmc_base::{NoMemory, Steps};
 use std::alloc::Global;
 use std::sync::ledger::Ledger;
@@ -49,13 +49,14 @@ fn answer_piece<W, T: Answerer<W>, P: Port, L: Ledger>(
     requires ready { T.ready (answerer.old, world.old) }
     ensures { AnswersPiece T.KINDS T.ready T.reached T.broken (desk (P.seen port.old) frames.old (answerer.old, world.old)) (desk (P.seen port.new) frames.new (answerer.new, world.new)) result }
 {
-    match answer_all(alloc, answerer, world, frames, reply, port, steps) {
+    match answer_all::<W, T, P, ToFeed, L>(alloc, answerer, world, frames, reply, port, steps) {
         Halted::Partial => Ok(()),
-        Halted::Bad => {
+        Halted::Bad(_) => {
             drop_feed(frames, port);
             Ok(())
         }
         Halted::Ended => Err(Over),
+        Halted::Undelivered => unreachable!(),
     }
 }
 

@@ -3,7 +3,7 @@ ghost use Rattle.byte_io.specs.Port.{IsBound, Polls};
 ghost use Rattle.byte_io.specs.declared.port.TheConstants.{POLL_ROOM};
 ghost use Rattle.feed_frames.specs.Frames.{IsPartialFrame};
 ghost use Rattle.feed_frames.specs.Feed.{after_piece};
-ghost use Rattle.port_loop.specs.Answering.{fed_to};
+ghost use Rattle.frame_loop.specs.Answering.{fed_to};
 
 use byte_io::{POLL_ROOM, Polled, Port};
 use feed_frames::Frames;

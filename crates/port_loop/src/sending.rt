@@ -5,7 +5,7 @@ ghost use Rattle.port_loop.specs.Sends.{to_client, sends_to, SendsOne};
 
 use byte_io::Port;
 use feed_frames::Frames;
-use frame_loop::ReplyBuf;
+use frame_loop::{Outlet, ReplyBuf, Undelivered};
 
 /// The code of a query that gets no reply.
 pub const DROPPED: u8 = 8;
@@ -40,6 +40,37 @@ pub(crate) fn send<P: Port>(port: &mut P, destination: Destination, reply: &Repl
         Destination::Feed => {
             let _ = port.feed_reply(reply.text());
         }
+    }
+}
+
+/// Replies as text, to the feed of a port. A send that fails is dealt with.
+pub(crate) struct ToFeed;
+
+impl<P: Port> Outlet<P> for ToFeed {
+    ghost use Rattle.byte_io.specs.Port.{PortSeen, IsBound};
+    ghost use Rattle.port_loop.specs.Sends.{SendsToFeed, bound_behind};
+
+    ghost Seen = { PortSeen };
+
+    ghost seen = { P.seen };
+
+    ghost takes = { IsBound };
+
+    ghost gives = { SendsToFeed };
+
+    ghost refuses = { λ old reply new. ⊥ };
+
+    ghost gives_last = { SendsToFeed };
+
+    ghost still_takes = { bound_behind };
+
+    fn give(to: &mut P, reply: &ReplyBuf) -> Result<(), Undelivered> {
+        let _ = to.feed_reply(reply.text());
+        Ok(())
+    }
+
+    fn give_last(to: &mut P, reply: &ReplyBuf) {
+        let _ = to.feed_reply(reply.text());
     }
 }
 

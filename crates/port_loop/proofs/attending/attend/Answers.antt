@@ -1,6 +1,6 @@
 use Rattle.std.proofs.Common.{◌∙◌, ap, arith}
 use Rattle.feed_frames.specs.Feed.{fresh_feed}
-use Rattle.port_loop.specs.Answering.{desk}
+use Rattle.frame_loop.specs.Answering.{desk}
 use Rattle.port_loop.proofs.RunLemmas.{begins, goes_on, is_done, has_ended}
 use Rattle.port_loop.proofs.attending.attend.Goals as goal
 

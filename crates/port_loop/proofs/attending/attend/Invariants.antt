@@ -1,5 +1,5 @@
 use Rattle.std.proofs.Common.{◌-◌, ◌≤◌}
-use Rattle.port_loop.specs.Answering.{desk}
+use Rattle.frame_loop.specs.Answering.{desk}
 use Rattle.port_loop.proofs.RunLemmas.{SoFar}
 use Rattle.port_loop.proofs.attending.attend.Given as goal
 

@@ -2,7 +2,7 @@ use Rattle.std.proofs.Common.{ℕ, take, sym, subst}
 use Rattle.feed_frames.specs.Frames.{IsPartialFrame}
 use Rattle.byte_io.specs.Port.{nothing, fault}
 use Rattle.port_loop.specs.Polls.{at_nothing, at_fault}
-use Rattle.port_loop.specs.Answering.{desk}
+use Rattle.frame_loop.specs.Answering.{desk}
 use Rattle.port_loop.proofs.PollLemmas.{brings_nothing, brings_end, query_dealt, piece_dealt}
 use Rattle.port_loop.proofs.dealing.answer_poll.Goals as goal
 
