@@ -1,10 +1,9 @@
 //! Answers of questions.
 
 ghost use Rattle.std.specs.Prelude.{◌≡◌, ◌++◌, IfOk, OnOk};
-ghost use Rattle.std.specs.Option.{option_map};
 ghost use Rattle.domain_text.specs.Names.{IsName, IsWireLabel};
 ghost use Rattle.dns_message.specs.Query.{query_of};
-ghost use Rattle.ifa_value.specs.Object.{members};
+ghost use Rattle.import_expand.specs.Books.{objects, Finds, IsSound};
 ghost use Rattle.bit_resolver.specs.Places.{IsPlace, place_of};
 ghost use Rattle.bit_resolver.specs.Answers.{value_of, asked_at, after_records as after_records_of, chase as chase_of, is_refused as is_refused_of, answer_at, answer_to};
 ghost use Rattle.bit_resolver.specs.Laws.{IsLawful};
@@ -19,24 +18,23 @@ use crate::rr_type;
 use crate::zone::Zone;
 use dns_message::{Question, rcode};
 use domain_text::Name;
-use ifa_value::{IfaObject, read_value};
-use import_expand::Names;
+use import_expand::{Book, Names};
 use nmc_base::NoMemory;
 use std::alloc::Global;
 
-/// The object of the name `d/` and this label. None exactly where the label is no domain label, or the name isn't served.
-fn value<N: Names>(alloc: Global, names: &N, x: &[u8]) -> Result<Option<IfaObject>, NoMemory>
-    requires { IsWireLabel x.now }
-    ensures { IfOk result (λ o. option_map members o ≡ value_of (N.served names.now) x.now) }
+/// The number of the object of the name `d/` and this label. None exactly where the label is no domain label, or the name isn't served.
+fn value<N: Names>(alloc: Global, names: &N, x: &[u8], book: &mut Book) -> Result<Option<usize>, NoMemory>
+    requires name { IsWireLabel x.now }
+    requires sound { IsSound (N.served names.now) book.old }
+    ensures found { IfOk result (λ o. Finds (objects book.new) o (value_of (N.served names.now) x.now)) }
+    ensures sound { OnOk result (IsSound (N.served names.now) book.new) }
 {
     if !is_domain_label(x) {
         return Ok(None);
     }
     let name = value_name(x);
-    match names.live(&name[..2 + x.len()]) {
-        None => Ok(None),
-        Some(value) => Ok(Some(read_value(alloc, value)?)),
-    }
+    let found = book.named(alloc, names, &name[..2 + x.len()])?;
+    Ok(found)
 }
 
 /// What one name is answered with.
@@ -46,9 +44,12 @@ fn ask<N: Names>(
     zone: &Zone,
     kind: u16,
     place: &Place,
+    book: &mut Book,
 ) -> Result<Asked, NoMemory>
-    requires { IsPlace (seen_place place.now) }
-    ensures { IfOk result (λ a. seen_asked a ≡ asked_at (N.served names.now) zone.now kind (seen_place place.now)) }
+    requires place { IsPlace (seen_place place.now) }
+    requires sound { IsSound (N.served names.now) book.old }
+    ensures asked { IfOk result (λ a. seen_asked a ≡ asked_at (N.served names.now) zone.now kind (seen_place place.now)) }
+    ensures sound { OnOk result (IsSound (N.served names.now) book.new) }
 {
     match place {
         Place::Outside => Ok(Asked::Done(answered(alloc, Resources::new(alloc)))),
@@ -56,9 +57,12 @@ fn ask<N: Names>(
             let found = apex_records(alloc, zone, kind)?;
             Ok(Asked::Done(or_no_data(alloc, zone, found)?))
         }
-        Place::Below(name) => match value(alloc, names, name.x.as_slice())? {
+        Place::Below(name) => match value(alloc, names, name.x.as_slice(), book)? {
             None => Ok(Asked::Done(negative(alloc, zone, rcode::NXDOMAIN)?)),
-            Some(object) => by_object(alloc, names, zone, name, object, kind),
+            Some(at) => {
+                let asked = by_object(alloc, names, zone, name, at, kind, book)?;
+                Ok(asked)
+            }
         },
     }
 }
@@ -106,11 +110,12 @@ fn chase<N: Names>(
     requires { IsPlace (seen_place first) }
     ensures { IfOk result (λ s. seen_sections s ≡ chase_of (N.served names.now) zone.now kind GREATEST (seen_place first)) }
 {
+    let mut book = Book::new(alloc);
     let mut before = Resources::new(alloc);
     let mut place = first;
     let mut left = MOST_CNAMES;
     while left > 0 {
-        match ask(alloc, names, zone, kind, &place)? {
+        match ask(alloc, names, zone, kind, &place, &mut book)? {
             Asked::Done(last) => return after_records(alloc, before, last),
             Asked::Renamed(found, target) => {
                 add_found(alloc, found, &mut before)?;

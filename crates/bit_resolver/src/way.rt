@@ -1,16 +1,18 @@
 //! The way down to a name.
 
-ghost use Rattle.std.specs.Prelude.{◌≡◌, ◌≤◌, ◌<◌, [], drop, get_or, length, map, IfOk};
+ghost use Rattle.std.specs.Prelude.{◌≡◌, ◌≤◌, ◌<◌, [], drop, get_or, length, IfOk, OnOk};
 ghost use Rattle.import_expand.specs.Sources.{child_of, sources_of};
-ghost use Rattle.ifa_value.specs.Object.{members};
+ghost use Rattle.serde_json.specs.Data.{Members};
+ghost use Rattle.import_expand.specs.Books.{objects, IsAt, IsSound, Later};
+ghost use Rattle.bit_resolver.specs.Nodes.{Node as NodeOf};
 ghost use Rattle.bit_resolver.specs.Places.{IsBelow, own_of, top_of};
-ghost use Rattle.bit_resolver.specs.Ends.{Ends, seen_below, seen_node};
+ghost use Rattle.bit_resolver.specs.Ends.{Ends, IsTop, ShowsNode, seen_below};
 
 use crate::node::Node;
 use crate::place::Below;
 use domain_text::Name;
-use ifa_value::{IfaObject, Key};
-use import_expand::{Names, child, sources};
+use ifa_value::Key;
+use import_expand::{Book, Names, child, sources};
 use nmc_base::NoMemory;
 use std::alloc::Global;
 
@@ -29,11 +31,15 @@ fn top_node<'a, N: Names>(
     alloc: Global,
     names: &N,
     top: &'a Name,
-    object: IfaObject,
+    at: usize,
+    book: &mut Book,
 ) -> Result<Node<'a>, NoMemory>
-    ensures { IfOk result (λ n. seen_node n ≡ record { own = top.now; top = top.now; of = sources_of (N.served names.now) 0 (members object) }) }
+    requires sound { IsSound (N.served names.now) book.old }
+    ensures found { IfOk result (λ n. (o : Members) → IsAt (objects book.old) at o → ShowsNode (objects book.new) n (record { own = top.now; top = top.now; of = sources_of (N.served names.now) 0 o })) }
+    ensures later { OnOk result (Later (N.served names.now) book.old book.new) }
+    ensures top { IfOk result (λ n. n.top.now ≡ top.now) }
 {
-    let of = sources(alloc, names, object, 0)?;
+    let of = sources(alloc, names, at, book)?;
     Ok(Node {
         own: top.copy(),
         top,
@@ -48,14 +54,18 @@ fn node_below<'a, N: Names>(
     name: &Below,
     left: usize,
     above: &Node<'a>,
+    book: &mut Book,
 ) -> Result<Node<'a>, NoMemory>
     requires name { IsBelow (seen_below name.now) }
     requires top { above.now.top.now ≡ top_of (seen_below name.now) }
     requires left { left < length name.now.path.items }
-    ensures { IfOk result (λ n. seen_node n ≡ record { own = own_of (seen_below name.now) (drop left name.now.path.items); top = above.now.top.now; of = child_of (N.served names.now) (map members above.now.of.held.items) (get_or name.now.path.items left []) }) }
+    requires sound { IsSound (N.served names.now) book.old }
+    ensures found { IfOk result (λ n. (m : NodeOf) → ShowsNode (objects book.old) above.now m → ShowsNode (objects book.new) n (record { own = own_of (seen_below name.now) (drop left name.now.path.items); top = m.top; of = child_of (N.served names.now) m.of (get_or name.now.path.items left []) })) }
+    ensures later { OnOk result (Later (N.served names.now) book.old book.new) }
+    ensures top { IfOk result (λ n. n.top.now ≡ above.now.top.now) }
 {
     let own = name.own_at(alloc, above.top, left)?;
-    let of = child(alloc, names, &above.of, name.path[left].as_slice())?;
+    let of = child(alloc, names, above.of.as_slice(), name.path[left].as_slice(), book)?;
     Ok(Node {
         own,
         top: above.top,
@@ -63,30 +73,34 @@ fn node_below<'a, N: Names>(
     })
 }
 
-/// Walks down to a name, which ends with the name at the top, whose value is this object.
+/// Walks down to a name, which ends with the name at the top, whose value is the object of this number.
 pub(crate) fn go_down<'a, N: Names>(
     alloc: Global,
     names: &N,
     name: &Below,
     top: &'a Name,
-    object: IfaObject,
+    at: usize,
+    book: &mut Book,
 ) -> Result<Walk<'a>, NoMemory>
     requires name { IsBelow (seen_below name.now) }
     requires top { top.now ≡ top_of (seen_below name.now) }
-    ensures { IfOk result (λ w. Ends (N.served names.now) (seen_below name.now) (members object) w) }
+    requires sound { IsSound (N.served names.now) book.old }
+    ensures ends { IfOk result (λ w. (o : Members) → IsAt (objects book.old) at o → Ends (N.served names.now) (objects book.new) (seen_below name.now) o w) }
+    ensures sound { OnOk result (IsSound (N.served names.now) book.new) }
+    ensures top { IfOk result (λ w. IsTop (seen_below name.now) w) }
 {
-    let mut node = top_node(alloc, names, top, object)?;
+    let mut node = top_node(alloc, names, top, at, book)?;
     let mut left = name.path.len();
     while left > 0 {
-        if node.is_cut(alloc)? {
+        if node.is_cut(alloc, book)? {
             return Ok(Walk::Cut(node, left));
         }
-        match node.target(alloc, Key::Translate)? {
+        match node.target(alloc, Key::Translate, book)? {
             Some(target) => return Ok(Walk::Moved(node, left, target)),
             None => {}
         }
         left -= 1;
-        node = node_below(alloc, names, name, left, &node)?;
+        node = node_below(alloc, names, name, left, &node, book)?;
         if node.of.len() == 0 {
             return Ok(Walk::Missing);
         }
