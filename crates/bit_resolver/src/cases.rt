@@ -1,8 +1,9 @@
 //! What a node answers.
 
-ghost use Rattle.std.specs.Prelude.{◌≡◌, ◌≤◌, ◌++◌, drop, length, IfOk, OnOk, Some};
+ghost use Rattle.std.specs.Prelude.{◌≡◌, ◌≤◌, ◌++◌, drop, length, IfOk, IfErr, OnOk, Some};
 ghost use Rattle.serde_json.specs.Data.{Members};
-ghost use Rattle.import_expand.specs.Books.{objects, IsAt, IsSound};
+ghost use Rattle.import_expand.specs.Books.{objects, values_read, IsAt, IsSound};
+ghost use Rattle.import_expand.specs.declared.exhausted.Exhausted.TheVariants.{Values};
 ghost use Rattle.bit_resolver.specs.Nodes.{Node as NodeOf};
 ghost use Rattle.bit_resolver.specs.Places.{IsBelow, own_of, top_of};
 ghost use Rattle.bit_resolver.specs.Answers.{negative as negative_of, or_no_data as or_no_data_of, apex_records as apex_records_of, answered as answered_of, referral as referral_of, is_asked as is_asked_of, matching as matching_of, record_items, by_cname as by_cname_of, in_zone as in_zone_of, at_cut as at_cut_of, at_name as at_name_of, by_dname as by_dname_of, dname_of, replaced, by_value};
@@ -17,8 +18,7 @@ use crate::zone::Zone;
 use dns_message::rcode;
 use domain_text::Name;
 use ifa_value::Key;
-use import_expand::Book;
-use import_expand::Names;
+use import_expand::{Book, Exhausted, Names};
 use nmc_base::NoMemory;
 use std::alloc::Global;
 
@@ -232,11 +232,13 @@ pub(crate) fn by_object<N: Names>(
     at: usize,
     kind: u16,
     book: &mut Book,
-) -> Result<Asked, NoMemory>
+) -> Result<Asked, Exhausted>
     requires name { IsBelow (seen_below name.now) }
     requires sound { IsSound (N.served names.now) book.old }
     ensures asked { IfOk result (λ a. (o : Members) → IsAt (objects book.old) at o → seen_asked a ≡ by_value (N.served names.now) zone.now (seen_below name.now) kind (Some o)) }
     ensures sound { OnOk result (IsSound (N.served names.now) book.new) }
+    ensures bound { values_read book.new ≤ 4096 }
+    ensures refused { IfErr result (λ e. e ≡ Values → values_read book.new ≡ 4096) }
 {
     let top = name.top();
     match go_down(alloc, names, name, &top, at, book)? {

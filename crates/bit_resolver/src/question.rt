@@ -1,9 +1,10 @@
 //! Answers of questions.
 
-ghost use Rattle.std.specs.Prelude.{◌≡◌, ◌++◌, IfOk, OnOk};
+ghost use Rattle.std.specs.Prelude.{◌≡◌, ◌≤◌, ◌++◌, IfOk, IfErr, OnOk};
 ghost use Rattle.domain_text.specs.Names.{IsName, IsWireLabel};
 ghost use Rattle.dns_message.specs.Query.{query_of};
-ghost use Rattle.import_expand.specs.Books.{objects, Finds, IsSound};
+ghost use Rattle.import_expand.specs.Books.{objects, values_read, Finds, IsSound};
+ghost use Rattle.import_expand.specs.declared.exhausted.Exhausted.TheVariants.{Values};
 ghost use Rattle.bit_resolver.specs.Places.{IsPlace, place_of};
 ghost use Rattle.bit_resolver.specs.Answers.{value_of, asked_at, after_records as after_records_of, chase as chase_of, is_refused as is_refused_of, answer_at, answer_to};
 ghost use Rattle.bit_resolver.specs.Laws.{IsLawful};
@@ -18,16 +19,18 @@ use crate::rr_type;
 use crate::zone::Zone;
 use dns_message::{Question, rcode};
 use domain_text::Name;
-use import_expand::{Book, Names};
+use import_expand::{Book, Exhausted, Names};
 use nmc_base::NoMemory;
 use std::alloc::Global;
 
 /// The number of the object of the name `d/` and this label. None exactly where the label is no domain label, or the name isn't served.
-fn value<N: Names>(alloc: Global, names: &N, x: &[u8], book: &mut Book) -> Result<Option<usize>, NoMemory>
+fn value<N: Names>(alloc: Global, names: &N, x: &[u8], book: &mut Book) -> Result<Option<usize>, Exhausted>
     requires name { IsWireLabel x.now }
     requires sound { IsSound (N.served names.now) book.old }
     ensures found { IfOk result (λ o. Finds (objects book.new) o (value_of (N.served names.now) x.now)) }
     ensures sound { OnOk result (IsSound (N.served names.now) book.new) }
+    ensures bound { values_read book.new ≤ 4096 }
+    ensures refused { IfErr result (λ e. e ≡ Values → values_read book.new ≡ 4096) }
 {
     if !is_domain_label(x) {
         return Ok(None);
@@ -45,11 +48,13 @@ fn ask<N: Names>(
     kind: u16,
     place: &Place,
     book: &mut Book,
-) -> Result<Asked, NoMemory>
+) -> Result<Asked, Exhausted>
     requires place { IsPlace (seen_place place.now) }
     requires sound { IsSound (N.served names.now) book.old }
     ensures asked { IfOk result (λ a. seen_asked a ≡ asked_at (N.served names.now) zone.now kind (seen_place place.now)) }
     ensures sound { OnOk result (IsSound (N.served names.now) book.new) }
+    ensures bound { values_read book.new ≤ 4096 }
+    ensures refused { IfErr result (λ e. e ≡ Values → values_read book.new ≡ 4096) }
 {
     match place {
         Place::Outside => Ok(Asked::Done(answered(alloc, Resources::new(alloc)))),
@@ -106,17 +111,23 @@ fn chase<N: Names>(
     zone: &Zone,
     kind: u16,
     first: Place,
-) -> Result<Sections, NoMemory>
-    requires { IsPlace (seen_place first) }
-    ensures { IfOk result (λ s. seen_sections s ≡ chase_of (N.served names.now) zone.now kind GREATEST (seen_place first)) }
+    book: &mut Book,
+) -> Result<Sections, Exhausted>
+    requires place { IsPlace (seen_place first) }
+    requires sound { IsSound (N.served names.now) book.old }
+    ensures answer { IfOk result (λ s. seen_sections s ≡ chase_of (N.served names.now) zone.now kind GREATEST (seen_place first)) }
+    ensures bound { values_read book.new ≤ 4096 }
+    ensures refused { IfErr result (λ e. e ≡ Values → values_read book.new ≡ 4096) }
 {
-    let mut book = Book::new(alloc);
     let mut before = Resources::new(alloc);
     let mut place = first;
     let mut left = MOST_CNAMES;
     while left > 0 {
-        match ask(alloc, names, zone, kind, &place, &mut book)? {
-            Asked::Done(last) => return after_records(alloc, before, last),
+        match ask(alloc, names, zone, kind, &place, book)? {
+            Asked::Done(last) => {
+                let sections = after_records(alloc, before, last)?;
+                return Ok(sections);
+            }
             Asked::Renamed(found, target) => {
                 add_found(alloc, found, &mut before)?;
                 place = target_place(alloc, target)?;
@@ -135,16 +146,20 @@ fn is_refused(kind: u16, class: u16, place: &Place) -> bool
 }
 
 /// The answer of a question whose name has this place.
-fn answer<N: Names>(
+fn answer_place<N: Names>(
     alloc: Global,
     names: &N,
     zone: &Zone,
     kind: u16,
     class: u16,
     place: Place,
-) -> Result<Sections, NoMemory>
-    requires { IsPlace (seen_place place) }
-    ensures { IfOk result (λ s. seen_sections s ≡ answer_at (N.served names.now) zone.now kind class (seen_place place)) }
+    book: &mut Book,
+) -> Result<Sections, Exhausted>
+    requires place { IsPlace (seen_place place) }
+    requires sound { IsSound (N.served names.now) book.old }
+    ensures answer { IfOk result (λ s. seen_sections s ≡ answer_at (N.served names.now) zone.now kind class (seen_place place)) }
+    ensures bound { values_read book.new ≤ 4096 }
+    ensures refused { IfErr result (λ e. e ≡ Values → values_read book.new ≡ 4096) }
 {
     if is_refused(kind, class, &place) {
         return Ok(Sections {
@@ -154,7 +169,8 @@ fn answer<N: Names>(
             aa: false,
         });
     }
-    chase(alloc, names, zone, kind, place)
+    let sections = chase(alloc, names, zone, kind, place, book)?;
+    Ok(sections)
 }
 
 /// The answer of a question.
@@ -163,28 +179,41 @@ fn answer_question<N: Names>(
     names: &N,
     zone: &Zone,
     asked: &Question<'_>,
-) -> Result<Sections, NoMemory>
+    book: &mut Book,
+) -> Result<Sections, Exhausted>
     requires name { IsName asked.now.name.now }
-    ensures { IfOk result (λ s. seen_sections s ≡ answer_to (N.served names.now) zone.now (query_of asked.now)) }
+    requires sound { IsSound (N.served names.now) book.old }
+    ensures answer { IfOk result (λ s. seen_sections s ≡ answer_to (N.served names.now) zone.now (query_of asked.now)) }
+    ensures bound { values_read book.new ≤ 4096 }
+    ensures refused { IfErr result (λ e. e ≡ Values → values_read book.new ≡ 4096) }
 {
     let place = find_place(alloc, asked.name)?;
-    answer(alloc, names, zone, asked.kind, asked.class, place)
+    let sections = answer_place(alloc, names, zone, asked.kind, asked.class, place, book)?;
+    Ok(sections)
 }
 
 /// The answer of a question (RFC 1034, 4.3.2): from the value of `d/x` for a name at or below `x.bit.`, from the zone
-/// itself for `bit.`, and REFUSED for any other name, another class than IN, and zone transfers.
+/// itself for `bit.`, and REFUSED for any other name, another class than IN, and zone transfers. `values` becomes how many
+/// values were read for it.
 pub fn resolve<N: Names>(
     alloc: Global,
     names: &N,
     zone: &Zone,
     asked: &Question<'_>,
-) -> Result<Sections, NoMemory>
+    values: &mut u16,
+) -> Result<Sections, Exhausted>
     requires name { IsName asked.now.name.now }
     // It is the definition's.
     ensures answer { IfOk result (λ s. seen_sections s ≡ answer_to (N.served names.now) zone.now (query_of asked.now)) }
     // Of each answer: why each record stands where it does, and that it has at most eight CNAME records.
     ensures lawful { IfOk result (λ s. IsLawful asked.now.kind GREATEST (seen_sections s)) }
+    // At most 4,096 values are read for it, and an answer that would need more is refused for that cause alone.
+    ensures bound { values.new ≤ 4096 }
+    ensures refused { IfErr result (λ e. e ≡ Values → values.new ≡ 4096) }
 {
-    let sections = answer_question(alloc, names, zone, asked)?;
+    let mut book = Book::new(alloc);
+    let found = answer_question(alloc, names, zone, asked, &mut book);
+    *values = book.values_read();
+    let sections = found?;
     Ok(sections)
 }

@@ -1,9 +1,10 @@
 //! The way down to a name.
 
-ghost use Rattle.std.specs.Prelude.{◌≡◌, ◌≤◌, ◌<◌, [], drop, get_or, length, IfOk, OnOk};
+ghost use Rattle.std.specs.Prelude.{◌≡◌, ◌≤◌, ◌<◌, [], drop, get_or, length, IfOk, IfErr, OnOk};
 ghost use Rattle.import_expand.specs.Sources.{child_of, sources_of};
 ghost use Rattle.serde_json.specs.Data.{Members};
-ghost use Rattle.import_expand.specs.Books.{objects, IsAt, IsSound, Later};
+ghost use Rattle.import_expand.specs.Books.{objects, values_read, IsAt, IsSound, Later};
+ghost use Rattle.import_expand.specs.declared.exhausted.Exhausted.TheVariants.{Values};
 ghost use Rattle.bit_resolver.specs.Nodes.{Node as NodeOf};
 ghost use Rattle.bit_resolver.specs.Places.{IsBelow, own_of, top_of};
 ghost use Rattle.bit_resolver.specs.Ends.{Ends, IsTop, ShowsNode, seen_below};
@@ -12,8 +13,7 @@ use crate::node::Node;
 use crate::place::Below;
 use domain_text::Name;
 use ifa_value::Key;
-use import_expand::{Book, Names, child, sources};
-use nmc_base::NoMemory;
+use import_expand::{Book, Exhausted, Names, child, sources};
 use std::alloc::Global;
 
 /// How the way down to a name ends: at its node; without one; at a cut on the way; or at a node on the way that is moved,
@@ -33,11 +33,13 @@ fn top_node<'a, N: Names>(
     top: &'a Name,
     at: usize,
     book: &mut Book,
-) -> Result<Node<'a>, NoMemory>
+) -> Result<Node<'a>, Exhausted>
     requires sound { IsSound (N.served names.now) book.old }
     ensures found { IfOk result (λ n. (o : Members) → IsAt (objects book.old) at o → ShowsNode (objects book.new) n (record { own = top.now; top = top.now; of = sources_of (N.served names.now) 0 o })) }
     ensures later { OnOk result (Later (N.served names.now) book.old book.new) }
     ensures top { IfOk result (λ n. n.top.now ≡ top.now) }
+    ensures bound { values_read book.new ≤ 4096 }
+    ensures refused { IfErr result (λ e. e ≡ Values → values_read book.new ≡ 4096) }
 {
     let of = sources(alloc, names, at, book)?;
     Ok(Node {
@@ -55,7 +57,7 @@ fn node_below<'a, N: Names>(
     left: usize,
     above: &Node<'a>,
     book: &mut Book,
-) -> Result<Node<'a>, NoMemory>
+) -> Result<Node<'a>, Exhausted>
     requires name { IsBelow (seen_below name.now) }
     requires top { above.now.top.now ≡ top_of (seen_below name.now) }
     requires left { left < length name.now.path.items }
@@ -63,6 +65,8 @@ fn node_below<'a, N: Names>(
     ensures found { IfOk result (λ n. (m : NodeOf) → ShowsNode (objects book.old) above.now m → ShowsNode (objects book.new) n (record { own = own_of (seen_below name.now) (drop left name.now.path.items); top = m.top; of = child_of (N.served names.now) m.of (get_or name.now.path.items left []) })) }
     ensures later { OnOk result (Later (N.served names.now) book.old book.new) }
     ensures top { IfOk result (λ n. n.top.now ≡ above.now.top.now) }
+    ensures bound { values_read book.new ≤ 4096 }
+    ensures refused { IfErr result (λ e. e ≡ Values → values_read book.new ≡ 4096) }
 {
     let own = name.own_at(alloc, above.top, left)?;
     let of = child(alloc, names, above.of.as_slice(), name.path[left].as_slice(), book)?;
@@ -81,13 +85,15 @@ pub(crate) fn go_down<'a, N: Names>(
     top: &'a Name,
     at: usize,
     book: &mut Book,
-) -> Result<Walk<'a>, NoMemory>
+) -> Result<Walk<'a>, Exhausted>
     requires name { IsBelow (seen_below name.now) }
     requires top { top.now ≡ top_of (seen_below name.now) }
     requires sound { IsSound (N.served names.now) book.old }
     ensures ends { IfOk result (λ w. (o : Members) → IsAt (objects book.old) at o → Ends (N.served names.now) (objects book.new) (seen_below name.now) o w) }
     ensures sound { OnOk result (IsSound (N.served names.now) book.new) }
     ensures top { IfOk result (λ w. IsTop (seen_below name.now) w) }
+    ensures bound { values_read book.new ≤ 4096 }
+    ensures refused { IfErr result (λ e. e ≡ Values → values_read book.new ≡ 4096) }
 {
     let mut node = top_node(alloc, names, top, at, book)?;
     let mut left = name.path.len();
