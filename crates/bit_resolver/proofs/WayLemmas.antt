@@ -10,8 +10,7 @@ use Rattle.bit_resolver.specs.Places.{Below, own_of, top_of}
 use Rattle.bit_resolver.specs.Nodes.{Node, node_at, rdata_at, target_at, is_nil}
 use Rattle.bit_resolver.specs.Ends.{ShowsNode, Ends}
 use Rattle.bit_resolver.specs.declared.way.Walk.{Walk}
-use Rattle.import_expand.specs.Books.{Shows}
-use Rattle.import_expand.proofs.ExpandLemmas.{shows_length}
+use Rattle.import_expand.specs.declared.room.Room.{Room}
 use Rattle.bit_resolver.specs.declared.node.Node.{Node as NodeIn}
 use Rattle.bit_resolver.specs.Way.{Stop, missing, cut, moved, or_else, stop_with, stop_here, stop_above, stop_before, stop_on_way, if_missing}
 
@@ -138,14 +137,8 @@ no_cut r false t e = absurd (cc)
 pub at_node : (live : Live) (o : Members) (b : Below) (left : ℕ) (here : Node) → OnWay live o b left here → OnWay live o b left (node_at live o b (drop left b.path))
 at_node live o b left here on = record { within = on.within; is_node = refl; exists = sym (ap (λ n. is_nil n.of) on.is_node) ∙ on.exists; free = on.free }
 
-pub shows_node : (os : List Members) (n : NodeIn) (x y : Node) → x ≡ y → ShowsNode os n x → ShowsNode os n y
-shows_node os n x y e h = rw (sym e) h
+pub shows_node : (r : Room) (n : NodeIn) (x y : Node) → x ≡ y → ShowsNode r n x → ShowsNode r n y
+shows_node r n x y e h = rw (sym e) h
 
-pub none_shown : (os : List Members) (is : List ℕ) (ms : List Members) → Shows os is ms → length is ≡ 0 → length ms ≡ 0
-none_shown os is ms h e = sym (shows_length os is ms h) ∙ e
-
-pub none_shows : (os : List Members) (is : List ℕ) (ms : List Members) → Shows os is ms → length ms ≡ 0 → length is ≡ 0
-none_shows os is ms h e = shows_length os is ms h ∙ e
-
-pub ends_is : (live : Live) (os : List Members) (b : Below) (o : Members) (w v : Walk) → w ≡ v → Ends live os b o w → Ends live os b o v
-ends_is live os b o w v e h = rw (sym e) h
+pub ends_is : (live : Live) (r : Room) (b : Below) (o : Members) (w v : Walk) → w ≡ v → Ends live r b o w → Ends live r b o v
+ends_is live r b o w v e h = rw (sym e) h

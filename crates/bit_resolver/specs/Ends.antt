@@ -1,8 +1,9 @@
 -- Values of the code as definitions see them.
-use Rattle.std.specs.Prelude.{◌≡◌, ◌≤◌, List, drop, length, Some, None}
+use Rattle.std.specs.Prelude.{◌≡◌, ◌≤◌, drop, length, Some, None}
 use Rattle.serde_json.specs.Data.{Members}
 use Rattle.import_expand.specs.Sources.{Live}
-use Rattle.import_expand.specs.Books.{Shows}
+use Rattle.import_expand.specs.Rooms.{IsNode}
+use Rattle.import_expand.specs.declared.room.Room.{Room}
 use Rattle.bit_resolver.specs.Places.{Below, Place, outside, apex, below, top_of}
 use Rattle.bit_resolver.specs.Nodes.{Node, node_at}
 use Rattle.bit_resolver.specs.Way.{missing, cut, moved, stop_on_way}
@@ -25,18 +26,18 @@ seen_place place_in.Outside = outside
 seen_place place_in.Apex = apex
 seen_place (place_in.Below b) = below (seen_below b)
 
--- the node whose sources have these numbers in a book of these objects
-pub record ShowsNode (os : List Members) (n : NodeIn) (m : Node) : Type 0 where
+-- the node whose sources have this number in a room
+pub record ShowsNode (r : Room) (n : NodeIn) (m : Node) : Type 0 where
   pub own : m.own ≡ n.own
   pub top : m.top ≡ n.top.now
-  pub of : Shows os n.of.items m.of
+  pub of : IsNode r n.of m.of
 
 -- how a walk down to a name ends
-abbrev pub Ends : Live → List Members → Below → Members → Walk → Type 0
-Ends live os b o (Arrived n) = (stop_on_way live o b b.path ≡ None) × ShowsNode os n (node_at live o b b.path)
-Ends live os b o Missing = stop_on_way live o b b.path ≡ Some missing
-Ends live os b o (Cut n left) = (stop_on_way live o b b.path ≡ Some (cut (drop left b.path))) × ShowsNode os n (node_at live o b (drop left b.path)) × (left ≤ length b.path)
-Ends live os b o (Moved n left target) = (stop_on_way live o b b.path ≡ Some (moved (drop left b.path) target)) × ShowsNode os n (node_at live o b (drop left b.path)) × (left ≤ length b.path)
+abbrev pub Ends : Live → Room → Below → Members → Walk → Type 0
+Ends live r b o (Arrived n) = (stop_on_way live o b b.path ≡ None) × ShowsNode r n (node_at live o b b.path)
+Ends live r b o Missing = stop_on_way live o b b.path ≡ Some missing
+Ends live r b o (Cut n left) = (stop_on_way live o b b.path ≡ Some (cut (drop left b.path))) × ShowsNode r n (node_at live o b (drop left b.path)) × (left ≤ length b.path)
+Ends live r b o (Moved n left target) = (stop_on_way live o b b.path ≡ Some (moved (drop left b.path) target)) × ShowsNode r n (node_at live o b (drop left b.path)) × (left ≤ length b.path)
 
 -- a node on the way stands below the name at the top
 abbrev pub IsTop : Below → Walk → Type 0

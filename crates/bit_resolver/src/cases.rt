@@ -2,7 +2,8 @@
 
 ghost use Rattle.std.specs.Prelude.{◌≡◌, ◌≤◌, ◌++◌, drop, length, IfOk, IfErr, OnOk, Some};
 ghost use Rattle.serde_json.specs.Data.{Members};
-ghost use Rattle.import_expand.specs.Books.{objects, values_read, IsAt, IsSound};
+ghost use Rattle.import_expand.specs.Books.{IsAt};
+ghost use Rattle.import_expand.specs.Rooms.{objects_in, values_read, IsSound};
 ghost use Rattle.import_expand.specs.declared.exhausted.Exhausted.TheVariants.{Values};
 ghost use Rattle.bit_resolver.specs.Nodes.{Node as NodeOf};
 ghost use Rattle.bit_resolver.specs.Places.{IsBelow, own_of, top_of};
@@ -18,7 +19,7 @@ use crate::zone::Zone;
 use dns_message::rcode;
 use domain_text::Name;
 use ifa_value::Key;
-use import_expand::{Book, Exhausted, Names};
+use import_expand::{Room, Exhausted, Names};
 use nmc_base::NoMemory;
 use std::alloc::Global;
 
@@ -96,21 +97,21 @@ fn is_asked(kind: u16, key: Key) -> bool
 }
 
 /// The records of these items that match a QTYPE.
-fn matching(alloc: Global, node: &Node<'_>, kind: u16, keys: &[Key], book: &Book) -> Result<Resources, NoMemory>
-    ensures { IfOk result (λ v. (n : NodeOf) → ShowsNode (objects book.now) node.now n → v.items ≡ matching_of n kind keys.now) }
+fn matching(alloc: Global, node: &Node<'_>, kind: u16, keys: &[Key], room: &Room) -> Result<Resources, NoMemory>
+    ensures { IfOk result (λ v. (n : NodeOf) → ShowsNode room.now node.now n → v.items ≡ matching_of n kind keys.now) }
 {
     let mut found = Resources::new(alloc);
     for key in keys {
         if is_asked(kind, *key) {
-            node.add_item(alloc, *key, book, &mut found)?;
+            node.add_item(alloc, *key, room, &mut found)?;
         }
     }
     Ok(found)
 }
 
 /// The records of a node that match a QTYPE.
-fn matching_any(alloc: Global, node: &Node<'_>, kind: u16, book: &Book) -> Result<Resources, NoMemory>
-    ensures { IfOk result (λ v. (n : NodeOf) → ShowsNode (objects book.now) node.now n → v.items ≡ matching_of n kind record_items) }
+fn matching_any(alloc: Global, node: &Node<'_>, kind: u16, room: &Room) -> Result<Resources, NoMemory>
+    ensures { IfOk result (λ v. (n : NodeOf) → ShowsNode room.now node.now n → v.items ≡ matching_of n kind record_items) }
 {
     let keys = [
         Key::Ip,
@@ -122,7 +123,7 @@ fn matching_any(alloc: Global, node: &Node<'_>, kind: u16, book: &Book) -> Resul
         Key::Sshfp,
         Key::Tls,
     ];
-    let found = matching(alloc, node, kind, &keys, book)?;
+    let found = matching(alloc, node, kind, &keys, room)?;
     Ok(found)
 }
 
@@ -139,12 +140,12 @@ fn by_cname(alloc: Global, kind: u16, own: &Name, target: Name) -> Result<Asked,
 }
 
 /// What the node of a name answers that is no cut.
-fn in_zone(alloc: Global, zone: &Zone, node: &Node<'_>, kind: u16, book: &Book) -> Result<Asked, NoMemory>
-    ensures { IfOk result (λ a. (n : NodeOf) → ShowsNode (objects book.now) node.now n → seen_asked a ≡ in_zone_of zone.now n kind) }
+fn in_zone(alloc: Global, zone: &Zone, node: &Node<'_>, kind: u16, room: &Room) -> Result<Asked, NoMemory>
+    ensures { IfOk result (λ a. (n : NodeOf) → ShowsNode room.now node.now n → seen_asked a ≡ in_zone_of zone.now n kind) }
 {
-    match node.target(alloc, Key::Alias, book)? {
+    match node.target(alloc, Key::Alias, room)? {
         None => {
-            let found = matching_any(alloc, node, kind, book)?;
+            let found = matching_any(alloc, node, kind, room)?;
             Ok(Asked::Done(or_no_data(alloc, zone, found)?))
         }
         Some(target) => {
@@ -155,26 +156,26 @@ fn in_zone(alloc: Global, zone: &Zone, node: &Node<'_>, kind: u16, book: &Book) 
 }
 
 /// What a cut at the name itself answers: DS stands above the cut.
-fn at_cut(alloc: Global, zone: &Zone, node: &Node<'_>, kind: u16, book: &Book) -> Result<Sections, NoMemory>
-    ensures { IfOk result (λ s. (n : NodeOf) → ShowsNode (objects book.now) node.now n → seen_sections s ≡ at_cut_of zone.now n kind) }
+fn at_cut(alloc: Global, zone: &Zone, node: &Node<'_>, kind: u16, room: &Room) -> Result<Sections, NoMemory>
+    ensures { IfOk result (λ s. (n : NodeOf) → ShowsNode room.now node.now n → seen_sections s ≡ at_cut_of zone.now n kind) }
 {
     if kind == rr_type::DS {
-        let found = node.records(alloc, Key::Ds, book)?;
+        let found = node.records(alloc, Key::Ds, room)?;
         let sections = or_no_data(alloc, zone, found)?;
         return Ok(sections);
     }
-    let servers = node.records(alloc, Key::Ns, book)?;
+    let servers = node.records(alloc, Key::Ns, room)?;
     Ok(referral(alloc, servers))
 }
 
 /// What the node of a name answers.
-fn at_name(alloc: Global, zone: &Zone, node: &Node<'_>, kind: u16, book: &Book) -> Result<Asked, NoMemory>
-    ensures { IfOk result (λ a. (n : NodeOf) → ShowsNode (objects book.now) node.now n → seen_asked a ≡ at_name_of zone.now n kind) }
+fn at_name(alloc: Global, zone: &Zone, node: &Node<'_>, kind: u16, room: &Room) -> Result<Asked, NoMemory>
+    ensures { IfOk result (λ a. (n : NodeOf) → ShowsNode room.now node.now n → seen_asked a ≡ at_name_of zone.now n kind) }
 {
-    if node.is_cut(alloc, book)? {
-        return Ok(Asked::Done(at_cut(alloc, zone, node, kind, book)?));
+    if node.is_cut(alloc, room)? {
+        return Ok(Asked::Done(at_cut(alloc, zone, node, kind, room)?));
     }
-    let asked = in_zone(alloc, zone, node, kind, book)?;
+    let asked = in_zone(alloc, zone, node, kind, room)?;
     Ok(asked)
 }
 
@@ -231,20 +232,20 @@ pub(crate) fn by_object<N: Names>(
     name: &Below,
     at: usize,
     kind: u16,
-    book: &mut Book,
+    room: &mut Room,
 ) -> Result<Asked, Exhausted>
     requires name { IsBelow (seen_below name.now) }
-    requires sound { IsSound (N.served names.now) book.old }
-    ensures asked { IfOk result (λ a. (o : Members) → IsAt (objects book.old) at o → seen_asked a ≡ by_value (N.served names.now) zone.now (seen_below name.now) kind (Some o)) }
-    ensures sound { OnOk result (IsSound (N.served names.now) book.new) }
-    ensures bound { values_read book.new ≤ 4096 }
-    ensures refused { IfErr result (λ e. e ≡ Values → values_read book.new ≡ 4096) }
+    requires sound { IsSound (N.served names.now) room.old }
+    ensures asked { IfOk result (λ a. (o : Members) → IsAt (objects_in room.old) at o → seen_asked a ≡ by_value (N.served names.now) zone.now (seen_below name.now) kind (Some o)) }
+    ensures sound { OnOk result (IsSound (N.served names.now) room.new) }
+    ensures bound { values_read room.new ≤ 4096 }
+    ensures refused { IfErr result (λ e. e ≡ Values → values_read room.new ≡ 4096) }
 {
     let top = name.top();
-    match go_down(alloc, names, name, &top, at, book)? {
+    match go_down(alloc, names, name, &top, at, room)? {
         Walk::Missing => Ok(Asked::Done(negative(alloc, zone, rcode::NXDOMAIN)?)),
         Walk::Cut(node, _) => {
-            let servers = node.records(alloc, Key::Ns, book)?;
+            let servers = node.records(alloc, Key::Ns, room)?;
             Ok(Asked::Done(referral(alloc, servers)))
         }
         Walk::Moved(node, left, target) => {
@@ -252,7 +253,7 @@ pub(crate) fn by_object<N: Names>(
             Ok(asked)
         }
         Walk::Arrived(node) => {
-            let asked = at_name(alloc, zone, &node, kind, book)?;
+            let asked = at_name(alloc, zone, &node, kind, room)?;
             Ok(asked)
         }
     }

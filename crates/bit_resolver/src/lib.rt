@@ -4,6 +4,7 @@
 mod cases;
 mod limits;
 mod node;
+mod numbers;
 mod place;
 mod question;
 mod rdata;
@@ -16,6 +17,7 @@ mod writing;
 mod zone;
 
 pub use limits::{CLASS_IN, EXPIRE, MINIMUM, MOST_CNAMES, REFRESH, RETRY};
+pub use numbers::numbers_of_answers;
 pub use question::resolve;
 pub use reply_laws::{replies_are_lawful, truncated_replies_are_headed};
 pub use replying::{Answered, answer};

@@ -8,7 +8,6 @@ ghost use Rattle.ifa_value.specs.Elements.{alone};
 ghost use Rattle.bit_resolver.specs.Rdata.{rdata_of};
 ghost use Rattle.bit_resolver.specs.Answers.{records_of, records_at};
 ghost use Rattle.bit_resolver.specs.Nodes.{Node as NodeOf};
-ghost use Rattle.import_expand.specs.Books.{objects};
 ghost use Rattle.bit_resolver.specs.Ends.{ShowsNode};
 ghost use Rattle.ifa_value.specs.declared.item.Key.TheVariants.{Ns};
 
@@ -17,16 +16,16 @@ use crate::resource::{Resource, Resources, add};
 use crate::rr_type;
 use domain_text::Name;
 use ifa_value::{Element, Key};
-use import_expand::{Book, first_with};
+use import_expand::Room;
 use nmc_base::NoMemory;
 use std::alloc::Global;
 
-/// A node: its domain name, that of the name right below `bit.`, and the numbers of its sources.
+/// A node: its domain name, that of the name right below `bit.`, and its number in the room.
 #[derive(Drop)]
 pub(crate) struct Node<'a> {
     pub(crate) own: Name,
     pub(crate) top: &'a Name,
-    pub(crate) of: Vec<usize>,
+    pub(crate) of: usize,
 }
 
 /// The TYPE of the records that an item gives; 0, which is no TYPE, for those that give none.
@@ -62,10 +61,10 @@ impl<'a> Node<'a> {
     }
 
     /// The name that `alias` or `translate` gives. None exactly where there is none, or it is skipped at the node.
-    pub(crate) fn target(&self, alloc: Global, key: Key, book: &Book) -> Result<Option<Name>, NoMemory>
-        ensures { IfOk result (λ o. (n : NodeOf) → ShowsNode (objects book.now) self.now n → o ≡ target_at key n) }
+    pub(crate) fn target(&self, alloc: Global, key: Key, room: &Room) -> Result<Option<Name>, NoMemory>
+        ensures { IfOk result (λ o. (n : NodeOf) → ShowsNode room.now self.now n → o ≡ target_at key n) }
     {
-        match first_with(self.of.as_slice(), key, book) {
+        match room.first_with(self.of, key) {
             None => Ok(None),
             Some(object) => {
                 let elements = object.elements(alloc, key)?;
@@ -121,12 +120,12 @@ impl<'a> Node<'a> {
         &self,
         alloc: Global,
         key: Key,
-        book: &Book,
+        room: &Room,
         into: &mut Resources,
     ) -> Result<(), NoMemory>
-        ensures { OnOk result ((n : NodeOf) → ShowsNode (objects book.now) self.now n → into.new.items ≡ into.old.items ++ records_at key n) }
+        ensures { OnOk result ((n : NodeOf) → ShowsNode room.now self.now n → into.new.items ≡ into.old.items ++ records_at key n) }
     {
-        match first_with(self.of.as_slice(), key, book) {
+        match room.first_with(self.of, key) {
             None => Ok(()),
             Some(object) => {
                 let elements = object.elements(alloc, key)?;
@@ -137,19 +136,19 @@ impl<'a> Node<'a> {
     }
 
     /// The records of an item.
-    pub(crate) fn records(&self, alloc: Global, key: Key, book: &Book) -> Result<Resources, NoMemory>
-        ensures { IfOk result (λ v. (n : NodeOf) → ShowsNode (objects book.now) self.now n → v.items ≡ records_at key n) }
+    pub(crate) fn records(&self, alloc: Global, key: Key, room: &Room) -> Result<Resources, NoMemory>
+        ensures { IfOk result (λ v. (n : NodeOf) → ShowsNode room.now self.now n → v.items ≡ records_at key n) }
     {
         let mut found = Resources::new(alloc);
-        self.add_item(alloc, key, book, &mut found)?;
+        self.add_item(alloc, key, room, &mut found)?;
         Ok(found)
     }
 
     /// Whether other servers have authority over the node.
-    pub(crate) fn is_cut(&self, alloc: Global, book: &Book) -> Result<bool, NoMemory>
-        ensures { IfOk result (λ b. (n : NodeOf) → ShowsNode (objects book.now) self.now n → b ≡ not (is_nil (rdata_at Ns n))) }
+    pub(crate) fn is_cut(&self, alloc: Global, room: &Room) -> Result<bool, NoMemory>
+        ensures { IfOk result (λ b. (n : NodeOf) → ShowsNode room.now self.now n → b ≡ not (is_nil (rdata_at Ns n))) }
     {
-        let servers = self.records(alloc, Key::Ns, book)?;
+        let servers = self.records(alloc, Key::Ns, room)?;
         Ok(servers.len() > 0)
     }
 }

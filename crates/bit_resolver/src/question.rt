@@ -3,7 +3,8 @@
 ghost use Rattle.std.specs.Prelude.{◌≡◌, ◌≤◌, ◌++◌, IfOk, IfErr, OnOk};
 ghost use Rattle.domain_text.specs.Names.{IsName, IsWireLabel};
 ghost use Rattle.dns_message.specs.Query.{query_of};
-ghost use Rattle.import_expand.specs.Books.{objects, values_read, Finds, IsSound};
+ghost use Rattle.import_expand.specs.Books.{Finds};
+ghost use Rattle.import_expand.specs.Rooms.{objects_in, values_read, IsSound};
 ghost use Rattle.import_expand.specs.declared.exhausted.Exhausted.TheVariants.{Values};
 ghost use Rattle.bit_resolver.specs.Places.{IsPlace, place_of};
 ghost use Rattle.bit_resolver.specs.Answers.{value_of, asked_at, after_records as after_records_of, chase as chase_of, is_refused as is_refused_of, answer_at, answer_to};
@@ -19,24 +20,24 @@ use crate::rr_type;
 use crate::zone::Zone;
 use dns_message::{Question, rcode};
 use domain_text::Name;
-use import_expand::{Book, Exhausted, Names};
+use import_expand::{Room, Exhausted, Names};
 use nmc_base::NoMemory;
 use std::alloc::Global;
 
 /// The number of the object of the name `d/` and this label. None exactly where the label is no domain label, or the name isn't served.
-fn value<N: Names>(alloc: Global, names: &N, x: &[u8], book: &mut Book) -> Result<Option<usize>, Exhausted>
+fn value<N: Names>(alloc: Global, names: &N, x: &[u8], room: &mut Room) -> Result<Option<usize>, Exhausted>
     requires name { IsWireLabel x.now }
-    requires sound { IsSound (N.served names.now) book.old }
-    ensures found { IfOk result (λ o. Finds (objects book.new) o (value_of (N.served names.now) x.now)) }
-    ensures sound { OnOk result (IsSound (N.served names.now) book.new) }
-    ensures bound { values_read book.new ≤ 4096 }
-    ensures refused { IfErr result (λ e. e ≡ Values → values_read book.new ≡ 4096) }
+    requires sound { IsSound (N.served names.now) room.old }
+    ensures found { IfOk result (λ o. Finds (objects_in room.new) o (value_of (N.served names.now) x.now)) }
+    ensures sound { OnOk result (IsSound (N.served names.now) room.new) }
+    ensures bound { values_read room.new ≤ 4096 }
+    ensures refused { IfErr result (λ e. e ≡ Values → values_read room.new ≡ 4096) }
 {
     if !is_domain_label(x) {
         return Ok(None);
     }
     let name = value_name(x);
-    let found = book.named(alloc, names, &name[..2 + x.len()])?;
+    let found = room.named(alloc, names, &name[..2 + x.len()])?;
     Ok(found)
 }
 
@@ -47,14 +48,14 @@ fn ask<N: Names>(
     zone: &Zone,
     kind: u16,
     place: &Place,
-    book: &mut Book,
+    room: &mut Room,
 ) -> Result<Asked, Exhausted>
     requires place { IsPlace (seen_place place.now) }
-    requires sound { IsSound (N.served names.now) book.old }
+    requires sound { IsSound (N.served names.now) room.old }
     ensures asked { IfOk result (λ a. seen_asked a ≡ asked_at (N.served names.now) zone.now kind (seen_place place.now)) }
-    ensures sound { OnOk result (IsSound (N.served names.now) book.new) }
-    ensures bound { values_read book.new ≤ 4096 }
-    ensures refused { IfErr result (λ e. e ≡ Values → values_read book.new ≡ 4096) }
+    ensures sound { OnOk result (IsSound (N.served names.now) room.new) }
+    ensures bound { values_read room.new ≤ 4096 }
+    ensures refused { IfErr result (λ e. e ≡ Values → values_read room.new ≡ 4096) }
 {
     match place {
         Place::Outside => Ok(Asked::Done(answered(alloc, Resources::new(alloc)))),
@@ -62,10 +63,10 @@ fn ask<N: Names>(
             let found = apex_records(alloc, zone, kind)?;
             Ok(Asked::Done(or_no_data(alloc, zone, found)?))
         }
-        Place::Below(name) => match value(alloc, names, name.x.as_slice(), book)? {
+        Place::Below(name) => match value(alloc, names, name.x.as_slice(), room)? {
             None => Ok(Asked::Done(negative(alloc, zone, rcode::NXDOMAIN)?)),
             Some(at) => {
-                let asked = by_object(alloc, names, zone, name, at, kind, book)?;
+                let asked = by_object(alloc, names, zone, name, at, kind, room)?;
                 Ok(asked)
             }
         },
@@ -111,19 +112,19 @@ fn chase<N: Names>(
     zone: &Zone,
     kind: u16,
     first: Place,
-    book: &mut Book,
+    room: &mut Room,
 ) -> Result<Sections, Exhausted>
     requires place { IsPlace (seen_place first) }
-    requires sound { IsSound (N.served names.now) book.old }
+    requires sound { IsSound (N.served names.now) room.old }
     ensures answer { IfOk result (λ s. seen_sections s ≡ chase_of (N.served names.now) zone.now kind GREATEST (seen_place first)) }
-    ensures bound { values_read book.new ≤ 4096 }
-    ensures refused { IfErr result (λ e. e ≡ Values → values_read book.new ≡ 4096) }
+    ensures bound { values_read room.new ≤ 4096 }
+    ensures refused { IfErr result (λ e. e ≡ Values → values_read room.new ≡ 4096) }
 {
     let mut before = Resources::new(alloc);
     let mut place = first;
     let mut left = MOST_CNAMES;
     while left > 0 {
-        match ask(alloc, names, zone, kind, &place, book)? {
+        match ask(alloc, names, zone, kind, &place, room)? {
             Asked::Done(last) => {
                 let sections = after_records(alloc, before, last)?;
                 return Ok(sections);
@@ -153,13 +154,13 @@ fn answer_place<N: Names>(
     kind: u16,
     class: u16,
     place: Place,
-    book: &mut Book,
+    room: &mut Room,
 ) -> Result<Sections, Exhausted>
     requires place { IsPlace (seen_place place) }
-    requires sound { IsSound (N.served names.now) book.old }
+    requires sound { IsSound (N.served names.now) room.old }
     ensures answer { IfOk result (λ s. seen_sections s ≡ answer_at (N.served names.now) zone.now kind class (seen_place place)) }
-    ensures bound { values_read book.new ≤ 4096 }
-    ensures refused { IfErr result (λ e. e ≡ Values → values_read book.new ≡ 4096) }
+    ensures bound { values_read room.new ≤ 4096 }
+    ensures refused { IfErr result (λ e. e ≡ Values → values_read room.new ≡ 4096) }
 {
     if is_refused(kind, class, &place) {
         return Ok(Sections {
@@ -169,7 +170,7 @@ fn answer_place<N: Names>(
             aa: false,
         });
     }
-    let sections = chase(alloc, names, zone, kind, place, book)?;
+    let sections = chase(alloc, names, zone, kind, place, room)?;
     Ok(sections)
 }
 
@@ -179,16 +180,16 @@ fn answer_question<N: Names>(
     names: &N,
     zone: &Zone,
     asked: &Question<'_>,
-    book: &mut Book,
+    room: &mut Room,
 ) -> Result<Sections, Exhausted>
     requires name { IsName asked.now.name.now }
-    requires sound { IsSound (N.served names.now) book.old }
+    requires sound { IsSound (N.served names.now) room.old }
     ensures answer { IfOk result (λ s. seen_sections s ≡ answer_to (N.served names.now) zone.now (query_of asked.now)) }
-    ensures bound { values_read book.new ≤ 4096 }
-    ensures refused { IfErr result (λ e. e ≡ Values → values_read book.new ≡ 4096) }
+    ensures bound { values_read room.new ≤ 4096 }
+    ensures refused { IfErr result (λ e. e ≡ Values → values_read room.new ≡ 4096) }
 {
     let place = find_place(alloc, asked.name)?;
-    let sections = answer_place(alloc, names, zone, asked.kind, asked.class, place, book)?;
+    let sections = answer_place(alloc, names, zone, asked.kind, asked.class, place, room)?;
     Ok(sections)
 }
 
@@ -211,9 +212,9 @@ pub fn resolve<N: Names>(
     ensures bound { values.new ≤ 4096 }
     ensures refused { IfErr result (λ e. e ≡ Values → values.new ≡ 4096) }
 {
-    let mut book = Book::new(alloc);
-    let found = answer_question(alloc, names, zone, asked, &mut book);
-    *values = book.values_read();
+    let mut room = Room::new(alloc);
+    let found = answer_question(alloc, names, zone, asked, &mut room);
+    *values = room.values_read();
     let sections = found?;
     Ok(sections)
 }

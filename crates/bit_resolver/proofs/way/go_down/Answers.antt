@@ -1,10 +1,9 @@
 use Rattle.std.proofs.Common.{arith, refl, ap, sym, ◌∙◌, ◌-◌, drop, get_or, []}
-use Rattle.import_expand.specs.Books.{objects}
 use Rattle.import_expand.specs.Sources.{child_of, sources_of}
 use Rattle.bit_resolver.specs.Nodes.{Node, node_at}
 use Rattle.bit_resolver.specs.Places.{own_of}
 use Rattle.bit_resolver.specs.Ends.{seen_below}
-use Rattle.bit_resolver.proofs.WayLemmas.{ends_cut, ends_moved, ends_missing, ends_here, next_node, yes_cut, no_cut, starts, at_node, shows_node, none_shown, none_shows}
+use Rattle.bit_resolver.proofs.WayLemmas.{ends_cut, ends_moved, ends_missing, ends_here, next_node, yes_cut, no_cut, starts, at_node, shows_node}
 use Rattle.bit_resolver.proofs.way.go_down.Goals as goal
 
 pub returns-then-branch-clause-ends : goal.returns-then-branch-clause-ends
@@ -37,7 +36,7 @@ returns-then-len-eq0-clause-ends g c o at =
     let w = c.loop-left.invariant.3 o at in
     let s = c.in_ok-node-2.ensures.found here w.1 in
     ends_missing live o b c.loop-left.left (c.loop-left.left - 1) here _ w.0 (omega arith) (no_cut c.in_ok-is_cut.field-0 _ c.if-branch.false (c.in_ok-is_cut.ensures here w.1)) (sym (c.in_ok-target.ensures here w.1) ∙ c.in-None.is) refl
-      (none_shown (objects c.node_below.new.book) c.in_ok-node-2.node.of.items _ s.of (omega arith))
+      (sym (c.len.ensures _ s.of) ∙ c.if-len-eq0.true)
 
 pub loop-left-init : goal.loop-left-init
 loop-left-init g c = (
@@ -49,7 +48,7 @@ loop-left-init g c = (
     let b = seen_below c.args.name.now in
     let on = starts live o b c.len-left.result (node_at live o b []) refl (omega arith) in (
       at_node live o b c.len-left.result (node_at live o b []) on,
-      shows_node (objects c.top_node.new.book) c.in_ok-node.node _ _ (ap (λ t. record { own = t; top = t; of = sources_of live 0 o }) c.requires.top ∙ on.is_node) (c.in_ok-node.ensures.found o at),
+      shows_node c.top_node.new.room c.in_ok-node.node _ _ (ap (λ t. record { own = t; top = t; of = sources_of live 0 o }) c.requires.top ∙ on.is_node) (c.in_ok-node.ensures.found o at),
     ),
 )
 
@@ -67,9 +66,9 @@ loop-left-preserved g c = (
     let s = c.in_ok-node-2.ensures.found here w.1 in
     let below : Node = record { own = own_of b (drop next b.path); top = here.top; of = child_of live here.of (get_or b.path next []) } in
     let on = next_node live o b c.loop-left.left next here below w.0 (omega arith) (no_cut c.in_ok-is_cut.field-0 _ c.if-branch.false (c.in_ok-is_cut.ensures here w.1)) (sym (c.in_ok-target.ensures here w.1) ∙ c.in-None.is) refl
-        (λ e. let n = none_shows (objects c.node_below.new.book) c.in_ok-node-2.node.of.items below.of s.of e in c.if-len-eq0.false (omega (arith, n))) in (
+        (λ e. c.if-len-eq0.false (c.len.ensures below.of s.of ∙ e)) in (
       at_node live o b next below on,
-      shows_node (objects c.node_below.new.book) c.in_ok-node-2.node below _ on.is_node s,
+      shows_node c.node_below.new.room c.in_ok-node-2.node below _ on.is_node s,
     ),
 )
 
@@ -80,4 +79,4 @@ returns-clause-ends g c o at =
     let here = node_at live o b (drop c.loop-left.left b.path) in
     let w = c.loop-left.invariant.3 o at in
     let e = ends_here live o b c.loop-left.left here w.0 (omega arith) in
-    (e.0, shows_node (objects c.loop-left.book) c.loop-left.node here _ e.1 w.1)
+    (e.0, shows_node c.loop-left.room c.loop-left.node here _ e.1 w.1)
