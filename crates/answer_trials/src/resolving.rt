@@ -124,7 +124,8 @@ fn resolved(
         kind,
         class,
     };
-    Ok(resolve(alloc, index, zone, &asked)?)
+    let mut values = 0;
+    Ok(resolve(alloc, index, zone, &asked, &mut values)?)
 }
 
 /// A name, a type, a class, and what the answer is.
