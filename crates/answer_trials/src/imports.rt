@@ -1,10 +1,8 @@
 ghost use Rattle.std.specs.Prelude.{Some, None, nat_eq, ◌≤◌, if◌then◌else◌};
 ghost use Rattle.std.specs.Cmp.Lexicographic.{pointwise};
 
-use crate::comparing::same;
-use ifa_value::{Element, IfaObject, Key, read_value};
-use import_expand::{Names, Sources, child, sources};
-use nmc_base::Bytes;
+use ifa_value::{Element, IfaObject, Key};
+use import_expand::{Exhausted, MOST_VALUES, Names, Room};
 use std::alloc::Global;
 use std::cell::Cell;
 use std::process::Abort;
@@ -55,42 +53,37 @@ fn mark(alloc: Global, object: &IfaObject) -> Result<u8, Fail> {
     }
 }
 
-/// The marks of all sources.
-fn marks(alloc: Global, of: &Sources) -> Result<Bytes, Fail> {
-    let mut found = Bytes::new(alloc);
-    for i in 0..of.len() {
-        match of.item(i) {
-            Some(object) => found.extend(&[mark(alloc, object)?])?,
-            None => {}
-        }
+/// The mark of the first source of a node that has an item, or 0.
+fn first_mark(alloc: Global, room: &Room, of: usize, key: Key) -> Result<u8, Fail> {
+    match room.first_with(of, key) {
+        Some(object) => mark(alloc, object),
+        None => Ok(0),
     }
-    Ok(found)
 }
 
-fn sources_at(alloc: Global, names: &Fake<'_>, value: &[u8], depth: u8) -> Result<Sources, Fail>
-    requires { depth ≤ 4 }
-{
-    let object = read_value(alloc, value)?;
-    Ok(sources(alloc, names, object, depth)?)
+/// What is looked at of a node: how many sources it has, and the marks of the first with an address and of the first with a
+/// text.
+type Seen = (usize, u8, u8);
+
+fn seen(alloc: Global, room: &Room, of: usize) -> Result<Seen, Fail> {
+    let address = first_mark(alloc, room, of, Key::Ip)?;
+    let text = first_mark(alloc, room, of, Key::Txt)?;
+    Ok((room.len(of), address, text))
 }
 
-/// The sources have these marks.
-fn has_marks(rt: &impl Abort, alloc: Global, found: &Sources, want: &[u8]) -> Result<(), Fail> {
-    let got = marks(alloc, found)?;
-    same(rt, got.as_slice(), want);
+/// What the node of `d/a` shows.
+fn top_of(alloc: Global, names: &Fake<'_>) -> Result<Seen, Fail> {
+    let mut room = Room::new(alloc);
+    let object = room.named(alloc, names, b"d/a")?.ok_or("not served")?;
+    let top = room.top(alloc, names, object)?;
+    seen(alloc, &room, top)
+}
+
+/// The node of `d/a` shows this.
+fn gives(rt: &impl Abort, alloc: Global, names: &Fake<'_>, want: Seen) -> Result<(), Fail> {
+    let found = top_of(alloc, names)?;
+    assert!(rt; found == want);
     Ok(())
-}
-
-/// The sources of a value have these marks.
-fn gives(
-    rt: &impl Abort,
-    alloc: Global,
-    names: &Fake<'_>,
-    value: &[u8],
-    want: &[u8],
-) -> Result<(), Fail> {
-    let found = sources_at(alloc, names, value, 0)?;
-    has_marks(rt, alloc, &found, want)
 }
 
 /// An object that imports nine names.
@@ -104,95 +97,101 @@ const RING: &[u8] =
 const BELOW: &[u8] = b"{\"ip\":\"0.0.0.1\",\"import\":[[\"d/b\",\"x.y\"]]}";
 
 const SERVED: &[u8] =
-    b"{\"map\":{\"x\":{\"ip\":\"0.0.0.4\"},\"y\":{\"ip\":\"0.0.0.2\",\"map\":{\"x\":{\"ip\":\"0.0.0.3\"}}}}}";
+    b"{\"map\":{\"x\":{\"ip\":\"0.0.0.4\"},\"y\":{\"ip\":\"0.0.0.2\",\"map\":{\"x\":{\"ip\":\"0.0.0.3\",\"txt\":5}}}}}";
 
 #[test]
 fn imports(rt: HostRuntime) -> Result<(), Fail> {
-    let plain = names(b"{}", b"{\"ip\":\"0.0.0.2\"}");
-    gives(&rt, rt.alloc(), &plain, NINE, &[1, 2, 2, 2, 2, 2, 2, 2, 2])?;
-    let served = names(b"{}", SERVED);
-    gives(&rt, rt.alloc(), &served, BELOW, &[1, 3])?;
-    let none = b"{\"ip\":\"0.0.0.1\",\"import\":[[\"d/none\",\"x.y\"],[\"d/b\",\"z\"]]}";
-    gives(&rt, rt.alloc(), &served, none, &[1])?;
-    let empty = b"{\"ip\":\"0.0.0.1\",\"map\":{\"\":{\"ip\":\"0.0.0.5\",\"import\":\"d/b\"}}}";
-    gives(&rt, rt.alloc(), &served, empty, &[1, 5])
+    let nine = names(NINE, b"{\"ip\":\"0.0.0.2\",\"txt\":5}");
+    gives(&rt, rt.alloc(), &nine, (9, 1, 2))?;
+    let below = names(BELOW, SERVED);
+    gives(&rt, rt.alloc(), &below, (2, 1, 3))?;
+    let none = names(
+        b"{\"ip\":\"0.0.0.1\",\"import\":[[\"d/none\",\"x.y\"],[\"d/b\",\"z\"]]}",
+        SERVED,
+    );
+    gives(&rt, rt.alloc(), &none, (1, 1, 0))?;
+    let empty = names(
+        b"{\"ip\":\"0.0.0.1\",\"map\":{\"\":{\"ip\":\"0.0.0.5\",\"txt\":5,\"import\":\"d/b\"}}}",
+        SERVED,
+    );
+    gives(&rt, rt.alloc(), &empty, (2, 1, 5))
 }
 
-/// How many sources the ring has at a depth, and how often a value was asked for.
-fn ring_at(alloc: Global, depth: u8) -> Result<(usize, u32), Fail>
-    requires { depth ≤ 4 }
-{
-    let ring = names(RING, b"{}");
-    let found = sources_at(alloc, &ring, RING, depth)?;
-    Ok((found.len(), ring.asked.get()))
-}
-
-/// A name that imports itself eight times: 256 sources, and few values are read.
+/// A name that imports itself eight times: 256 sources, and one value is read.
 #[test]
 fn ring(rt: HostRuntime) -> Result<(), Fail> {
-    let (count, asked) = ring_at(rt.alloc(), 0)?;
-    assert!(rt; count == 256 && asked >= 255 && asked <= 600);
+    let ring = names(RING, b"{}");
+    gives(&rt, rt.alloc(), &ring, (256, 1, 0))?;
+    assert!(rt; ring.asked.get() == 1);
     Ok(())
 }
 
-/// At the depth of 4 nothing is imported.
-#[test]
-fn deepest(rt: HostRuntime) -> Result<(), Fail> {
-    let found = ring_at(rt.alloc(), 4)?;
-    assert!(rt; found == (1, 0));
-    Ok(())
+/// What the child of `d/a` under a label shows.
+fn child_of(alloc: Global, names: &Fake<'_>, label: &[u8]) -> Result<Seen, Fail> {
+    let mut room = Room::new(alloc);
+    let object = room.named(alloc, names, b"d/a")?.ok_or("not served")?;
+    let top = room.top(alloc, names, object)?;
+    let below = room.child(alloc, names, top, label)?;
+    seen(alloc, &room, below)
 }
 
-/// The child under a label.
-fn child_of(alloc: Global, names: &Fake<'_>, label: &[u8]) -> Result<Sources, Fail> {
-    let value =
-        b"{\"ip\":\"0.0.0.1\",\"map\":{\"*\":{\"ip\":\"0.0.0.5\"},\"b\":{\"ip\":\"0.0.0.6\"},\"c\":5},\"import\":\"d/a\"}";
-    let of = sources_at(alloc, names, value, 0)?;
-    Ok(child(alloc, names, &of, label)?)
-}
-
-/// The child under a label, by the marks of its sources.
+/// The child of `d/a` under a label shows this.
 fn child_gives(
     rt: &impl Abort,
     alloc: Global,
     names: &Fake<'_>,
     label: &[u8],
-    want: &[u8],
+    want: Seen,
 ) -> Result<(), Fail> {
-    let below = child_of(alloc, names, label)?;
-    has_marks(rt, alloc, &below, want)
-}
-
-#[test]
-fn children(rt: HostRuntime) -> Result<(), Fail> {
-    let value =
-        b"{\"ip\":\"0.0.0.2\",\"map\":{\"*\":{\"ip\":\"0.0.0.8\"},\"b\":{\"ip\":\"0.0.0.9\"}}}";
-    let all = names(value, b"{}");
-    child_gives(&rt, rt.alloc(), &all, b"b", &[6, 9])?;
-    child_gives(&rt, rt.alloc(), &all, b"c", &[5, 8])?;
-    child_gives(&rt, rt.alloc(), &all, b"B", &[5, 8])?;
-    let one = names(b"{\"map\":{\"d\":{\"ip\":\"0.0.0.7\"}}}", b"{}");
-    child_gives(&rt, rt.alloc(), &one, b"d", &[7])
-}
-
-/// The marks of the first sources with an address and with a text.
-fn first_marks(alloc: Global, of: &Sources) -> Result<(u8, u8), Fail> {
-    let first = of.first_with(Key::Ip).ok_or("no address")?;
-    let second = of.first_with(Key::Txt).ok_or("no text")?;
-    Ok((mark(alloc, first)?, mark(alloc, second)?))
-}
-
-fn has_first(rt: &impl Abort, alloc: Global, of: &Sources, want: (u8, u8)) -> Result<(), Fail> {
-    let found = first_marks(alloc, of)?;
-    assert!(rt; found == want && of.first_with(Key::Mx).is_none());
+    let found = child_of(alloc, names, label)?;
+    assert!(rt; found == want);
     Ok(())
 }
 
-/// The object's own item comes before an imported one.
+const PARENT: &[u8] =
+    b"{\"map\":{\"*\":{\"ip\":\"0.0.0.5\"},\"b\":{\"ip\":\"0.0.0.6\"},\"c\":5},\"import\":\"d/b\"}";
+
 #[test]
-fn first_source(rt: HostRuntime) -> Result<(), Fail> {
-    let all = names(b"{\"ip\":\"0.0.0.2\",\"txt\":5}", b"{}");
-    let value = b"{\"ip\":\"0.0.0.1\",\"import\":\"d/a\"}";
-    let of = sources_at(rt.alloc(), &all, value, 0)?;
-    has_first(&rt, rt.alloc(), &of, (1, 2))
+fn children(rt: HostRuntime) -> Result<(), Fail> {
+    let all = names(
+        PARENT,
+        b"{\"map\":{\"*\":{\"ip\":\"0.0.0.8\",\"txt\":5},\"b\":{\"ip\":\"0.0.0.9\",\"txt\":5}}}",
+    );
+    child_gives(&rt, rt.alloc(), &all, b"b", (2, 6, 9))?;
+    child_gives(&rt, rt.alloc(), &all, b"c", (2, 5, 8))?;
+    child_gives(&rt, rt.alloc(), &all, b"B", (2, 5, 8))?;
+    let one = names(PARENT, b"{\"map\":{\"d\":{\"ip\":\"0.0.0.7\"}}}");
+    child_gives(&rt, rt.alloc(), &one, b"d", (1, 7, 0))
+}
+
+/// A node with many sources has the same child where it is asked for again, also under another label that no source has.
+#[test]
+fn children_of_many(rt: HostRuntime) -> Result<(), Fail> {
+    let many = names(
+        b"{\"map\":{\"*\":{\"import\":\"d/a\",\"ip\":\"0.0.0.4\"}},\"import\":[[\"d/a\"],[\"d/a\"],[\"d/a\"]]}",
+        b"{}",
+    );
+    let mut room = Room::new(rt.alloc());
+    let object = room.named(rt.alloc(), &many, b"d/a")?.ok_or("not served")?;
+    let top = room.top(rt.alloc(), &many, object)?;
+    let first = room.child(rt.alloc(), &many, top, b"x")?;
+    let second = room.child(rt.alloc(), &many, top, b"y")?;
+    let found = seen(rt.alloc(), &room, second)?;
+    assert!(rt; first == second && found == (256, 4, 0) && many.asked.get() == 1);
+    Ok(())
+}
+
+/// The names that 4,097 values are asked of: the last is refused, and so is no other.
+#[test]
+fn values_are_counted(rt: HostRuntime) -> Result<(), Fail> {
+    let all = names(b"{}", b"{}");
+    let mut room = Room::new(rt.alloc());
+    for number in 0..MOST_VALUES {
+        let name = number.to_be_bytes();
+        assert!(rt; room.named(rt.alloc(), &all, &name)?.is_some());
+    }
+    let again = room.named(rt.alloc(), &all, &[0, 7])?;
+    let refused = room.named(rt.alloc(), &all, b"d/one more");
+    assert!(rt; again.is_some() && refused == Err(Exhausted::Values) && room.values_read() == MOST_VALUES);
+    Ok(())
 }

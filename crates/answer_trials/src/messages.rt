@@ -254,7 +254,7 @@ fn add_rows(reply: &mut Reply, buf: &mut [u8], section: Section, rows: &[Row])
 }
 
 /// The reply to a question, and its bytes.
-fn answer(buf: &mut [u8], said: &Exchange, asked: &Question<'_>) -> usize
+fn write_records(buf: &mut [u8], said: &Exchange, asked: &Question<'_>) -> usize
     requires room { 512 ≤ length buf.old }
     requires name { IsName asked.now.name.now }
     ensures { result ≤ 512 }
@@ -271,7 +271,7 @@ fn reply_to(buf: &mut [u8], said: &Exchange, message: &[u8]) -> usize
     ensures { result ≤ 512 }
 {
     match read_query(message) {
-        Asked::Query(asked) => answer(buf, said, &asked),
+        Asked::Query(asked) => write_records(buf, said, &asked),
         Asked::Drop => 0,
         Asked::FormErr { id, flags } => bare(buf, id, flags, rcode::FORMERR),
         Asked::NotImp { id, flags } => bare(buf, id, flags, rcode::NOTIMP),

@@ -59,7 +59,8 @@ fn reply_to(alloc: Global, served: &'static [Row], message: &[u8], buffer: &mut 
         return 0;
     };
     let zone = Zone { host, serial: 40 };
-    match answer(alloc, &Index { rows: served }, &zone, message, 512, buffer) {
+    let mut values = 0;
+    match answer(alloc, &Index { rows: served }, &zone, message, 512, buffer, &mut values) {
         Answered::Dropped => 0,
         Answered::Text(size) => size,
     }

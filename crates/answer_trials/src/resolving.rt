@@ -124,7 +124,8 @@ fn resolved(
         kind,
         class,
     };
-    Ok(resolve(alloc, index, zone, &asked)?)
+    let mut values = 0;
+    Ok(resolve(alloc, index, zone, &asked, &mut values)?)
 }
 
 /// A name, a type, a class, and what the answer is.
@@ -150,7 +151,7 @@ fn read_case(line: &str) -> Result<Case<'_>, Fail> {
 }
 
 /// The answer to a case's question, as text.
-fn answer(alloc: Global, index: &Index<'_>, zone: &Zone, of: Case<'_>) -> Result<String, Fail> {
+fn answer_shown(alloc: Global, index: &Index<'_>, zone: &Zone, of: Case<'_>) -> Result<String, Fail> {
     let wire = wire(alloc, of.name)?;
     let sections = resolved(alloc, index, zone, wire.as_slice(), of.kind, of.class)?;
     shown(alloc, &sections)
@@ -164,7 +165,7 @@ fn ask(
     line: &str,
 ) -> Result<(), Fail> {
     let case = read_case(line)?;
-    let got = answer(alloc, index, zone, case)?;
+    let got = answer_shown(alloc, index, zone, case)?;
     same_text(rt, got.as_str(), case.want);
     Ok(())
 }

@@ -66,3 +66,6 @@ pub stop : (live : Live) (z : Zone) (kind left : ℕ) (before : List Resource) (
     → after_records before (chase live z kind left p) ≡ whole → answered before ≡ whole
 stop live z kind left before p whole none holds =
     sym (after_stop before) ∙ sym (ap (after_records before) (ap (λ n. chase live z kind n p) none ∙ chase_none live z kind p)) ∙ holds
+
+pub nothing_before : (a : Answer) (xs : List Resource) → xs ≡ [] → after_records xs a ≡ a
+nothing_before a xs e = ap (λ l. after_records l a) e ∙ after_none a

@@ -8,6 +8,10 @@ use Rattle.ifa_value.specs.declared.item.Key.TheVariants as key
 use Rattle.import_expand.specs.Sources.{Live, node, child_of}
 use Rattle.bit_resolver.specs.Places.{Below, own_of, top_of}
 use Rattle.bit_resolver.specs.Nodes.{Node, node_at, rdata_at, target_at, is_nil}
+use Rattle.bit_resolver.specs.Ends.{ShowsNode, Ends}
+use Rattle.bit_resolver.specs.declared.way.Walk.{Walk}
+use Rattle.import_expand.specs.declared.room.Room.{Room}
+use Rattle.bit_resolver.specs.declared.node.Node.{Node as NodeIn}
 use Rattle.bit_resolver.specs.Way.{Stop, missing, cut, moved, or_else, stop_with, stop_here, stop_above, stop_before, stop_on_way, if_missing}
 
 stop_above-is : (live : Live) (o : Members) (b : Below) (at : List (List ℕ)) → stop_above live o b at ≡ or_else (stop_before live o b at) (stop_here live o b at)
@@ -128,3 +132,13 @@ yes_cut r false t e = refl
 pub no_cut : (r none : Bool) → r ≡ false → r ≡ not none → none ≡ true
 no_cut r true t e = refl
 no_cut r false t e = absurd (cc)
+
+-- the node of the labels from `left` on, by its own name
+pub at_node : (live : Live) (o : Members) (b : Below) (left : ℕ) (here : Node) → OnWay live o b left here → OnWay live o b left (node_at live o b (drop left b.path))
+at_node live o b left here on = record { within = on.within; is_node = refl; exists = sym (ap (λ n. is_nil n.of) on.is_node) ∙ on.exists; free = on.free }
+
+pub shows_node : (r : Room) (n : NodeIn) (x y : Node) → x ≡ y → ShowsNode r n x → ShowsNode r n y
+shows_node r n x y e h = rw (sym e) h
+
+pub ends_is : (live : Live) (r : Room) (b : Below) (o : Members) (w v : Walk) → w ≡ v → Ends live r b o w → Ends live r b o v
+ends_is live r b o w v e h = rw (sym e) h

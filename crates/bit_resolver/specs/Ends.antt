@@ -1,9 +1,10 @@
 -- Values of the code as definitions see them.
-use Rattle.std.specs.Prelude.{◌≡◌, ◌≤◌, map, drop, length, Some, None}
+use Rattle.std.specs.Prelude.{◌≡◌, ◌≤◌, drop, length, Some, None}
 use Rattle.serde_json.specs.Data.{Members}
-use Rattle.ifa_value.specs.Object.{members}
 use Rattle.import_expand.specs.Sources.{Live}
-use Rattle.bit_resolver.specs.Places.{Below, Place, outside, apex, below}
+use Rattle.import_expand.specs.Rooms.{IsNode}
+use Rattle.import_expand.specs.declared.room.Room.{Room}
+use Rattle.bit_resolver.specs.Places.{Below, Place, outside, apex, below, top_of}
 use Rattle.bit_resolver.specs.Nodes.{Node, node_at}
 use Rattle.bit_resolver.specs.Way.{missing, cut, moved, stop_on_way}
 use Rattle.bit_resolver.specs.Answers.{Answer, Found, done, renamed}
@@ -25,15 +26,25 @@ seen_place place_in.Outside = outside
 seen_place place_in.Apex = apex
 seen_place (place_in.Below b) = below (seen_below b)
 
-abbrev pub seen_node : NodeIn → Node
-seen_node n = record { own = n.own; top = n.top.now; of = map members n.of.held.items }
+-- the node whose sources have this number in a room
+pub record ShowsNode (r : Room) (n : NodeIn) (m : Node) : Type 0 where
+  pub own : m.own ≡ n.own
+  pub top : m.top ≡ n.top.now
+  pub of : IsNode r n.of m.of
 
 -- how a walk down to a name ends
-abbrev pub Ends : Live → Below → Members → Walk → Type 0
-Ends live b o (Arrived n) = (stop_on_way live o b b.path ≡ None) × (seen_node n ≡ node_at live o b b.path)
-Ends live b o Missing = stop_on_way live o b b.path ≡ Some missing
-Ends live b o (Cut n left) = (stop_on_way live o b b.path ≡ Some (cut (drop left b.path))) × (seen_node n ≡ node_at live o b (drop left b.path)) × (left ≤ length b.path)
-Ends live b o (Moved n left target) = (stop_on_way live o b b.path ≡ Some (moved (drop left b.path) target)) × (seen_node n ≡ node_at live o b (drop left b.path)) × (left ≤ length b.path)
+abbrev pub Ends : Live → Room → Below → Members → Walk → Type 0
+Ends live r b o (Arrived n) = (stop_on_way live o b b.path ≡ None) × ShowsNode r n (node_at live o b b.path)
+Ends live r b o Missing = stop_on_way live o b b.path ≡ Some missing
+Ends live r b o (Cut n left) = (stop_on_way live o b b.path ≡ Some (cut (drop left b.path))) × ShowsNode r n (node_at live o b (drop left b.path)) × (left ≤ length b.path)
+Ends live r b o (Moved n left target) = (stop_on_way live o b b.path ≡ Some (moved (drop left b.path) target)) × ShowsNode r n (node_at live o b (drop left b.path)) × (left ≤ length b.path)
+
+-- a node on the way stands below the name at the top
+abbrev pub IsTop : Below → Walk → Type 0
+IsTop b (Arrived n) = n.top.now ≡ top_of b
+IsTop b Missing = Unit
+IsTop b (Cut n left) = n.top.now ≡ top_of b
+IsTop b (Moved n left target) = (n.top.now ≡ top_of b) × (left ≤ length b.path)
 
 abbrev pub seen_sections : Sections → Answer
 seen_sections s = record { answer = s.answer.items; authority = s.authority.items; rcode = s.rcode; aa = s.aa }

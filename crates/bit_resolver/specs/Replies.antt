@@ -11,8 +11,8 @@ use Rattle.import_expand.specs.Sources.{Live}
 use Rattle.bit_resolver.specs.Answers.{Answer, answer_to}
 use Rattle.bit_resolver.specs.declared.resource.Resource.{Resource}
 use Rattle.bit_resolver.specs.declared.zone.Zone.{Zone}
-use Rattle.bit_resolver.specs.declared.answering.Answered.{Answered}
-use Rattle.bit_resolver.specs.declared.answering.Answered.TheVariants as answered
+use Rattle.bit_resolver.specs.declared.replying.Answered.{Answered}
+use Rattle.bit_resolver.specs.declared.replying.Answered.TheVariants as answered
 
 -- ---- the reply
 

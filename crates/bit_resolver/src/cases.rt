@@ -1,10 +1,14 @@
 //! What a node answers.
 
-ghost use Rattle.std.specs.Prelude.{◌≡◌, ◌≤◌, ◌++◌, drop, length, IfOk, OnOk, Some};
-ghost use Rattle.ifa_value.specs.Object.{members};
+ghost use Rattle.std.specs.Prelude.{◌≡◌, ◌≤◌, ◌++◌, drop, length, IfOk, IfErr, OnOk, Some};
+ghost use Rattle.serde_json.specs.Data.{Members};
+ghost use Rattle.import_expand.specs.Books.{IsAt};
+ghost use Rattle.import_expand.specs.Rooms.{objects_in, values_read, IsSound};
+ghost use Rattle.import_expand.specs.declared.exhausted.Exhausted.TheVariants.{Values};
+ghost use Rattle.bit_resolver.specs.Nodes.{Node as NodeOf};
 ghost use Rattle.bit_resolver.specs.Places.{IsBelow, own_of, top_of};
 ghost use Rattle.bit_resolver.specs.Answers.{negative as negative_of, or_no_data as or_no_data_of, apex_records as apex_records_of, answered as answered_of, referral as referral_of, is_asked as is_asked_of, matching as matching_of, record_items, by_cname as by_cname_of, in_zone as in_zone_of, at_cut as at_cut_of, at_name as at_name_of, by_dname as by_dname_of, dname_of, replaced, by_value};
-ghost use Rattle.bit_resolver.specs.Ends.{seen_sections, seen_asked, seen_node, seen_below};
+ghost use Rattle.bit_resolver.specs.Ends.{seen_sections, seen_asked, ShowsNode, seen_below};
 
 use crate::node::{Node, type_of};
 use crate::place::{Below, name_before};
@@ -14,8 +18,8 @@ use crate::way::{Walk, go_down};
 use crate::zone::Zone;
 use dns_message::rcode;
 use domain_text::Name;
-use ifa_value::{IfaObject, Key};
-use import_expand::Names;
+use ifa_value::Key;
+use import_expand::{Room, Exhausted, Names};
 use nmc_base::NoMemory;
 use std::alloc::Global;
 
@@ -93,21 +97,21 @@ fn is_asked(kind: u16, key: Key) -> bool
 }
 
 /// The records of these items that match a QTYPE.
-fn matching(alloc: Global, node: &Node<'_>, kind: u16, keys: &[Key]) -> Result<Resources, NoMemory>
-    ensures { IfOk result (λ v. v.items ≡ matching_of (seen_node node.now) kind keys.now) }
+fn matching(alloc: Global, node: &Node<'_>, kind: u16, keys: &[Key], room: &Room) -> Result<Resources, NoMemory>
+    ensures { IfOk result (λ v. (n : NodeOf) → ShowsNode room.now node.now n → v.items ≡ matching_of n kind keys.now) }
 {
     let mut found = Resources::new(alloc);
     for key in keys {
         if is_asked(kind, *key) {
-            node.add_item(alloc, *key, &mut found)?;
+            node.add_item(alloc, *key, room, &mut found)?;
         }
     }
     Ok(found)
 }
 
 /// The records of a node that match a QTYPE.
-fn matching_any(alloc: Global, node: &Node<'_>, kind: u16) -> Result<Resources, NoMemory>
-    ensures { IfOk result (λ v. v.items ≡ matching_of (seen_node node.now) kind record_items) }
+fn matching_any(alloc: Global, node: &Node<'_>, kind: u16, room: &Room) -> Result<Resources, NoMemory>
+    ensures { IfOk result (λ v. (n : NodeOf) → ShowsNode room.now node.now n → v.items ≡ matching_of n kind record_items) }
 {
     let keys = [
         Key::Ip,
@@ -119,7 +123,8 @@ fn matching_any(alloc: Global, node: &Node<'_>, kind: u16) -> Result<Resources, 
         Key::Sshfp,
         Key::Tls,
     ];
-    matching(alloc, node, kind, &keys)
+    let found = matching(alloc, node, kind, &keys, room)?;
+    Ok(found)
 }
 
 /// A CNAME record, and the name that is asked next unless the record itself is asked for.
@@ -135,38 +140,43 @@ fn by_cname(alloc: Global, kind: u16, own: &Name, target: Name) -> Result<Asked,
 }
 
 /// What the node of a name answers that is no cut.
-fn in_zone(alloc: Global, zone: &Zone, node: &Node<'_>, kind: u16) -> Result<Asked, NoMemory>
-    ensures { IfOk result (λ a. seen_asked a ≡ in_zone_of zone.now (seen_node node.now) kind) }
+fn in_zone(alloc: Global, zone: &Zone, node: &Node<'_>, kind: u16, room: &Room) -> Result<Asked, NoMemory>
+    ensures { IfOk result (λ a. (n : NodeOf) → ShowsNode room.now node.now n → seen_asked a ≡ in_zone_of zone.now n kind) }
 {
-    match node.target(alloc, Key::Alias)? {
+    match node.target(alloc, Key::Alias, room)? {
         None => {
-            let found = matching_any(alloc, node, kind)?;
+            let found = matching_any(alloc, node, kind, room)?;
             Ok(Asked::Done(or_no_data(alloc, zone, found)?))
         }
-        Some(target) => by_cname(alloc, kind, &node.own, target),
+        Some(target) => {
+            let asked = by_cname(alloc, kind, &node.own, target)?;
+            Ok(asked)
+        }
     }
 }
 
 /// What a cut at the name itself answers: DS stands above the cut.
-fn at_cut(alloc: Global, zone: &Zone, node: &Node<'_>, kind: u16) -> Result<Sections, NoMemory>
-    ensures { IfOk result (λ s. seen_sections s ≡ at_cut_of zone.now (seen_node node.now) kind) }
+fn at_cut(alloc: Global, zone: &Zone, node: &Node<'_>, kind: u16, room: &Room) -> Result<Sections, NoMemory>
+    ensures { IfOk result (λ s. (n : NodeOf) → ShowsNode room.now node.now n → seen_sections s ≡ at_cut_of zone.now n kind) }
 {
     if kind == rr_type::DS {
-        let found = node.records(alloc, Key::Ds)?;
-        return or_no_data(alloc, zone, found);
+        let found = node.records(alloc, Key::Ds, room)?;
+        let sections = or_no_data(alloc, zone, found)?;
+        return Ok(sections);
     }
-    let servers = node.records(alloc, Key::Ns)?;
+    let servers = node.records(alloc, Key::Ns, room)?;
     Ok(referral(alloc, servers))
 }
 
 /// What the node of a name answers.
-fn at_name(alloc: Global, zone: &Zone, node: &Node<'_>, kind: u16) -> Result<Asked, NoMemory>
-    ensures { IfOk result (λ a. seen_asked a ≡ at_name_of zone.now (seen_node node.now) kind) }
+fn at_name(alloc: Global, zone: &Zone, node: &Node<'_>, kind: u16, room: &Room) -> Result<Asked, NoMemory>
+    ensures { IfOk result (λ a. (n : NodeOf) → ShowsNode room.now node.now n → seen_asked a ≡ at_name_of zone.now n kind) }
 {
-    if node.is_cut(alloc)? {
-        return Ok(Asked::Done(at_cut(alloc, zone, node, kind)?));
+    if node.is_cut(alloc, room)? {
+        return Ok(Asked::Done(at_cut(alloc, zone, node, kind, room)?));
     }
-    in_zone(alloc, zone, node, kind)
+    let asked = in_zone(alloc, zone, node, kind, room)?;
+    Ok(asked)
 }
 
 /// A DNAME record, and the CNAME that it makes of a name, or that the new name is too long.
@@ -220,20 +230,31 @@ pub(crate) fn by_object<N: Names>(
     names: &N,
     zone: &Zone,
     name: &Below,
-    object: IfaObject,
+    at: usize,
     kind: u16,
-) -> Result<Asked, NoMemory>
-    requires { IsBelow (seen_below name.now) }
-    ensures { IfOk result (λ a. seen_asked a ≡ by_value (N.served names.now) zone.now (seen_below name.now) kind (Some (members object))) }
+    room: &mut Room,
+) -> Result<Asked, Exhausted>
+    requires name { IsBelow (seen_below name.now) }
+    requires sound { IsSound (N.served names.now) room.old }
+    ensures asked { IfOk result (λ a. (o : Members) → IsAt (objects_in room.old) at o → seen_asked a ≡ by_value (N.served names.now) zone.now (seen_below name.now) kind (Some o)) }
+    ensures sound { OnOk result (IsSound (N.served names.now) room.new) }
+    ensures bound { values_read room.new ≤ 4096 }
+    ensures refused { IfErr result (λ e. e ≡ Values → values_read room.new ≡ 4096) }
 {
     let top = name.top();
-    match go_down(alloc, names, name, &top, object)? {
+    match go_down(alloc, names, name, &top, at, room)? {
         Walk::Missing => Ok(Asked::Done(negative(alloc, zone, rcode::NXDOMAIN)?)),
         Walk::Cut(node, _) => {
-            let servers = node.records(alloc, Key::Ns)?;
+            let servers = node.records(alloc, Key::Ns, room)?;
             Ok(Asked::Done(referral(alloc, servers)))
         }
-        Walk::Moved(node, left, target) => moved(alloc, name, &node, left, &target),
-        Walk::Arrived(node) => at_name(alloc, zone, &node, kind),
+        Walk::Moved(node, left, target) => {
+            let asked = moved(alloc, name, &node, left, &target)?;
+            Ok(asked)
+        }
+        Walk::Arrived(node) => {
+            let asked = at_name(alloc, zone, &node, kind, room)?;
+            Ok(asked)
+        }
     }
 }

@@ -1,23 +1,25 @@
 //! Answers of the zone `bit.` (RFC 1034, 4.3.2): what a question is answered with, from the values of the names that are served, and whole replies to DNS messages.
 #![tactic(auto)]
 
-mod answering;
 mod cases;
 mod limits;
 mod node;
+mod numbers;
 mod place;
 mod question;
 mod rdata;
 mod reply_laws;
+mod replying;
 mod resource;
 pub mod rr_type;
 mod way;
 mod writing;
 mod zone;
 
-pub use answering::{Answered, answer};
 pub use limits::{CLASS_IN, EXPIRE, MINIMUM, MOST_CNAMES, REFRESH, RETRY};
+pub use numbers::numbers_of_answers;
 pub use question::resolve;
 pub use reply_laws::{replies_are_lawful, truncated_replies_are_headed};
+pub use replying::{Answered, answer};
 pub use resource::{Resource, Resources, Sections};
 pub use zone::Zone;

@@ -7,7 +7,8 @@ ghost use Rattle.domain_text.specs.Host.{host_name as host_name_of};
 ghost use Rattle.ifa_value.specs.Elements.{alone};
 ghost use Rattle.bit_resolver.specs.Rdata.{rdata_of};
 ghost use Rattle.bit_resolver.specs.Answers.{records_of, records_at};
-ghost use Rattle.bit_resolver.specs.Ends.{seen_node};
+ghost use Rattle.bit_resolver.specs.Nodes.{Node as NodeOf};
+ghost use Rattle.bit_resolver.specs.Ends.{ShowsNode};
 ghost use Rattle.ifa_value.specs.declared.item.Key.TheVariants.{Ns};
 
 use crate::rdata::{host_name, rdata};
@@ -15,16 +16,16 @@ use crate::resource::{Resource, Resources, add};
 use crate::rr_type;
 use domain_text::Name;
 use ifa_value::{Element, Key};
-use import_expand::Sources;
+use import_expand::Room;
 use nmc_base::NoMemory;
 use std::alloc::Global;
 
-/// A node: its domain name, that of the name right below `bit.`, and its sources.
+/// A node: its domain name, that of the name right below `bit.`, and its number in the room.
 #[derive(Drop)]
 pub(crate) struct Node<'a> {
     pub(crate) own: Name,
     pub(crate) top: &'a Name,
-    pub(crate) of: Sources,
+    pub(crate) of: usize,
 }
 
 /// The TYPE of the records that an item gives; 0, which is no TYPE, for those that give none.
@@ -51,7 +52,7 @@ pub(crate) fn type_of(key: Key) -> u16
 impl<'a> Node<'a> {
     /// The name of a host element.
     fn host_in(&self, element: &Element) -> Option<Name>
-        ensures { result ≡ host_of (seen_node self.now) element.now }
+        ensures { (n : NodeOf) → n.own ≡ self.now.own → n.top ≡ self.now.top.now → result ≡ host_of n element.now }
     {
         match element {
             Element::Host(text) => host_name(&self.own, self.top, text.as_slice()),
@@ -60,10 +61,10 @@ impl<'a> Node<'a> {
     }
 
     /// The name that `alias` or `translate` gives. None exactly where there is none, or it is skipped at the node.
-    pub(crate) fn target(&self, alloc: Global, key: Key) -> Result<Option<Name>, NoMemory>
-        ensures { IfOk result (λ o. o ≡ target_at key (seen_node self.now)) }
+    pub(crate) fn target(&self, alloc: Global, key: Key, room: &Room) -> Result<Option<Name>, NoMemory>
+        ensures { IfOk result (λ o. (n : NodeOf) → ShowsNode room.now self.now n → o ≡ target_at key n) }
     {
-        match self.of.first_with(key) {
+        match room.first_with(self.of, key) {
             None => Ok(None),
             Some(object) => {
                 let elements = object.elements(alloc, key)?;
@@ -119,33 +120,35 @@ impl<'a> Node<'a> {
         &self,
         alloc: Global,
         key: Key,
+        room: &Room,
         into: &mut Resources,
     ) -> Result<(), NoMemory>
-        ensures { OnOk result (into.new.items ≡ into.old.items ++ records_at key (seen_node self.now)) }
+        ensures { OnOk result ((n : NodeOf) → ShowsNode room.now self.now n → into.new.items ≡ into.old.items ++ records_at key n) }
     {
-        match self.of.first_with(key) {
+        match room.first_with(self.of, key) {
             None => Ok(()),
             Some(object) => {
                 let elements = object.elements(alloc, key)?;
-                self.add_elements(alloc, type_of(key), elements.as_slice(), into)
+                self.add_elements(alloc, type_of(key), elements.as_slice(), into)?;
+                Ok(())
             }
         }
     }
 
     /// The records of an item.
-    pub(crate) fn records(&self, alloc: Global, key: Key) -> Result<Resources, NoMemory>
-        ensures { IfOk result (λ v. v.items ≡ records_at key (seen_node self.now)) }
+    pub(crate) fn records(&self, alloc: Global, key: Key, room: &Room) -> Result<Resources, NoMemory>
+        ensures { IfOk result (λ v. (n : NodeOf) → ShowsNode room.now self.now n → v.items ≡ records_at key n) }
     {
         let mut found = Resources::new(alloc);
-        self.add_item(alloc, key, &mut found)?;
+        self.add_item(alloc, key, room, &mut found)?;
         Ok(found)
     }
 
     /// Whether other servers have authority over the node.
-    pub(crate) fn is_cut(&self, alloc: Global) -> Result<bool, NoMemory>
-        ensures { IfOk result (λ b. b ≡ not (is_nil (rdata_at Ns (seen_node self.now)))) }
+    pub(crate) fn is_cut(&self, alloc: Global, room: &Room) -> Result<bool, NoMemory>
+        ensures { IfOk result (λ b. (n : NodeOf) → ShowsNode room.now self.now n → b ≡ not (is_nil (rdata_at Ns n))) }
     {
-        let servers = self.records(alloc, Key::Ns)?;
+        let servers = self.records(alloc, Key::Ns, room)?;
         Ok(servers.len() > 0)
     }
 }

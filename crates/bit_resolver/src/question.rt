@@ -1,10 +1,11 @@
 //! Answers of questions.
 
-ghost use Rattle.std.specs.Prelude.{◌≡◌, ◌++◌, IfOk, OnOk};
-ghost use Rattle.std.specs.Option.{option_map};
+ghost use Rattle.std.specs.Prelude.{◌≡◌, ◌≤◌, ◌++◌, IfOk, IfErr, OnOk};
 ghost use Rattle.domain_text.specs.Names.{IsName, IsWireLabel};
 ghost use Rattle.dns_message.specs.Query.{query_of};
-ghost use Rattle.ifa_value.specs.Object.{members};
+ghost use Rattle.import_expand.specs.Books.{Finds};
+ghost use Rattle.import_expand.specs.Rooms.{objects_in, values_read, IsSound};
+ghost use Rattle.import_expand.specs.declared.exhausted.Exhausted.TheVariants.{Values};
 ghost use Rattle.bit_resolver.specs.Places.{IsPlace, place_of};
 ghost use Rattle.bit_resolver.specs.Answers.{value_of, asked_at, after_records as after_records_of, chase as chase_of, is_refused as is_refused_of, answer_at, answer_to};
 ghost use Rattle.bit_resolver.specs.Laws.{IsLawful};
@@ -19,24 +20,25 @@ use crate::rr_type;
 use crate::zone::Zone;
 use dns_message::{Question, rcode};
 use domain_text::Name;
-use ifa_value::{IfaObject, read_value};
-use import_expand::Names;
+use import_expand::{Room, Exhausted, Names};
 use nmc_base::NoMemory;
 use std::alloc::Global;
 
-/// The object of the name `d/` and this label. None exactly where the label is no domain label, or the name isn't served.
-fn value<N: Names>(alloc: Global, names: &N, x: &[u8]) -> Result<Option<IfaObject>, NoMemory>
-    requires { IsWireLabel x.now }
-    ensures { IfOk result (λ o. option_map members o ≡ value_of (N.served names.now) x.now) }
+/// The number of the object of the name `d/` and this label. None exactly where the label is no domain label, or the name isn't served.
+fn value<N: Names>(alloc: Global, names: &N, x: &[u8], room: &mut Room) -> Result<Option<usize>, Exhausted>
+    requires name { IsWireLabel x.now }
+    requires sound { IsSound (N.served names.now) room.old }
+    ensures found { IfOk result (λ o. Finds (objects_in room.new) o (value_of (N.served names.now) x.now)) }
+    ensures sound { OnOk result (IsSound (N.served names.now) room.new) }
+    ensures bound { values_read room.new ≤ 4096 }
+    ensures refused { IfErr result (λ e. e ≡ Values → values_read room.new ≡ 4096) }
 {
     if !is_domain_label(x) {
         return Ok(None);
     }
     let name = value_name(x);
-    match names.live(&name[..2 + x.len()]) {
-        None => Ok(None),
-        Some(value) => Ok(Some(read_value(alloc, value)?)),
-    }
+    let found = room.named(alloc, names, &name[..2 + x.len()])?;
+    Ok(found)
 }
 
 /// What one name is answered with.
@@ -46,9 +48,14 @@ fn ask<N: Names>(
     zone: &Zone,
     kind: u16,
     place: &Place,
-) -> Result<Asked, NoMemory>
-    requires { IsPlace (seen_place place.now) }
-    ensures { IfOk result (λ a. seen_asked a ≡ asked_at (N.served names.now) zone.now kind (seen_place place.now)) }
+    room: &mut Room,
+) -> Result<Asked, Exhausted>
+    requires place { IsPlace (seen_place place.now) }
+    requires sound { IsSound (N.served names.now) room.old }
+    ensures asked { IfOk result (λ a. seen_asked a ≡ asked_at (N.served names.now) zone.now kind (seen_place place.now)) }
+    ensures sound { OnOk result (IsSound (N.served names.now) room.new) }
+    ensures bound { values_read room.new ≤ 4096 }
+    ensures refused { IfErr result (λ e. e ≡ Values → values_read room.new ≡ 4096) }
 {
     match place {
         Place::Outside => Ok(Asked::Done(answered(alloc, Resources::new(alloc)))),
@@ -56,9 +63,12 @@ fn ask<N: Names>(
             let found = apex_records(alloc, zone, kind)?;
             Ok(Asked::Done(or_no_data(alloc, zone, found)?))
         }
-        Place::Below(name) => match value(alloc, names, name.x.as_slice())? {
+        Place::Below(name) => match value(alloc, names, name.x.as_slice(), room)? {
             None => Ok(Asked::Done(negative(alloc, zone, rcode::NXDOMAIN)?)),
-            Some(object) => by_object(alloc, names, zone, name, object, kind),
+            Some(at) => {
+                let asked = by_object(alloc, names, zone, name, at, kind, room)?;
+                Ok(asked)
+            }
         },
     }
 }
@@ -102,16 +112,23 @@ fn chase<N: Names>(
     zone: &Zone,
     kind: u16,
     first: Place,
-) -> Result<Sections, NoMemory>
-    requires { IsPlace (seen_place first) }
-    ensures { IfOk result (λ s. seen_sections s ≡ chase_of (N.served names.now) zone.now kind GREATEST (seen_place first)) }
+    room: &mut Room,
+) -> Result<Sections, Exhausted>
+    requires place { IsPlace (seen_place first) }
+    requires sound { IsSound (N.served names.now) room.old }
+    ensures answer { IfOk result (λ s. seen_sections s ≡ chase_of (N.served names.now) zone.now kind GREATEST (seen_place first)) }
+    ensures bound { values_read room.new ≤ 4096 }
+    ensures refused { IfErr result (λ e. e ≡ Values → values_read room.new ≡ 4096) }
 {
     let mut before = Resources::new(alloc);
     let mut place = first;
     let mut left = MOST_CNAMES;
     while left > 0 {
-        match ask(alloc, names, zone, kind, &place)? {
-            Asked::Done(last) => return after_records(alloc, before, last),
+        match ask(alloc, names, zone, kind, &place, room)? {
+            Asked::Done(last) => {
+                let sections = after_records(alloc, before, last)?;
+                return Ok(sections);
+            }
             Asked::Renamed(found, target) => {
                 add_found(alloc, found, &mut before)?;
                 place = target_place(alloc, target)?;
@@ -130,16 +147,20 @@ fn is_refused(kind: u16, class: u16, place: &Place) -> bool
 }
 
 /// The answer of a question whose name has this place.
-fn answer<N: Names>(
+fn answer_place<N: Names>(
     alloc: Global,
     names: &N,
     zone: &Zone,
     kind: u16,
     class: u16,
     place: Place,
-) -> Result<Sections, NoMemory>
-    requires { IsPlace (seen_place place) }
-    ensures { IfOk result (λ s. seen_sections s ≡ answer_at (N.served names.now) zone.now kind class (seen_place place)) }
+    room: &mut Room,
+) -> Result<Sections, Exhausted>
+    requires place { IsPlace (seen_place place) }
+    requires sound { IsSound (N.served names.now) room.old }
+    ensures answer { IfOk result (λ s. seen_sections s ≡ answer_at (N.served names.now) zone.now kind class (seen_place place)) }
+    ensures bound { values_read room.new ≤ 4096 }
+    ensures refused { IfErr result (λ e. e ≡ Values → values_read room.new ≡ 4096) }
 {
     if is_refused(kind, class, &place) {
         return Ok(Sections {
@@ -149,7 +170,8 @@ fn answer<N: Names>(
             aa: false,
         });
     }
-    chase(alloc, names, zone, kind, place)
+    let sections = chase(alloc, names, zone, kind, place, room)?;
+    Ok(sections)
 }
 
 /// The answer of a question.
@@ -158,28 +180,41 @@ fn answer_question<N: Names>(
     names: &N,
     zone: &Zone,
     asked: &Question<'_>,
-) -> Result<Sections, NoMemory>
+    room: &mut Room,
+) -> Result<Sections, Exhausted>
     requires name { IsName asked.now.name.now }
-    ensures { IfOk result (λ s. seen_sections s ≡ answer_to (N.served names.now) zone.now (query_of asked.now)) }
+    requires sound { IsSound (N.served names.now) room.old }
+    ensures answer { IfOk result (λ s. seen_sections s ≡ answer_to (N.served names.now) zone.now (query_of asked.now)) }
+    ensures bound { values_read room.new ≤ 4096 }
+    ensures refused { IfErr result (λ e. e ≡ Values → values_read room.new ≡ 4096) }
 {
     let place = find_place(alloc, asked.name)?;
-    answer(alloc, names, zone, asked.kind, asked.class, place)
+    let sections = answer_place(alloc, names, zone, asked.kind, asked.class, place, room)?;
+    Ok(sections)
 }
 
 /// The answer of a question (RFC 1034, 4.3.2): from the value of `d/x` for a name at or below `x.bit.`, from the zone
-/// itself for `bit.`, and REFUSED for any other name, another class than IN, and zone transfers.
+/// itself for `bit.`, and REFUSED for any other name, another class than IN, and zone transfers. `values` becomes how many
+/// values were read for it.
 pub fn resolve<N: Names>(
     alloc: Global,
     names: &N,
     zone: &Zone,
     asked: &Question<'_>,
-) -> Result<Sections, NoMemory>
+    values: &mut u16,
+) -> Result<Sections, Exhausted>
     requires name { IsName asked.now.name.now }
     // It is the definition's.
     ensures answer { IfOk result (λ s. seen_sections s ≡ answer_to (N.served names.now) zone.now (query_of asked.now)) }
     // Of each answer: why each record stands where it does, and that it has at most eight CNAME records.
     ensures lawful { IfOk result (λ s. IsLawful asked.now.kind GREATEST (seen_sections s)) }
+    // At most 4,096 values are read for it, and an answer that would need more is refused for that cause alone.
+    ensures bound { values.new ≤ 4096 }
+    ensures refused { IfErr result (λ e. e ≡ Values → values.new ≡ 4096) }
 {
-    let sections = answer_question(alloc, names, zone, asked)?;
+    let mut room = Room::new(alloc);
+    let found = answer_question(alloc, names, zone, asked, &mut room);
+    *values = room.values_read();
+    let sections = found?;
     Ok(sections)
 }

@@ -13,7 +13,7 @@ mod reply;
 mod write;
 
 pub use counts::Section;
-pub use law::{replies_end, same_front};
+pub use law::{numbers_of_messages, replies_end, same_front};
 pub use numbers::{GREATEST_LIMIT, HEADER_SIZE, LEAST_LIMIT, TIME_TO_LIVE};
 pub use query::{Asked, Question, read_query};
 pub use reply::{Reply, bare};

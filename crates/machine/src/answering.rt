@@ -34,6 +34,7 @@ pub fn answer(
         host: host.copy(),
         serial: chain.tip().height,
     };
+    let mut values = 0;
     bit_resolver::answer(
         alloc,
         &Served::of(chain),
@@ -41,5 +42,6 @@ pub fn answer(
         message,
         LEAST_LIMIT,
         buffer,
+        &mut values,
     )
 }

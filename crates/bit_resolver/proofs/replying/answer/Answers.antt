@@ -2,7 +2,7 @@ use Rattle.std.proofs.Common.{None, Some, take, refl, ap}
 use Rattle.dns_message.specs.Query.{query_of}
 use Rattle.dns_message.specs.Query.Reading.{Dropped, NotImplemented, FormatError}
 use Rattle.bit_resolver.proofs.ReplyLaws.{may_reply, reply_is}
-use Rattle.bit_resolver.proofs.answering.answer.Goals as goal
+use Rattle.bit_resolver.proofs.replying.answer.Goals as goal
 
 pub returns-in-Drop-clause-reply : goal.returns-in-Drop-clause-reply
 returns-in-Drop-clause-reply g c =
@@ -21,4 +21,4 @@ returns-in-FormErr-clause-reply g c =
 pub returns-in-Query-clause-reply : goal.returns-in-Query-clause-reply
 returns-in-Query-clause-reply g c =
     may_reply (g.N.Names.served c.args.names.now) c.args.zone.now c.args.limit c.args.message.now (query_of c.in-Query.asked)
-    (take c.answer_question.result c.answer_question.new.buffer) c.in-Query.ensures.reading c.answer_question.ensures.text
+    (take c.reply_to_question.result c.reply_to_question.new.buffer) c.in-Query.ensures.reading c.reply_to_question.ensures.text

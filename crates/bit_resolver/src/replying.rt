@@ -21,13 +21,14 @@ pub enum Answered {
 }
 
 /// Writes the reply to a question, and gives its bytes.
-fn answer_question<N: Names>(
+fn reply_to_question<N: Names>(
     alloc: Global,
     names: &N,
     zone: &Zone,
     asked: &Question<'_>,
     limit: usize,
     buffer: &mut [u8],
+    values: &mut u16,
 ) -> usize
     requires room { limit ≤ length buffer.old }
     requires least { LEAST_LIMIT ≤ limit }
@@ -35,14 +36,16 @@ fn answer_question<N: Names>(
     requires name { IsName asked.now.name.now }
     ensures text { IsAnswered (N.served names.now) zone.now limit (query_of asked.now) (take result buffer.new) }
     ensures within { result ≤ limit }
+    ensures bound { values.new ≤ 4096 }
 {
-    match resolve(alloc, names, zone, asked) {
+    match resolve(alloc, names, zone, asked, values) {
         Ok(sections) => put_answer(&sections, asked, limit, buffer),
         Err(_) => put_failure(asked, limit, buffer),
     }
 }
 
 /// Writes the reply to a message at the front of the buffer: at most so many bytes, 512 to 65,535 (RFC 1035, 4.2.1 and 4.2.2).
+/// `values` becomes how many values were read for it: an answer that would need more than 4,096 is SERVFAIL.
 pub fn answer<N: Names>(
     alloc: Global,
     names: &N,
@@ -50,6 +53,7 @@ pub fn answer<N: Names>(
     message: &[u8],
     limit: usize,
     buffer: &mut [u8],
+    values: &mut u16,
 ) -> Answered
     requires room { limit ≤ length buffer.old }
     requires least { LEAST_LIMIT ≤ limit }
@@ -57,13 +61,16 @@ pub fn answer<N: Names>(
     // It is the definition's, byte for byte, or SERVFAIL for want of memory.
     ensures reply { MayReply (N.served names.now) zone.now limit message.now (told result buffer.new) }
     ensures within { IsWithin limit result }
+    // At most 4,096 values are read for it.
+    ensures bound { values.new ≤ 4096 }
 {
+    *values = 0;
     match read_query(message) {
         Asked::Drop => Answered::Dropped,
         Asked::NotImp { id, flags } => Answered::Text(bare(buffer, id, flags, rcode::NOTIMP)),
         Asked::FormErr { id, flags } => Answered::Text(bare(buffer, id, flags, rcode::FORMERR)),
         Asked::Query(asked) => {
-            Answered::Text(answer_question(alloc, names, zone, &asked, limit, buffer))
+            Answered::Text(reply_to_question(alloc, names, zone, &asked, limit, buffer, values))
         }
     }
 }

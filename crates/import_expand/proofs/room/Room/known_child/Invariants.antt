@@ -1,0 +1,8 @@
+use Rattle.std.proofs.Common.{◌≡◌}
+use Rattle.import_expand.proofs.room.Room.known_child.Given as goal
+
+abbrev pub invariant-loop-child : goal.invariant-loop-child
+invariant-loop-child l = Unit
+
+abbrev pub decreases-loop-child : goal.decreases-loop-child
+decreases-loop-child l = l.i

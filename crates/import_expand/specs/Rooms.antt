@@ -1,0 +1,72 @@
+-- A room: a book, and the nodes that were met, each with a number.
+use Rattle.std.specs.Prelude.{◌≡◌, ℕ, List, map, slice_get, Some}
+use Rattle.std.specs.List.{All}
+use Rattle.serde_json.specs.Data.{Members}
+use Rattle.import_expand.specs.Sources.{Live, sources_of, child_of}
+use Rattle.import_expand.specs.Books as books
+use Rattle.import_expand.specs.Books.{objects, IsAt, Shows, Grows}
+use Rattle.import_expand.specs.declared.room.Room.{Room}
+use Rattle.import_expand.specs.declared.room.Sources.{Sources}
+use Rattle.import_expand.specs.declared.room.Child.{Child}
+use Rattle.import_expand.specs.declared.room.Top.{Top}
+
+abbrev pub objects_in : Room → List Members
+objects_in r = objects r.book
+
+-- how many values were read
+abbrev pub values_read : Room → ℕ
+values_read r = books.values_read r.book
+
+abbrev pub numbers_of : Sources → List ℕ
+numbers_of s = s.numbers.items
+
+-- the numbers of each node's sources, by its own number
+abbrev pub nodes_in : Room → List (List ℕ)
+nodes_in r = map numbers_of r.nodes.items
+
+-- a node's number: its sources have these numbers, and these are their objects
+pub record IsNodeAt (os : List Members) (nodes : List (List ℕ)) (k : ℕ) (ns : List Members) : Type 0 where
+  pub numbers : List ℕ
+  pub is : slice_get nodes k ≡ Some numbers
+  pub shown : Shows os numbers ns
+
+abbrev pub IsNode : Room → ℕ → List Members → Type 0
+IsNode r k ns = IsNodeAt (objects_in r) (nodes_in r) k ns
+
+-- each number keeps its node
+abbrev pub GrowsBy : List (List ℕ) → List (List ℕ) → Type 0
+GrowsBy nodes later = (k : ℕ) (numbers : List ℕ) → slice_get nodes k ≡ Some numbers → slice_get later k ≡ Some numbers
+
+-- a node's numbers are those of some objects
+pub record IsShown (os : List Members) (s : Sources) : Type 0 where
+  pub of : List Members
+  pub shown : Shows os s.numbers.items of
+
+pub record IsChild (live : Live) (os : List Members) (nodes : List (List ℕ)) (c : Child) : Type 0 where
+  pub of : List Members
+  pub is_of : IsNodeAt os nodes c.of of
+  pub is : IsNodeAt os nodes c.at (child_of live of c.label)
+
+pub record IsTop (live : Live) (os : List Members) (nodes : List (List ℕ)) (t : Top) : Type 0 where
+  pub of : Members
+  pub is_of : IsAt os t.of of
+  pub is : IsNodeAt os nodes t.at (sources_of live 0 of)
+
+-- what a room remembers is so
+pub record IsSound (live : Live) (r : Room) : Type 0 where
+  pub book : books.IsSound live r.book
+  pub nodes : All (IsShown (objects_in r)) r.nodes.items
+  pub children : All (IsChild live (objects_in r) (nodes_in r)) r.children.items
+  pub tops : All (IsTop live (objects_in r) (nodes_in r)) r.tops.items
+
+-- A later room: what it remembers is so where that was so before, and each number keeps its object and its node.
+pub record Keeps (r later : Room) : Type 0 where
+  pub grows : Grows (objects_in r) (objects_in later)
+  pub nodes : GrowsBy (nodes_in r) (nodes_in later)
+  pub sound : (live : Live) → IsSound live r → IsSound live later
+
+-- a later room, under the values of these names
+pub record Later (live : Live) (r later : Room) : Type 0 where
+  pub grows : Grows (objects_in r) (objects_in later)
+  pub nodes : GrowsBy (nodes_in r) (nodes_in later)
+  pub sound : IsSound live later

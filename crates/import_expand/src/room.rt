@@ -1,0 +1,296 @@
+//! The room in which one message is answered: the objects and the nodes that were met, each with a number.
+
+ghost use Rattle.std.specs.Prelude.{◌≡◌, ◌≤◌, ◌∷◌, [], true, List, length, OnOk, IfOk, IfErr, IfSome};
+ghost use Rattle.std.specs.Option.{option_map};
+ghost use Rattle.ifa_value.specs.Object.{members};
+ghost use Rattle.ifa_value.specs.Values.{object_of};
+ghost use Rattle.serde_json.specs.Data.{Members};
+ghost use Rattle.import_expand.specs.Sources.{Live, sources_of, child_of, first_of, entries};
+ghost use Rattle.import_expand.specs.Books.{IsAt, Finds, Shows};
+ghost use Rattle.import_expand.specs.Rooms.{objects_in, values_read, IsNode, IsSound, Keeps, Later};
+ghost use Rattle.import_expand.specs.declared.exhausted.Exhausted.TheVariants.{Values};
+
+use crate::book::Book;
+use crate::exhausted::Exhausted;
+use crate::expansion::{are_absent, child, first_with, sources};
+use crate::limits::FEW_SOURCES;
+use crate::names::Names;
+use ifa_value::{IfaObject, Key};
+use nmc_base::{Bytes, NoMemory};
+use std::alloc::Global;
+
+/// The sources of a node, by the numbers of their objects.
+#[derive(Drop)]
+pub(crate) struct Sources {
+    numbers: Vec<usize>,
+}
+
+/// The number of a node's child under a label.
+#[derive(Drop)]
+pub(crate) struct Child {
+    of: usize,
+    label: Bytes,
+    at: usize,
+    older: usize,
+}
+
+/// The number of the node at the top, whose value is an object.
+#[derive(Drop)]
+pub(crate) struct Top {
+    of: usize,
+    at: usize,
+}
+
+/// The objects and the nodes that were met, by their numbers. A node with many sources is found once, and so is its child under
+/// a label.
+#[derive(Drop)]
+pub struct Room {
+    book: Book,
+    nodes: Vec<Sources>,
+    children: Vec<Child>,
+    tops: Vec<Top>,
+    /// By node: its newest child, where to look first. What is found there is compared before it is believed.
+    newest: Vec<usize>,
+}
+
+impl Room {
+    /// The empty room. It takes no memory.
+    pub fn new(alloc: Global) -> Room
+        ensures sound { (live : Live) → IsSound live result }
+        ensures values { values_read result ≡ 0 }
+    {
+        Room {
+            book: Book::new(alloc),
+            nodes: Vec::new(alloc),
+            children: Vec::new(alloc),
+            tops: Vec::new(alloc),
+            newest: Vec::new(alloc),
+        }
+    }
+
+    /// How many values were read.
+    pub fn values_read(&self) -> u16
+        ensures { result ≡ values_read self.now }
+    {
+        self.book.values_read()
+    }
+
+    /// The number of the object of a name, which is read where it wasn't before. None exactly where the name isn't served.
+    pub fn named<N: Names>(&mut self, alloc: Global, names: &N, name: &[u8]) -> Result<Option<usize>, Exhausted>
+        requires sound { IsSound (N.served names.now) self.old }
+        ensures found { IfOk result (λ r. Finds (objects_in self.new) r (option_map object_of (N.served names.now name.now))) }
+        ensures later { OnOk result (Later (N.served names.now) self.old self.new) }
+        // At most 4,096 values are read for a message, and one is refused for that cause alone.
+        ensures bound { values_read self.new ≤ 4096 }
+        ensures refused { IfErr result (λ e. e ≡ Values → values_read self.new ≡ 4096) }
+    {
+        let found = self.book.named(alloc, names, name)?;
+        Ok(found)
+    }
+
+    /// The numbers of a node's sources.
+    fn sources(&self, of: usize) -> &[usize]
+        ensures { (ns : List Members) → IsNode self.now of ns → Shows (objects_in self.now) result.now ns }
+    {
+        match self.nodes.get(of) {
+            Some(sources) => sources.numbers.as_slice(),
+            None => &[],
+        }
+    }
+
+    /// How many sources a node has. Without one there is no such node.
+    pub fn len(&self, of: usize) -> usize
+        ensures { (ns : List Members) → IsNode self.now of ns → result ≡ length ns }
+    {
+        self.sources(of).len()
+    }
+
+    /// The first source of a node that has the item, whatever the item's shape.
+    pub fn first_with(&self, of: usize, key: Key) -> Option<&IfaObject>
+        ensures { (ns : List Members) → IsNode self.now of ns → option_map (λ o. members o.now) result ≡ first_of key ns }
+    {
+        first_with(self.sources(of), key, &self.book)
+    }
+
+    /// Gives a node a number.
+    fn put(&mut self, numbers: Vec<usize>) -> Result<usize, NoMemory>
+        ensures at { IfOk result (λ k. (ns : List Members) → Shows (objects_in self.old) numbers.items ns → IsNode self.new k ns) }
+        ensures keeps { OnOk result ((ns : List Members) → Shows (objects_in self.old) numbers.items ns → Keeps self.old self.new) }
+        ensures values { values_read self.new ≡ values_read self.old }
+    {
+        let at = self.nodes.len();
+        self.nodes.push(Sources { numbers })?;
+        Ok(at)
+    }
+
+    /// Gives a node a number: that of the node above it, where both have the same sources.
+    fn put_below(&mut self, above: usize, numbers: Vec<usize>) -> Result<usize, NoMemory>
+        ensures at { IfOk result (λ k. (ns : List Members) → Shows (objects_in self.old) numbers.items ns → IsNode self.new k ns) }
+        ensures keeps { OnOk result ((ns : List Members) → Shows (objects_in self.old) numbers.items ns → Keeps self.old self.new) }
+        ensures values { values_read self.new ≡ values_read self.old }
+    {
+        if self.is_node_of(above, numbers.as_slice()) {
+            return Ok(above);
+        }
+        let at = self.put(numbers)?;
+        Ok(at)
+    }
+
+    /// Whether a node has these sources.
+    fn is_node_of(&self, of: usize, numbers: &[usize]) -> bool
+        ensures { result ≡ true → (ns : List Members) → Shows (objects_in self.now) numbers.now ns → IsNode self.now of ns }
+    {
+        match self.nodes.get(of) {
+            Some(sources) => sources.numbers.as_slice() == numbers,
+            None => false,
+        }
+    }
+
+    /// The number of the node of an object at the top that was found before.
+    fn known_top(&self, of: usize) -> Option<usize>
+        ensures { (live : Live) → IsSound live self.now → IfSome result (λ k. (o : Members) → IsAt (objects_in self.now) of o → IsNode self.now k (sources_of live 0 o)) }
+    {
+        for top in self.tops.as_slice() {
+            if top.of == of {
+                return Some(top.at);
+            }
+        }
+        None
+    }
+
+    /// Remembers the node of an object at the top, where it has many sources.
+    fn keep_top(&mut self, of: usize, at: usize) -> Result<(), NoMemory>
+        ensures later { OnOk result ((live : Live) (o : Members) → IsAt (objects_in self.old) of o → IsNode self.old at (sources_of live 0 o) → IsSound live self.old → Later live self.old self.new) }
+        ensures values { values_read self.new ≡ values_read self.old }
+    {
+        if self.len(at) <= FEW_SOURCES {
+            return Ok(());
+        }
+        self.tops.push(Top { of, at })?;
+        Ok(())
+    }
+
+    /// The number of the node at the top, whose value is an object.
+    pub fn top<N: Names>(&mut self, alloc: Global, names: &N, of: usize) -> Result<usize, Exhausted>
+        requires sound { IsSound (N.served names.now) self.old }
+        ensures found { IfOk result (λ k. (o : Members) → IsAt (objects_in self.old) of o → IsNode self.new k (sources_of (N.served names.now) 0 o)) }
+        ensures later { OnOk result (Later (N.served names.now) self.old self.new) }
+        ensures bound { values_read self.new ≤ 4096 }
+        ensures refused { IfErr result (λ e. e ≡ Values → values_read self.new ≡ 4096) }
+    {
+        match self.known_top(of) {
+            Some(known) => Ok(known),
+            None => {
+                if of >= self.book.len() {
+                    return Ok(0);
+                }
+                let found = sources(alloc, names, of, &mut self.book)?;
+                let at = self.put(found)?;
+                self.keep_top(of, at)?;
+                Ok(at)
+            }
+        }
+    }
+
+    /// Where a node's newest child is remembered.
+    fn newest(&self, of: usize) -> usize {
+        match self.newest.get(of) {
+            Some(newest) => *newest,
+            None => usize::MAX,
+        }
+    }
+
+    /// The number of a child that was found before.
+    fn known_child(&self, of: usize, label: &[u8]) -> Option<usize>
+        ensures { (live : Live) → IsSound live self.now → IfSome result (λ k. (ns : List Members) → IsNode self.now of ns → IsNode self.now k (child_of live ns label.now)) }
+    {
+        let mut i = self.newest(of);
+        while let Some(child) = self.children.get(i) {
+            if child.of == of && child.label.as_slice() == label {
+                return Some(child.at);
+            }
+            if child.older >= i {
+                return None;
+            }
+            i = child.older;
+        }
+        None
+    }
+
+    /// Remembers a child, where the node above it has many sources.
+    fn keep_child(&mut self, alloc: Global, of: usize, label: &[u8], at: usize) -> Result<(), NoMemory>
+        ensures later { OnOk result ((live : Live) (ns : List Members) → IsNode self.old of ns → IsNode self.old at (child_of live ns label.now) → IsSound live self.old → Later live self.old self.new) }
+        ensures values { values_read self.new ≡ values_read self.old }
+    {
+        if self.len(of) <= FEW_SOURCES {
+            return Ok(());
+        }
+        let older = self.newest(of);
+        let next = self.children.len();
+        let label = Bytes::copy_of(alloc, label)?;
+        self.newest.resize(self.nodes.len(), usize::MAX)?;
+        self.children.push(Child { of, label, at, older })?;
+        if let Some(newest) = self.newest.get_mut(of) {
+            *newest = next;
+        }
+        Ok(())
+    }
+
+    /// Whether no source of a node has an entry under a label.
+    fn is_absent(&mut self, alloc: Global, of: usize, label: &[u8]) -> Result<bool, NoMemory>
+        ensures absent { IfOk result (λ b. b ≡ true → (live : Live) (ns : List Members) → IsSound live self.old → IsNode self.old of ns → entries label.now ns ≡ []) }
+        ensures keeps { OnOk result (Keeps self.old self.new) }
+        ensures values { values_read self.new ≡ values_read self.old }
+    {
+        match self.nodes.get(of) {
+            Some(sources) => {
+                let is_absent = are_absent(alloc, sources.numbers.as_slice(), label, &mut self.book)?;
+                Ok(is_absent)
+            }
+            None => Ok(false),
+        }
+    }
+
+    /// The number of a node's child, which is found by its sources where it wasn't before.
+    fn child_under<N: Names>(&mut self, alloc: Global, names: &N, of: usize, label: &[u8]) -> Result<usize, Exhausted>
+        requires sound { IsSound (N.served names.now) self.old }
+        ensures found { IfOk result (λ k. (ns : List Members) → IsNode self.old of ns → IsNode self.new k (child_of (N.served names.now) ns label.now)) }
+        ensures later { OnOk result (Later (N.served names.now) self.old self.new) }
+        ensures bound { values_read self.new ≤ 4096 }
+        ensures refused { IfErr result (λ e. e ≡ Values → values_read self.new ≡ 4096) }
+    {
+        match self.known_child(of, label) {
+            Some(known) => Ok(known),
+            None => {
+                let Some(sources) = self.nodes.get(of) else {
+                    return Ok(of);
+                };
+                let found = child(alloc, names, sources.numbers.as_slice(), label, &mut self.book)?;
+                let at = self.put_below(of, found)?;
+                self.keep_child(alloc, of, label, at)?;
+                Ok(at)
+            }
+        }
+    }
+
+    /// The number of a node's child under a label: its sources are those of the entries under the label, or, where no source has
+    /// one, under `*`.
+    pub fn child<N: Names>(&mut self, alloc: Global, names: &N, of: usize, label: &[u8]) -> Result<usize, Exhausted>
+        requires sound { IsSound (N.served names.now) self.old }
+        ensures found { IfOk result (λ k. (ns : List Members) → IsNode self.old of ns → IsNode self.new k (child_of (N.served names.now) ns label.now)) }
+        ensures later { OnOk result (Later (N.served names.now) self.old self.new) }
+        ensures bound { values_read self.new ≤ 4096 }
+        ensures refused { IfErr result (λ e. e ≡ Values → values_read self.new ≡ 4096) }
+    {
+        if self.len(of) <= FEW_SOURCES {
+            let at = self.child_under(alloc, names, of, label)?;
+            return Ok(at);
+        }
+        if self.is_absent(alloc, of, label)? {
+            let at = self.child_under(alloc, names, of, b"*")?;
+            return Ok(at);
+        }
+        let at = self.child_under(alloc, names, of, label)?;
+        Ok(at)
+    }
+}
