@@ -19,6 +19,7 @@ const LONGEST_HOST_NAME: usize = 244;
 const MOST_TURNS: u32 = 1_000_000_000;
 
 /// What is wrong with words that ask for nothing.
+#[derive(Drop)]
 enum Complaint<'w> {
     /// The first word is no command.
     Command { word: &'w [u8] },
@@ -128,7 +129,7 @@ fn wrong_for_serve<'w>(words: &'w [Bytes]) -> Option<Complaint<'w>> {
 }
 
 /// What is wrong with the words, where that can be said of one of them.
-fn complaint<'w>(words: &'w [Bytes]) -> Option<Complaint<'w>> {
+fn complaint_of<'w>(words: &'w [Bytes]) -> Option<Complaint<'w>> {
     let [command, rest @ ..] = words else {
         return None;
     };
@@ -145,7 +146,7 @@ fn complaint<'w>(words: &'w [Bytes]) -> Option<Complaint<'w>> {
 
 /// Tells people what is wrong with words that ask for nothing, and what may be asked for.
 pub(crate) fn tell_forms(people: &People<'_>, words: &Words) {
-    if let Some(complaint) = complaint(words.as_slice()) {
+    if let Some(complaint) = complaint_of(words.as_slice()) {
         people.tell(complaint);
     }
     for form in FORMS {
