@@ -26,8 +26,8 @@ pub(crate) struct FeedLink {
 }
 
 impl FeedLink {
+    /// Calls on the stream don't wait.
     pub(crate) fn new(alloc: Global, stream: TcpStream, now: u64) -> io::Result<FeedLink> {
-        stream.set_nonblocking(true)?;
         stream.set_nodelay(true)?;
         Ok(FeedLink {
             stream,

@@ -26,7 +26,12 @@ pub(crate) enum Verdict {
 }
 
 impl Newcomer {
+    /// It is none where the other end has closed it already, with nothing sent: no user has to be looked for then.
     pub(crate) fn new(stream: TcpStream, peer: SocketAddrV4) -> io::Result<Newcomer> {
+        stream.set_nonblocking(true)?;
+        if let Ok(0) = stream.peek(&mut [0; 1]) {
+            return Err(ErrorKind::UnexpectedEof.into());
+        }
         let own = match stream.local_addr()? {
             SocketAddr::V4(address) => address,
             SocketAddr::V6(_) => return Err(ErrorKind::Unsupported.into()),
