@@ -11,8 +11,9 @@ use std::alloc::Global;
 use std::io::{self, ErrorKind};
 use std::mem;
 
-/// How long a connection that is let go has for taking its last replies.
+/// How long a connection that is let go has for taking its last replies, and one that was silent and has none to take.
 const LEAVE: u64 = 5 * SECOND;
+const LEAVE_IN_SILENCE: u64 = SECOND / 2;
 
 /// The one place of a feed.
 #[derive(Drop)]
@@ -91,11 +92,14 @@ impl<'a> Feed<'a> {
 
     /// Lets the connection go, if there is one.
     pub(crate) fn close(&mut self, now: u64) {
+        self.close_until(now, now.saturating_add(LEAVE));
+    }
+
+    /// Lets the connection go, if there is one. Its last replies are sent until then.
+    fn close_until(&mut self, now: u64, until: u64) {
         let place = mem::replace(&mut self.place, Place::Free);
         self.place = match place {
-            Place::Open(link) | Place::Ended(Some(link)) => {
-                Place::Leaving(link, now.saturating_add(LEAVE))
-            }
+            Place::Open(link) | Place::Ended(Some(link)) => Place::Leaving(link, until),
             Place::Ended(None) => Place::Free,
             other => other,
         };
@@ -137,12 +141,16 @@ impl<'a> Feed<'a> {
         }
     }
 
-    /// Whether the connection that has the place gives it to the one that waits.
-    fn yields(&self, now: u64) -> bool {
-        match &self.place {
-            Place::Open(link) => self.waiting.is_some() && now >= link.yields_at(),
-            _ => false,
-        }
+    /// Lets a silent connection give the place to the one that waits, if there are such. Whether it does.
+    fn make_room(&mut self, now: u64) -> bool {
+        let leave = match &self.place {
+            Place::Open(link) if self.waiting.is_some() && now >= link.yields_at() => {
+                if link.is_behind() { LEAVE } else { LEAVE_IN_SILENCE }
+            }
+            _ => return false,
+        };
+        self.close_until(now, now.saturating_add(leave));
+        true
     }
 
     /// The next piece of the feed, or its end, where one is there.
@@ -156,10 +164,9 @@ impl<'a> Feed<'a> {
             Ok(0) => self.close_ended(now),
             Ok(len) => return Ok(Polled::Feed { len }),
             Err(error) if error.kind() == ErrorKind::WouldBlock => {
-                if !self.yields(now) {
+                if !self.make_room(now) {
                     return Ok(Polled::Nothing);
                 }
-                self.close(now);
             }
             Err(_) => self.place = Place::Free,
         }

@@ -60,7 +60,7 @@ impl FeedLink {
     }
 
     /// Whether the peer is to take replies before it is read again.
-    fn is_behind(&self) -> bool {
+    pub(crate) fn is_behind(&self) -> bool {
         !self.unsent.is_empty()
     }
 

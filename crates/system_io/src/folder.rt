@@ -41,11 +41,10 @@ impl OpenFiles {
         people.heard("the folder", "sync", folder.sync_all())
     }
 
-    /// Where the first file holds something, the others were made beside it once.
+    /// Where one of the first two files holds something, all three were made once.
     fn tell_of_missing(&self, people: &People<'_>) -> io::Result<()> {
-        let header = people.heard(self.header.name, "look at it", self.header.file.metadata())?;
-        if header.len() > 0 {
-            for held in [&self.first_area, &self.second_area] {
+        if self.header.len(people)? > 0 || self.first_area.len(people)? > 0 {
+            for held in [&self.header, &self.first_area, &self.second_area] {
                 if held.is_new {
                     people.tell(Cause::Missing { file: held.name });
                 }
@@ -113,9 +112,7 @@ impl<'a> Folder<'a> {
 
     pub(crate) fn len(&mut self, number: u8) -> io::Result<u64> {
         let people = self.people;
-        let held = self.held(number)?;
-        let found = people.heard(held.name, "look at it", held.file.metadata())?;
-        Ok(found.len())
+        self.held(number)?.len(people)
     }
 
     pub(crate) fn read(&mut self, number: u8, at: u64, buf: &mut [u8]) -> io::Result<usize>

@@ -102,6 +102,12 @@ pub(crate) fn hold(
 }
 
 impl HeldFile {
+    /// The length of the file.
+    pub(crate) fn len(&self, people: &People<'_>) -> io::Result<u64> {
+        let found = people.heard(self.name, "look at it", self.file.metadata())?;
+        Ok(found.len())
+    }
+
     /// The file that is held is the one that stands at the name, and has no other name: so whoever came by another way holds
     /// another file, and nobody's file elsewhere is written.
     pub(crate) fn is_the_only(&self, rt: &HostRuntime, people: &People<'_>) -> io::Result<()> {
