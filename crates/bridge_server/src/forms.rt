@@ -18,24 +18,16 @@ const LONGEST_HOST_NAME: usize = 244;
 
 const MOST_TURNS: u32 = 1_000_000_000;
 
-/// What is wrong with words that ask for nothing.
+/// What is wrong with words that ask for nothing: this word, and what is to be said of it.
 #[derive(Drop)]
-enum Complaint<'w> {
-    /// The first word is no command.
-    Command { word: &'w [u8] },
-    /// The command has so many words behind it, or none.
-    Count { wanted: &'static str },
-    /// This word isn't what stands in its place.
-    Word { word: &'w [u8], wanted: &'static str },
+struct Complaint<'w> {
+    word: &'w [u8],
+    text: &'static str,
 }
 
 impl<'w> fmt::Display for Complaint<'w> {
     fn fmt<W: fmt::Write>(&self, f: &mut fmt::Formatter<W>) -> fmt::Result {
-        match self {
-            Complaint::Command { word } => write!(f, "{:?} is no command", shown(word)),
-            Complaint::Count { wanted } => write!(f, "it takes {wanted}"),
-            Complaint::Word { word, wanted } => write!(f, "{:?} isn't {wanted}", shown(word)),
-        }
+        write!(f, "{:?} {}", shown(self.word), self.text)
     }
 }
 
@@ -69,19 +61,21 @@ fn is_host(word: &[u8]) -> bool {
 
 /// The first of these words that isn't what stands in its place.
 fn first_wrong<'w>(places: &[(&'w [u8], bool, &'static str)]) -> Option<Complaint<'w>> {
-    for (word, is_well, wanted) in places {
+    for (word, is_well, text) in places {
         if !*is_well {
-            return Some(Complaint::Word { word, wanted });
+            return Some(Complaint { word, text });
         }
     }
     None
 }
 
 /// What is wrong with the words behind `init`.
-fn wrong_for_init<'w>(words: &'w [Bytes]) -> Option<Complaint<'w>> {
+fn wrong_for_init<'w>(command: &'w [u8], words: &'w [Bytes]) -> Option<Complaint<'w>> {
     let [profile, height, hash, host] = words else {
-        let wanted = "four words: init regtest HEIGHT HASH HOST";
-        return Some(Complaint::Count { wanted });
+        return Some(Complaint {
+            word: command,
+            text: "takes four words: init regtest HEIGHT HASH HOST",
+        });
     };
     let (profile, height) = (profile.as_slice(), height.as_slice());
     let (hash, host) = (hash.as_slice(), host.as_slice());
@@ -89,41 +83,43 @@ fn wrong_for_init<'w>(words: &'w [Bytes]) -> Option<Complaint<'w>> {
         (
             profile,
             profile == b"regtest".as_slice(),
-            "a profile: regtest is the only one",
+            "isn't a profile: regtest is the only one",
         ),
         (
             height,
             is_number(height, 0, HIGHEST_HEIGHT),
-            "a height: a number from 0 to 2000000000, without a leading zero",
+            "isn't a height: a number from 0 to 2000000000, without a leading zero",
         ),
         (
             hash,
             is_hash(hash),
-            "a block's hash: 64 hexadecimal digits",
+            "isn't a block's hash: 64 hexadecimal digits",
         ),
         (
             host,
             is_host(host),
-            "a host: a domain name with a dot at its end, of at most 244 bytes in a message",
+            "isn't a host: a domain name with a dot at its end, of at most 244 bytes in a message",
         ),
     ])
 }
 
 /// What is wrong with the words behind `serve`.
-fn wrong_for_serve<'w>(words: &'w [Bytes]) -> Option<Complaint<'w>> {
+fn wrong_for_serve<'w>(command: &'w [u8], words: &'w [Bytes]) -> Option<Complaint<'w>> {
     let [udp, feed, turns] = words else {
-        let wanted = "three words: serve UDP_PORT FEED_PORT TURNS";
-        return Some(Complaint::Count { wanted });
+        return Some(Complaint {
+            word: command,
+            text: "takes three words: serve UDP_PORT FEED_PORT TURNS",
+        });
     };
     let (udp, feed, turns) = (udp.as_slice(), feed.as_slice(), turns.as_slice());
-    let port = "a port: a number from 1 to 65535, without a leading zero";
+    let port = "isn't a port: a number from 1 to 65535, without a leading zero";
     first_wrong(&[
         (udp, is_port(udp), port),
         (feed, is_port(feed), port),
         (
             turns,
             is_number(turns, 1, MOST_TURNS),
-            "a number of turns: from 1 to 1000000000, without a leading zero",
+            "isn't a number of turns: from 1 to 1000000000, without a leading zero",
         ),
     ])
 }
@@ -134,13 +130,17 @@ fn complaint_of<'w>(words: &'w [Bytes]) -> Option<Complaint<'w>> {
         return None;
     };
     match command.as_slice() {
-        b"init" => wrong_for_init(rest),
-        b"serve" => wrong_for_serve(rest),
-        b"replay" | b"dump" => Some(Complaint::Count {
-            wanted: "no more words",
+        b"init" => wrong_for_init(command.as_slice(), rest),
+        b"serve" => wrong_for_serve(command.as_slice(), rest),
+        b"replay" | b"dump" => Some(Complaint {
+            word: command.as_slice(),
+            text: "takes no other word",
         }),
         b"--help" | b"-h" => None,
-        word => Some(Complaint::Command { word }),
+        word => Some(Complaint {
+            word,
+            text: "is no command",
+        }),
     }
 }
 

@@ -54,7 +54,9 @@ impl<'a> Door<'a> {
             rt,
             people,
             listener,
-            tables: Tables::open(rt).ok(),
+            tables: people
+                .heard("/proc/self/net/tcp", "open", Tables::open(rt))
+                .ok(),
             newcomer: None,
             rests_until: 0,
             silent_until: 0,
@@ -90,6 +92,11 @@ impl<'a> Door<'a> {
         }
     }
 
+    fn tell_failed(&mut self, now: u64, call: &'static str, error: io::Error) {
+        let thing = "the feed";
+        self.tell(now, Cause::Failed { thing, call, error });
+    }
+
     /// Takes the connection that waits first, if one does.
     fn accept(&mut self, now: u64) -> io::Result<()> {
         match self.listener.accept() {
@@ -102,7 +109,7 @@ impl<'a> Door<'a> {
                 ErrorKind::WouldBlock | ErrorKind::ConnectionAborted => Ok(()),
                 _ => {
                     self.rests_until = now.saturating_add(REST);
-                    self.tell(now, Cause::Unaccepted { error });
+                    self.tell_failed(now, "accept", error);
                     Err(error)
                 }
             },
@@ -117,7 +124,7 @@ impl<'a> Door<'a> {
                 Verdict::Open => newcomer.judge(tables, own),
                 verdict => Ok(verdict),
             },
-            None => Err(ErrorKind::NotFound.into()),
+            None => Err(ErrorKind::Unsupported.into()),
         }
     }
 
@@ -135,8 +142,14 @@ impl<'a> Door<'a> {
                 let own = libc::geteuid();
                 self.tell(now, Cause::Stranger { user, own });
             }
-            Ok(Verdict::Unknown) => self.tell(now, Cause::Nobody),
-            Err(error) => self.tell(now, Cause::Untold { error }),
+            Ok(Verdict::Unknown) => self.tell(
+                now,
+                Cause::Odd {
+                    thing: "the feed",
+                    text: "a connection was closed: whose it is can't be told, since its other end has gone",
+                },
+            ),
+            Err(error) => self.tell_failed(now, "whose a connection is can't be told", error),
         }
         None
     }

@@ -22,7 +22,9 @@ pub(crate) struct FeedLink {
     unsent: Unsent,
     // when it was taken, or something came of it
     heard: u64,
+    // whether the peer was told that no more comes, and told that itself
     is_shut: bool,
+    has_ended: bool,
 }
 
 impl FeedLink {
@@ -34,6 +36,7 @@ impl FeedLink {
             unsent: Unsent::new(alloc),
             heard: now,
             is_shut: false,
+            has_ended: false,
         })
     }
 
@@ -48,13 +51,11 @@ impl FeedLink {
 
     /// What a wait is to look at while it leaves.
     pub(crate) fn asked_at_last(&self) -> pollfd {
+        let reads = if self.has_ended { 0 } else { POLLIN };
+        let writes = if self.is_behind() { POLLOUT } else { 0 };
         pollfd {
             fd: self.stream.as_raw_fd(),
-            events: if self.is_behind() {
-                POLLIN | POLLOUT
-            } else {
-                POLLIN
-            },
+            events: reads | writes,
             revents: 0,
         }
     }
@@ -110,26 +111,31 @@ impl FeedLink {
         Ok(())
     }
 
+    /// Lets go of what the peer sends.
+    fn drain(&mut self) -> io::Result<()> {
+        let mut unread = [0; 16_384];
+        for _ in 0..LAST_READS {
+            match self.stream.read(&mut unread) {
+                Ok(0) => {
+                    self.has_ended = true;
+                    break;
+                }
+                Ok(_) => {}
+                Err(error) if error.kind() == ErrorKind::WouldBlock => break,
+                Err(error) if error.kind() == ErrorKind::Interrupted => {}
+                Err(error) => return Err(error),
+            }
+        }
+        Ok(())
+    }
+
     /// Goes on with leaving, and says whether it has left: its replies were sent, and the peer has taken note of their end. What
     /// the peer sends is let go meanwhile: where a connection is closed before all of that is read, the system cuts off the
     /// replies on their way. Whoever sends much before it reads takes its replies then, too.
     pub(crate) fn leave(&mut self) -> bool {
-        if self.send_last().is_err() {
+        if self.send_last().is_err() || self.drain().is_err() {
             return true;
         }
-        let mut unread = [0; 16_384];
-        for _ in 0..LAST_READS {
-            match self.stream.read(&mut unread) {
-                Ok(0) => return self.is_shut,
-                Ok(_) => {}
-                Err(error) => {
-                    return !matches!(
-                        error.kind(),
-                        ErrorKind::WouldBlock | ErrorKind::Interrupted
-                    );
-                }
-            }
-        }
-        false
+        self.is_shut && self.has_ended
     }
 }

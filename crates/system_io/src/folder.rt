@@ -46,7 +46,10 @@ impl OpenFiles {
         if self.header.len(people)? > 0 || self.first_area.len(people)? > 0 {
             for held in [&self.header, &self.first_area, &self.second_area] {
                 if held.is_new {
-                    people.tell(Cause::Missing { file: held.name });
+                    people.tell(Cause::Odd {
+                        thing: held.name,
+                        text: "it was missing, and is now an empty file",
+                    });
                 }
             }
         }

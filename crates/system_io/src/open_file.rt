@@ -20,7 +20,12 @@ pub(crate) struct HeldFile {
     pub(crate) is_new: bool,
 }
 
-fn refused() -> io::Error {
+/// What another file took the place of, while it was opened.
+const REPLACED: &str = "another file took its place while it was opened";
+
+/// Tells people why a file isn't taken.
+fn refused(people: &People<'_>, name: &'static str, text: &'static str) -> io::Error {
+    people.tell(Cause::Odd { thing: name, text });
     ErrorKind::Unsupported.into()
 }
 
@@ -29,12 +34,12 @@ fn is_there(rt: &HostRuntime, people: &People<'_>, name: &'static str) -> io::Re
     match fs::symlink_metadata(rt, name) {
         Ok(found) if found.is_file() => Ok(true),
         Ok(found) => {
-            if found.is_symlink() {
-                people.tell(Cause::Link { file: name });
+            let text = if found.is_symlink() {
+                "it is a link, and only a file is taken"
             } else {
-                people.tell(Cause::NoFile { file: name });
-            }
-            Err(refused())
+                "it is no plain file"
+            };
+            Err(refused(people, name, text))
         }
         Err(error) if error.kind() == ErrorKind::NotFound => Ok(false),
         Err(error) => people.heard(name, "look at it", Err(error)),
@@ -70,8 +75,7 @@ fn open(
             return Ok((file, !is_there));
         }
     }
-    people.tell(Cause::Replaced { file: name });
-    Err(refused())
+    Err(refused(people, name, REPLACED))
 }
 
 /// What is meant for a standard stream that was closed must not land in the file.
@@ -94,8 +98,8 @@ pub(crate) fn hold(
     match file.try_lock() {
         Ok(()) => Ok(HeldFile { name, file, is_new }),
         Err(TryLockError::WouldBlock) => {
-            people.tell(Cause::Locked { file: name });
-            Err(ErrorKind::ResourceBusy.into())
+            let text = "another program has the folder";
+            Err(refused(people, name, text))
         }
         Err(TryLockError::Error(error)) => people.heard(name, "lock", Err(error)),
     }
@@ -114,15 +118,11 @@ impl HeldFile {
         let named = people.heard(self.name, "look at it", fs::symlink_metadata(rt, self.name))?;
         let held = people.heard(self.name, "look at it", self.file.metadata())?;
         if named.dev() != held.dev() || named.ino() != held.ino() {
-            people.tell(Cause::Replaced { file: self.name });
-            return Err(refused());
+            return Err(refused(people, self.name, REPLACED));
         }
         if held.nlink() != 1 {
-            people.tell(Cause::Names {
-                file: self.name,
-                count: held.nlink(),
-            });
-            return Err(refused());
+            let text = "the file has more than one name, and only one with a single name is taken";
+            return Err(refused(people, self.name, text));
         }
         Ok(())
     }
