@@ -26,7 +26,7 @@ class Server:
         self.udp, self.feed = udp or free_port(socket.SOCK_DGRAM), feed or free_port(socket.SOCK_STREAM)
         words = [runs or program(), "serve", str(self.udp), str(self.feed), str(turns)]
         streams = {"stdin": subprocess.DEVNULL, "stdout": subprocess.PIPE, "stderr": subprocess.PIPE}
-        self.run = subprocess.Popen(words, cwd=folder, **streams, **how)
+        self.run = subprocess.Popen(words, cwd=folder, **{**streams, **how})
 
     def started(self):
         """Waits until it answers."""
@@ -61,7 +61,7 @@ class Server:
         if kill:
             self.run.kill()
         output, line = self.run.communicate(timeout=SECONDS)
-        return Run(output, self.run.returncode, line.decode().strip())
+        return Run(output, self.run.returncode, (line or b"").decode().strip())
 
 
 @contextlib.contextmanager

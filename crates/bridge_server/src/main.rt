@@ -2,12 +2,15 @@
 //! queries over a port.
 #![tactic(auto)]
 
+mod forms;
+
 use bridge_core::{Status, run};
+use forms::tell_forms;
 use nmc_base::{Bytes, NoMemory, Words};
 use std::process::ExitCode;
 use std::rt::Env;
 use std::{env, io};
-use system_io::{FileDisk, ReaderSource, SocketPort, WriterSink};
+use system_io::{FileDisk, People, ReaderSource, SocketPort, WriterSink};
 
 /// What the program was called with: the words behind its name, or none where they are no text.
 fn words_of(rt: &(impl Env + AllocGlobal)) -> Result<Words, NoMemory> {
@@ -24,28 +27,36 @@ fn words_of(rt: &(impl Env + AllocGlobal)) -> Result<Words, NoMemory> {
     Ok(words)
 }
 
-fn status_of(rt: &HostRuntime) -> Status {
+fn status_of(rt: &HostRuntime, people: &People<'_>) -> Status {
     match words_of(rt) {
         Ok(words) => {
-            let mut source = ReaderSource::new(rt.reader());
-            let mut sink = WriterSink::new(io::writer(rt));
-            let mut disk = FileDisk::new(rt);
-            let mut port = SocketPort::new(rt);
-            run(
+            let mut source = ReaderSource::new(rt.reader(), people);
+            let mut sink = WriterSink::new(io::writer(rt), people);
+            let mut disk = FileDisk::new(rt, people);
+            let mut port = SocketPort::new(rt, people);
+            let status = run(
                 rt.alloc(),
                 &words,
                 &mut source,
                 &mut sink,
                 &mut disk,
                 &mut port,
-            )
+            );
+            let was_bound = port.finish();
+            match status {
+                Status::Words => tell_forms(people, &words),
+                Status::Done if was_bound => people.tell("all turns are made"),
+                _ => {}
+            }
+            status
         }
         Err(NoMemory) => Status::NoMemory,
     }
 }
 
 fn main(rt: HostRuntime) -> ExitCode {
-    let status = status_of(&rt);
+    let people = People::of(&rt);
+    let status = status_of(&rt, &people);
     if status != Status::Done {
         let _ = eprintln!(rt; "{status}");
     }

@@ -1,111 +1,193 @@
 ghost use Rattle.std.specs.Prelude.{◌≡◌, ◌≤◌, length, IfOk};
 ghost use Rattle.system_io.specs.Arrival.{IsWithin};
 
+use crate::clock::SECOND;
+use crate::door::{Door, NOTHING_ASKED};
 use crate::feed_link::FeedLink;
+use crate::people::People;
 use byte_io::Polled;
-use libc::net::{POLLIN, POLLOUT};
 use libc::types::pollfd;
 use std::alloc::Global;
 use std::io::{self, ErrorKind};
-use std::net::{Ipv4Addr, TcpListener};
-use std::os::fd::AsRawFd;
+use std::mem;
 
+/// How long a connection that is let go has for taking its last replies, and one that was silent and has none to take.
+const LEAVE: u64 = 5 * SECOND;
+const LEAVE_IN_SILENCE: u64 = SECOND / 2;
+
+/// The one place of a feed.
 #[derive(Drop)]
-enum Link {
-    /// No feed is connected.
-    Awaited,
+enum Place {
+    Free,
     Open(FeedLink),
-    /// It has ended, and no poll said so yet.
-    Ended,
+    /// Its connection has ended, and no poll said so yet. Where a reply couldn't be kept, those before it are still to be sent.
+    Ended(Option<FeedLink>),
+    /// Its connection was let go, and takes its last replies, until then.
+    Leaving(FeedLink, u64),
 }
 
-/// The feed's side of a port: one connection at a time. Others wait in the listener's queue until it has ended.
+/// The feed's side of a port: one connection at a time. One more may wait for the place, and others in the listener's queue.
 #[derive(Drop)]
-pub(crate) struct Feed {
+pub(crate) struct Feed<'a> {
     alloc: Global,
-    listener: TcpListener,
-    link: Link,
+    door: Door<'a>,
+    place: Place,
+    waiting: Option<FeedLink>,
 }
 
-impl Feed {
-    pub(crate) fn bind(rt: &HostRuntime, number: u16) -> io::Result<Feed> {
-        let listener = TcpListener::bind(rt, (Ipv4Addr::LOCALHOST, number))?;
-        listener.set_nonblocking(true)?;
+impl<'a> Feed<'a> {
+    pub(crate) fn bind(
+        rt: &'a HostRuntime,
+        people: &'a People<'a>,
+        number: u16,
+    ) -> io::Result<Feed<'a>> {
         Ok(Feed {
             alloc: rt.alloc(),
-            listener,
-            link: Link::Awaited,
+            door: Door::bind(rt, people, number)?,
+            place: Place::Free,
+            waiting: None,
         })
     }
 
-    pub(crate) fn is_open(&self) -> bool {
-        matches!(self.link, Link::Open(_))
+    /// What a wait for the feed is to look at: connections, and that which has the place.
+    pub(crate) fn asked(&self, now: u64) -> [pollfd; 2] {
+        let door = match &self.waiting {
+            Some(_) => NOTHING_ASKED,
+            None => self.door.asked(now),
+        };
+        let link = match &self.place {
+            Place::Open(link) => link.asked(),
+            Place::Leaving(link, _) => link.asked_at_last(),
+            Place::Free | Place::Ended(_) => NOTHING_ASKED,
+        };
+        [door, link]
     }
 
-    /// What a wait for the feed is to look at: a connection, bytes of the feed, or room for its replies.
-    pub(crate) fn asked(&self) -> pollfd {
-        let (fd, events) = match &self.link {
-            Link::Open(link) if link.is_behind() => (link.as_raw_fd(), POLLOUT),
-            Link::Open(link) => (link.as_raw_fd(), POLLIN),
-            _ => (self.listener.as_raw_fd(), POLLIN),
-        };
-        pollfd {
-            fd,
-            events,
-            revents: 0,
+    /// When there is something to do, whatever comes.
+    pub(crate) fn due(&self, now: u64) -> u64 {
+        match (&self.place, &self.waiting) {
+            (Place::Ended(_), _) | (Place::Free, Some(_)) => now,
+            (Place::Leaving(_, until), Some(_)) => *until,
+            (Place::Leaving(_, until), None) => self.door.due(now).min(*until),
+            (Place::Open(link), Some(_)) => link.yields_at(),
+            (Place::Open(_) | Place::Free, None) => self.door.due(now),
         }
+    }
+
+    /// Whether a connection that was let go takes its last replies.
+    pub(crate) fn is_leaving(&self) -> bool {
+        matches!(self.place, Place::Leaving(_, _))
+    }
+
+    /// Goes on with letting a connection go.
+    pub(crate) fn let_leave(&mut self, now: u64) {
+        let has_left = match &mut self.place {
+            Place::Leaving(link, until) => link.leave() || now >= *until,
+            _ => false,
+        };
+        if has_left {
+            self.place = Place::Free;
+        }
+    }
+
+    /// Lets the connection go, if there is one.
+    pub(crate) fn close(&mut self, now: u64) {
+        self.close_until(now, now.saturating_add(LEAVE));
+    }
+
+    /// Lets the connection go, if there is one. Its last replies are sent until then.
+    fn close_until(&mut self, now: u64, until: u64) {
+        let place = mem::replace(&mut self.place, Place::Free);
+        self.place = match place {
+            Place::Open(link) | Place::Ended(Some(link)) => Place::Leaving(link, until),
+            Place::Ended(None) => Place::Free,
+            other => other,
+        };
+        self.let_leave(now);
+    }
+
+    /// Gives the place, where it is free, to the connection that waits, and lets the next one wait.
+    fn receive(&mut self, now: u64) -> io::Result<()> {
+        if self.waiting.is_none() {
+            if let Some(stream) = self.door.next(now)? {
+                self.waiting = Some(FeedLink::new(self.alloc, stream, now)?);
+            }
+        }
+        if matches!(self.place, Place::Free) {
+            if let Some(link) = self.waiting.take() {
+                self.place = Place::Open(link);
+            }
+        }
+        Ok(())
+    }
+
+    /// Reads the next piece of the connection that has the place. At 0 it has ended.
+    fn read(&mut self, buffer: &mut [u8], now: u64) -> io::Result<usize>
+        ensures count { IfOk result (λ n. n ≤ length buffer.new) }
+        ensures room { length buffer.new ≡ length buffer.old }
+    {
+        match &mut self.place {
+            Place::Open(link) => link.read(buffer, now),
+            Place::Ended(_) => Ok(0),
+            Place::Free | Place::Leaving(_, _) => Err(ErrorKind::WouldBlock.into()),
+        }
+    }
+
+    /// Frees the place of a connection whose end was read, or whose last replies are still to be sent.
+    fn close_ended(&mut self, now: u64) {
+        match &self.place {
+            Place::Ended(Some(_)) => self.close(now),
+            _ => self.place = Place::Free,
+        }
+    }
+
+    /// Lets a silent connection give the place to the one that waits, if there are such. Whether it does.
+    fn make_room(&mut self, now: u64) -> bool {
+        let leave = match &self.place {
+            Place::Open(link) if self.waiting.is_some() && now >= link.yields_at() => {
+                if link.is_behind() { LEAVE } else { LEAVE_IN_SILENCE }
+            }
+            _ => return false,
+        };
+        self.close_until(now, now.saturating_add(leave));
+        true
     }
 
     /// The next piece of the feed, or its end, where one is there.
-    pub(crate) fn poll(&mut self, buffer: &mut [u8]) -> io::Result<Polled>
+    pub(crate) fn poll(&mut self, buffer: &mut [u8], now: u64) -> io::Result<Polled>
         ensures within { IfOk result (λ polled. IsWithin polled (length buffer.new)) }
         ensures room { length buffer.new ≡ length buffer.old }
     {
-        if matches!(self.link, Link::Awaited) {
-            self.accept()?;
+        self.let_leave(now);
+        self.receive(now)?;
+        match self.read(buffer, now) {
+            Ok(0) => self.close_ended(now),
+            Ok(len) => return Ok(Polled::Feed { len }),
+            Err(error) if error.kind() == ErrorKind::WouldBlock => {
+                if !self.make_room(now) {
+                    return Ok(Polled::Nothing);
+                }
+            }
+            Err(_) => self.place = Place::Free,
         }
-        match &mut self.link {
-            Link::Awaited => return Ok(Polled::Nothing),
-            Link::Ended => {}
-            Link::Open(link) => match link.read(buffer) {
-                Ok(0) => {}
-                Ok(len) => return Ok(Polled::Feed { len }),
-                Err(error) if error.kind() == ErrorKind::WouldBlock => return Ok(Polled::Nothing),
-                Err(_) => {}
-            },
-        }
-        self.link = Link::Awaited;
         Ok(Polled::FeedEnd)
     }
 
-    /// Takes the connection that waits first, if one does.
-    fn accept(&mut self) -> io::Result<()> {
-        match self.listener.accept() {
-            Ok((stream, _)) => {
-                self.link = Link::Open(FeedLink::new(self.alloc, stream)?);
-                Ok(())
-            }
-            Err(error) if error.kind() == ErrorKind::WouldBlock => Ok(()),
-            Err(error) => Err(error),
-        }
-    }
-
-    /// Sends a reply. Where that fails, the connection has ended.
+    /// Sends a reply, or keeps it to be sent. Where neither can be done, the connection has ended: no reply is left out in
+    /// between.
     pub(crate) fn send(&mut self, bytes: &[u8]) -> io::Result<()> {
-        let answer = match &mut self.link {
-            Link::Open(link) => link.send(bytes),
+        let answer = match &mut self.place {
+            Place::Open(link) => link.send(bytes),
             _ => return Err(ErrorKind::NotConnected.into()),
         };
-        if answer.is_err() {
-            self.link = Link::Ended;
+        if let Err(error) = &answer {
+            let place = mem::replace(&mut self.place, Place::Ended(None));
+            if let Place::Open(link) = place {
+                if error.kind() == ErrorKind::OutOfMemory {
+                    self.place = Place::Ended(Some(link));
+                }
+            }
         }
         answer
-    }
-
-    pub(crate) fn close(&mut self) {
-        if let Link::Open(link) = &mut self.link {
-            link.finish();
-        }
-        self.link = Link::Awaited;
     }
 }

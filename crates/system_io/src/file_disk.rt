@@ -3,10 +3,12 @@ ghost use Rattle.fault_counts.specs.Counts.{counted};
 ghost use Rattle.fault_counts.specs.Faults.{HasCause};
 
 use crate::folder::Folder;
+use crate::people::People;
 use disk_model::{Disk, Failed};
 use std::io;
 
-/// The files of a folder as a disk: it counts the calls that failed, and tells nothing of what the files hold.
+/// The files of a folder as a disk: it counts the calls that failed, tells people why, and tells contracts nothing of what the
+/// files hold.
 #[derive(Drop)]
 pub struct FileDisk<'a> {
     folder: Folder<'a>,
@@ -15,9 +17,9 @@ pub struct FileDisk<'a> {
 
 impl<'a> FileDisk<'a> {
     /// No call was made yet, and no file is opened.
-    pub fn new(rt: &'a HostRuntime) -> Self {
+    pub fn new(rt: &'a HostRuntime, people: &'a People<'a>) -> Self {
         FileDisk {
-            folder: Folder::new(rt),
+            folder: Folder::new(rt, people),
             faults: 0,
         }
     }

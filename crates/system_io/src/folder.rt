@@ -1,69 +1,62 @@
 ghost use Rattle.std.specs.Prelude.{◌≡◌, ◌≤◌, length, IfOk};
 
-use std::fs::{File, OpenOptions};
+use crate::cause::Cause;
+use crate::open_file::{HeldFile, hold};
+use crate::people::People;
+use std::fs::File;
 use std::io::{self, ErrorKind};
-use std::os::fd::AsRawFd;
 use std::os::unix::fs::FileExt;
 
-/// Opens a file of the folder that the program runs in. An absent one is made empty.
-fn open_file(rt: &HostRuntime, name: &str) -> io::Result<File> {
-    let opened = OpenOptions::new()
-        .read(true)
-        .write(true)
-        .create(true)
-        .open(rt, name)?;
-    // What is meant for a standard stream that was closed must not land in the file.
-    let file = if opened.as_raw_fd() <= 2 {
-        opened.try_clone()?
-    } else {
-        opened
-    };
-    if file.metadata()?.is_file() {
-        Ok(file)
-    } else {
-        Err(ErrorKind::Unsupported.into())
-    }
-}
-
-/// Syncs a file, and drops the system's copies of its bytes: where an earlier sync failed, these may not be what the disk has.
-fn settle(file: &File) -> io::Result<()> {
-    file.sync_data()?;
-    let error = libc::posix_fadvise(file.as_raw_fd(), 0, 0, libc::POSIX_FADV_DONTNEED);
-    if error == 0 {
-        Ok(())
-    } else {
-        Err(io::Error::from_raw_os_error(error))
-    }
-}
-
-/// The three files. Nobody else has the first open and locked, as long as they are held.
+/// The three files. Nobody else has one of them open and locked, as long as they are held.
 #[derive(Drop)]
 struct OpenFiles {
-    header: File,
-    first_area: File,
-    second_area: File,
+    header: HeldFile,
+    first_area: HeldFile,
+    second_area: HeldFile,
 }
 
 impl OpenFiles {
-    /// A second program on the folder finds the lock, and ends before it reads or writes.
-    fn open(rt: &HostRuntime) -> io::Result<OpenFiles> {
-        let header = open_file(rt, "nmc.0")?;
-        header.try_lock()?;
-        let first_area = open_file(rt, "nmc.1")?;
-        let second_area = open_file(rt, "nmc.2")?;
-        settle(&header)?;
-        settle(&first_area)?;
-        settle(&second_area)?;
-        // Whoever made a file, this run or one that was cut off, its name has to outlive a crash.
-        File::open(rt, ".")?.sync_all()?;
-        Ok(OpenFiles {
+    /// A second program that comes to one of the files finds the lock, and ends before it reads or writes.
+    fn open(rt: &HostRuntime, people: &People<'_>) -> io::Result<OpenFiles> {
+        let header = hold(rt, people, "nmc.0")?;
+        let first_area = hold(rt, people, "nmc.1")?;
+        let second_area = hold(rt, people, "nmc.2")?;
+        let files = OpenFiles {
             header,
             first_area,
             second_area,
-        })
+        };
+        files.settle(rt, people)?;
+        files.tell_of_missing(people)?;
+        Ok(files)
     }
 
-    fn file(&self, number: u8) -> &File {
+    /// Whoever made a file, this run or one that was cut off, its name has to outlive a crash.
+    fn settle(&self, rt: &HostRuntime, people: &People<'_>) -> io::Result<()> {
+        for held in [&self.header, &self.first_area, &self.second_area] {
+            held.is_the_only(rt, people)?;
+            held.settle(people)?;
+        }
+        let folder = people.heard("the folder", "open", File::open(rt, "."))?;
+        people.heard("the folder", "sync", folder.sync_all())
+    }
+
+    /// Where one of the first two files holds something, all three were made once.
+    fn tell_of_missing(&self, people: &People<'_>) -> io::Result<()> {
+        if self.header.len(people)? > 0 || self.first_area.len(people)? > 0 {
+            for held in [&self.header, &self.first_area, &self.second_area] {
+                if held.is_new {
+                    people.tell(Cause::Odd {
+                        thing: held.name,
+                        text: "it was missing, and is now an empty file",
+                    });
+                }
+            }
+        }
+        Ok(())
+    }
+
+    fn held(&self, number: u8) -> &HeldFile {
         match number {
             0 => &self.header,
             1 => &self.first_area,
@@ -92,48 +85,62 @@ fn read_on(file: &File, at: u64, buf: &mut [u8]) -> io::Result<usize>
 }
 
 /// The files `nmc.0`, `nmc.1` and `nmc.2` of the folder that the program runs in. They are opened where one is
-/// asked for: what needs no file touches none.
+/// asked for: what needs no file touches none. People are told why a call fails.
 #[derive(Drop)]
 pub(crate) struct Folder<'a> {
     rt: &'a HostRuntime,
+    people: &'a People<'a>,
     files: Option<OpenFiles>,
 }
 
 impl<'a> Folder<'a> {
     /// No file is opened yet.
-    pub(crate) fn new(rt: &'a HostRuntime) -> Self {
-        Folder { rt, files: None }
+    pub(crate) fn new(rt: &'a HostRuntime, people: &'a People<'a>) -> Self {
+        Folder {
+            rt,
+            people,
+            files: None,
+        }
     }
 
-    fn file(&mut self, number: u8) -> io::Result<&File> {
+    fn held(&mut self, number: u8) -> io::Result<&HeldFile> {
         if self.files.is_none() {
-            self.files = Some(OpenFiles::open(self.rt)?);
+            self.files = Some(OpenFiles::open(self.rt, self.people)?);
         }
         match &self.files {
-            Some(files) => Ok(files.file(number)),
+            Some(files) => Ok(files.held(number)),
             None => Err(ErrorKind::NotFound.into()),
         }
     }
 
     pub(crate) fn len(&mut self, number: u8) -> io::Result<u64> {
-        Ok(self.file(number)?.metadata()?.len())
+        let people = self.people;
+        self.held(number)?.len(people)
     }
 
     pub(crate) fn read(&mut self, number: u8, at: u64, buf: &mut [u8]) -> io::Result<usize>
         ensures { IfOk result (λ n. n ≤ length buf.new) }
     {
-        read_on(self.file(number)?, at, buf)
+        let people = self.people;
+        let held = self.held(number)?;
+        people.heard(held.name, "read", read_on(&held.file, at, buf))
     }
 
     pub(crate) fn write(&mut self, number: u8, at: u64, bytes: &[u8]) -> io::Result<()> {
-        self.file(number)?.write_all_at(bytes, at)
+        let people = self.people;
+        let held = self.held(number)?;
+        people.heard(held.name, "write", held.file.write_all_at(bytes, at))
     }
 
     pub(crate) fn cut(&mut self, number: u8, len: u64) -> io::Result<()> {
-        self.file(number)?.set_len(len)
+        let people = self.people;
+        let held = self.held(number)?;
+        people.heard(held.name, "cut", held.file.set_len(len))
     }
 
     pub(crate) fn sync(&mut self, number: u8) -> io::Result<()> {
-        self.file(number)?.sync_data()
+        let people = self.people;
+        let held = self.held(number)?;
+        people.heard(held.name, "sync", held.file.sync_data())
     }
 }

@@ -1,35 +1,54 @@
 ghost use Rattle.fault_counts.specs.Counts.{counted};
 ghost use Rattle.fault_counts.specs.Faults.{HasCause};
 
+use crate::cause::Cause;
 use crate::client::Client;
+use crate::people::People;
 use crate::sockets::Sockets;
 use byte_io::{Failed, Polled, Port};
 use std::io;
 
 /// The sockets, and the numbers that they are bound to.
 #[derive(Drop)]
-struct Bound {
+struct Bound<'a> {
     udp: u16,
     feed: u16,
-    sockets: Sockets,
+    sockets: Sockets<'a>,
 }
 
-/// A UDP socket and a listener for the feed, on the loopback address, as a port. It counts the calls that failed, and tells
-/// nothing of what came and went.
+/// A UDP socket and a listener for the feed, on the loopback address, as a port. It counts the calls that failed, tells people
+/// where it listens or why it can't, and tells contracts nothing of what came and went.
+///
+/// The feed takes connections of the program's own user and of root alone. One that has sent nothing for ten seconds gives its
+/// place to one that waits.
 #[derive(Drop)]
 pub struct SocketPort<'a> {
     rt: &'a HostRuntime,
-    bound: Option<Bound>,
+    people: &'a People<'a>,
+    bound: Option<Bound<'a>>,
     faults: u64,
 }
 
 impl<'a> SocketPort<'a> {
     /// No socket is opened yet.
-    pub fn new(rt: &'a HostRuntime) -> Self {
+    pub fn new(rt: &'a HostRuntime, people: &'a People<'a>) -> Self {
         SocketPort {
             rt,
+            people,
             bound: None,
             faults: 0,
+        }
+    }
+
+    /// Lets the feed's connection go: its peer gets the replies that it is still to take, within five seconds. Whether the port
+    /// was bound at all.
+    pub fn finish(&mut self) -> bool {
+        match &mut self.bound {
+            Some(bound) => {
+                bound.sockets.finish();
+                true
+            }
+            None => false,
         }
     }
 }
@@ -53,8 +72,9 @@ impl<'a> Port for SocketPort<'a> {
     ghost seen = { socket_seen };
 
     fn bind(&mut self, udp: u16, feed: u16) -> Result<(), Failed> {
-        match Sockets::bind(self.rt, udp, feed) {
+        match Sockets::bind(self.rt, self.people, udp, feed) {
             Ok(sockets) => {
+                self.people.tell(Cause::Listening { udp, feed });
                 self.bound = Some(Bound { udp, feed, sockets });
                 Ok(())
             }

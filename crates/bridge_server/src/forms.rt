@@ -1,0 +1,155 @@
+use domain_text::absolute_name;
+use nmc_base::{Bytes, HIGHEST_HEIGHT, Words};
+use std::{fmt, str};
+use system_io::People;
+
+/// What each command is called with.
+const FORMS: [&str; 6] = [
+    "the commands:",
+    "  init regtest HEIGHT HASH HOST    makes the files of a chain's base in this folder",
+    "  serve UDP_PORT FEED_PORT TURNS   answers queries, and takes blocks from a feed",
+    "  replay                           takes blocks from standard input, and replies on standard output",
+    "  dump                             writes what each name has to standard output",
+    "the manual jaqhumpi(1) says more",
+];
+
+/// No name of a base's host has more bytes on the wire.
+const LONGEST_HOST_NAME: usize = 244;
+
+const MOST_TURNS: u32 = 1_000_000_000;
+
+/// What is wrong with words that ask for nothing: this word, and what is to be said of it.
+#[derive(Drop)]
+struct Complaint<'w> {
+    word: &'w [u8],
+    text: &'static str,
+}
+
+impl<'w> fmt::Display for Complaint<'w> {
+    fn fmt<W: fmt::Write>(&self, f: &mut fmt::Formatter<W>) -> fmt::Result {
+        write!(f, "{:?} {}", shown(self.word), self.text)
+    }
+}
+
+fn shown(word: &[u8]) -> &str {
+    str::from_utf8(word).unwrap_or("?")
+}
+
+/// Whether the word is a number within these limits, without a sign and without a leading zero.
+fn is_number(word: &[u8], least: u32, most: u32) -> bool {
+    let is_plain = word == b"0".as_slice() || !matches!(word, [b'0' | b'+', ..]);
+    match shown(word).parse::<u32>() {
+        Ok(number) => is_plain && least <= number && number <= most,
+        Err(_) => false,
+    }
+}
+
+fn is_port(word: &[u8]) -> bool {
+    is_number(word, 1, 65535)
+}
+
+fn is_hash(word: &[u8]) -> bool {
+    word.len() == 64 && word.iter().all(|digit| digit.is_ascii_hexdigit())
+}
+
+fn is_host(word: &[u8]) -> bool {
+    match absolute_name(word) {
+        Some(name) => name.wire().len() <= LONGEST_HOST_NAME,
+        None => false,
+    }
+}
+
+/// The first of these words that isn't what stands in its place.
+fn first_wrong<'w>(places: &[(&'w [u8], bool, &'static str)]) -> Option<Complaint<'w>> {
+    for (word, is_well, text) in places {
+        if !*is_well {
+            return Some(Complaint { word, text });
+        }
+    }
+    None
+}
+
+/// What is wrong with the words behind `init`.
+fn wrong_for_init<'w>(command: &'w [u8], words: &'w [Bytes]) -> Option<Complaint<'w>> {
+    let [profile, height, hash, host] = words else {
+        return Some(Complaint {
+            word: command,
+            text: "takes four words: init regtest HEIGHT HASH HOST",
+        });
+    };
+    let (profile, height) = (profile.as_slice(), height.as_slice());
+    let (hash, host) = (hash.as_slice(), host.as_slice());
+    first_wrong(&[
+        (
+            profile,
+            profile == b"regtest".as_slice(),
+            "isn't a profile: regtest is the only one",
+        ),
+        (
+            height,
+            is_number(height, 0, HIGHEST_HEIGHT),
+            "isn't a height: a number from 0 to 2000000000, without a leading zero",
+        ),
+        (
+            hash,
+            is_hash(hash),
+            "isn't a block's hash: 64 hexadecimal digits",
+        ),
+        (
+            host,
+            is_host(host),
+            "isn't a host: a domain name with a dot at its end, of at most 244 bytes in a message",
+        ),
+    ])
+}
+
+/// What is wrong with the words behind `serve`.
+fn wrong_for_serve<'w>(command: &'w [u8], words: &'w [Bytes]) -> Option<Complaint<'w>> {
+    let [udp, feed, turns] = words else {
+        return Some(Complaint {
+            word: command,
+            text: "takes three words: serve UDP_PORT FEED_PORT TURNS",
+        });
+    };
+    let (udp, feed, turns) = (udp.as_slice(), feed.as_slice(), turns.as_slice());
+    let port = "isn't a port: a number from 1 to 65535, without a leading zero";
+    first_wrong(&[
+        (udp, is_port(udp), port),
+        (feed, is_port(feed), port),
+        (
+            turns,
+            is_number(turns, 1, MOST_TURNS),
+            "isn't a number of turns: from 1 to 1000000000, without a leading zero",
+        ),
+    ])
+}
+
+/// What is wrong with the words, where that can be said of one of them.
+fn complaint_of<'w>(words: &'w [Bytes]) -> Option<Complaint<'w>> {
+    let [command, rest @ ..] = words else {
+        return None;
+    };
+    match command.as_slice() {
+        b"init" => wrong_for_init(command.as_slice(), rest),
+        b"serve" => wrong_for_serve(command.as_slice(), rest),
+        b"replay" | b"dump" => Some(Complaint {
+            word: command.as_slice(),
+            text: "takes no other word",
+        }),
+        b"--help" | b"-h" => None,
+        word => Some(Complaint {
+            word,
+            text: "is no command",
+        }),
+    }
+}
+
+/// Tells people what is wrong with words that ask for nothing, and what may be asked for.
+pub(crate) fn tell_forms(people: &People<'_>, words: &Words) {
+    if let Some(complaint) = complaint_of(words.as_slice()) {
+        people.tell(complaint);
+    }
+    for form in FORMS {
+        people.tell(form);
+    }
+}

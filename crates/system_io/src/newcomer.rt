@@ -1,0 +1,77 @@
+use crate::owner::{Ends, Holder, is_taken};
+use crate::search::{Found, Search, Tables};
+use std::io::{self, ErrorKind};
+use std::net::{SocketAddr, SocketAddrV4, TcpStream};
+
+/// A connection that was just made, while it isn't known yet whose it is.
+#[derive(Drop)]
+pub(crate) struct Newcomer {
+    pub(crate) stream: TcpStream,
+    ends: Ends,
+    search: Search,
+    // what a first search found
+    first: Option<Holder>,
+}
+
+/// Whether a connection is taken.
+#[derive(Clone, Copy, PartialEq, Eq, Debug)]
+pub(crate) enum Verdict {
+    /// It isn't known yet.
+    Open,
+    Taken,
+    /// It is this user's.
+    Stranger(u32),
+    /// Whose it is can't be told.
+    Unknown,
+}
+
+impl Newcomer {
+    /// It is none where the other end has closed it already, with nothing sent: no user has to be looked for then.
+    pub(crate) fn new(stream: TcpStream, peer: SocketAddrV4) -> io::Result<Newcomer> {
+        stream.set_nonblocking(true)?;
+        if let Ok(0) = stream.peek(&mut [0; 1]) {
+            return Err(ErrorKind::UnexpectedEof.into());
+        }
+        let own = match stream.local_addr()? {
+            SocketAddr::V4(address) => address,
+            SocketAddr::V6(_) => return Err(ErrorKind::Unsupported.into()),
+        };
+        let ends = Ends {
+            own: peer,
+            other: own,
+        };
+        Ok(Newcomer {
+            stream,
+            ends,
+            search: Search::new(ends),
+            first: None,
+        })
+    }
+
+    /// Looks on for a while whose the connection is.
+    ///
+    /// What a row says of a user and of a number isn't read by the system at one moment: where the other end is closed in
+    /// between, the user may be root's, which stands for none. A number that stands there a second time was there at the first,
+    /// and so was its user. And the row was that of this very connection only if this one stands still behind both: another
+    /// with the same two addresses can't have been made before.
+    pub(crate) fn judge(&mut self, tables: &Tables, own: u32) -> io::Result<Verdict> {
+        let holder = match self.search.go_on(tables)? {
+            Found::Nothing => return Ok(Verdict::Open),
+            Found::Nobody => return Ok(Verdict::Unknown),
+            Found::Holder(holder) => holder,
+        };
+        if !is_taken(holder.user, own) {
+            return Ok(Verdict::Stranger(holder.user));
+        }
+        if self.first.is_none() {
+            self.first = Some(holder);
+            self.search = Search::new(self.ends);
+            return Ok(Verdict::Open);
+        }
+        if self.first == Some(holder) && self.stream.peer_addr().is_ok() {
+            Ok(Verdict::Taken)
+        } else {
+            Ok(Verdict::Unknown)
+        }
+    }
+}
