@@ -5,8 +5,8 @@ ghost use Rattle.name_store.specs.Stored.{IsOn};
 
 use super::first_block::{FIRST_BLOCK, FIRST_HASH};
 use super::life::{
-    Answer, BASE_TIP, FIRST_TIP, Found, answer_of, connect, disconnect, found_in,
-    let_go, look_at, make,
+    Answer, BASE_TIP, FIRST_TIP, Found, answer_of, connect, disconnect, found_in, let_go, look_at,
+    make,
 };
 use crate::comparing::{ends, is_right_or_unknown};
 use disk_model::Disk;
@@ -52,9 +52,7 @@ fn disconnect_twice<D: Disk, L: Ledger>(
     let mut steps = Steps::<L>::new(blank);
     let hash = Hash32(FIRST_HASH);
     match store.disconnect(alloc, disk, hash, &mut steps) {
-        Outcome::NoMemory(again) => {
-            answer_of(again.disconnect(alloc, disk, hash, &mut steps))
-        }
+        Outcome::NoMemory(again) => { answer_of(again.disconnect(alloc, disk, hash, &mut steps)) }
         outcome => answer_of(outcome),
     }
 }

@@ -11,6 +11,7 @@ use Rattle.name_store.specs.Outcomes.{KeepsOn, LeavesDisk}
 use Rattle.name_store.specs.Disconnecting.{Disconnects}
 use Rattle.name_store.specs.declared.store.Outcome.TheVariants.{Done, Refused, NoMemory, Faulted}
 use Rattle.name_store.specs.Views.{back_refusal_of}
+use Rattle.name_store.proofs.ByIndexLemmas.{refused_hash_base}
 use Rattle.name_store.proofs.OutcomeLemmas.{allows_disconnect, leaves_refused, leaves_lacking, keeps_refused, keeps_lacking, answers_refused, answers_lacking, valid_of, keeps_faulted, answers_done, keeps_done, leaves_faulted, leaves_done}
 use Rattle.name_store.proofs.store.Store.disconnect.Goals as goal
 
@@ -19,7 +20,7 @@ returns-in-Refused-clause-leaves g c =
     let disk = g.D.Disk.seen c.args.disk.now in
     let old : Stored = record { index = c.self.inside.chain; host = c.self.inside.host; area = c.self.inside.area } in
     let new : Stored = record { index = c.in-Refused.chain; host = c.self.inside.host; area = c.self.inside.area } in
-    leaves_refused old new (record { base = c.in-Refused.ensures.base; host = refl; area = refl }) g.D.Disk.tells disk
+    leaves_refused old new (record { base = refused_hash_base _ c.self.inside.chain c.args.hash c.in-Refused.refusal c.in-Refused.chain c.in-Refused.ensures.on_index; host = refl; area = refl }) g.D.Disk.tells disk
     (λ told. subst (λ (x : Stored). IsOn x disk.moments.now) (sym c.self.view_is) (c.requires.on_disk told)) c.in-Refused.refusal
 
 pub returns-in-Refused-clause-kept : goal.returns-in-Refused-clause-kept
@@ -28,7 +29,7 @@ returns-in-Refused-clause-kept g c =
     let old : Stored = record { index = c.self.inside.chain; host = c.self.inside.host; area = c.self.inside.area } in
     let new : Stored = record { index = c.in-Refused.chain; host = c.self.inside.host; area = c.self.inside.area } in
     subst (λ (x : Stored). KeepsOn g.D.Disk.tells x (Disconnect c.args.hash.0) disk disk (Refused new c.in-Refused.refusal)) c.self.view_is
-    (keeps_refused old new (record { base = c.in-Refused.ensures.base; host = refl; area = refl }) g.D.Disk.tells disk
+    (keeps_refused old new (record { base = refused_hash_base _ c.self.inside.chain c.args.hash c.in-Refused.refusal c.in-Refused.chain c.in-Refused.ensures.on_index; host = refl; area = refl }) g.D.Disk.tells disk
     (λ told. subst (λ (x : Stored). IsOn x disk.moments.now) (sym c.self.view_is) (c.requires.on_disk told)) (Disconnect c.args.hash.0) c.in-Refused.refusal)
 
 pub returns-in-NoMemory-clause-leaves : goal.returns-in-NoMemory-clause-leaves
@@ -36,7 +37,7 @@ returns-in-NoMemory-clause-leaves g c =
     let disk = g.D.Disk.seen c.args.disk.now in
     let old : Stored = record { index = c.self.inside.chain; host = c.self.inside.host; area = c.self.inside.area } in
     let new : Stored = record { index = c.in-NoMemory.chain; host = c.self.inside.host; area = c.self.inside.area } in
-    leaves_lacking old new (record { base = c.in-NoMemory.ensures.base; host = refl; area = refl }) g.D.Disk.tells disk
+    leaves_lacking old new (record { base = c.in-NoMemory.ensures.on_index.stays.base; host = refl; area = refl }) g.D.Disk.tells disk
     (λ told. subst (λ (x : Stored). IsOn x disk.moments.now) (sym c.self.view_is) (c.requires.on_disk told))
 
 pub returns-in-NoMemory-clause-kept : goal.returns-in-NoMemory-clause-kept
@@ -45,7 +46,7 @@ returns-in-NoMemory-clause-kept g c =
     let old : Stored = record { index = c.self.inside.chain; host = c.self.inside.host; area = c.self.inside.area } in
     let new : Stored = record { index = c.in-NoMemory.chain; host = c.self.inside.host; area = c.self.inside.area } in
     subst (λ (x : Stored). KeepsOn g.D.Disk.tells x (Disconnect c.args.hash.0) disk disk (NoMemory new)) c.self.view_is
-    (keeps_lacking old new (record { base = c.in-NoMemory.ensures.base; host = refl; area = refl }) g.D.Disk.tells disk
+    (keeps_lacking old new (record { base = c.in-NoMemory.ensures.on_index.stays.base; host = refl; area = refl }) g.D.Disk.tells disk
     (λ told. subst (λ (x : Stored). IsOn x disk.moments.now) (sym c.self.view_is) (c.requires.on_disk told)) (Disconnect c.args.hash.0))
 
 pub returns-in-Err-clause-leaves : goal.returns-in-Err-clause-leaves
@@ -81,7 +82,7 @@ returns-in-Ok-clause-leaves g c =
     let new : Stored = record { index = c.commit.result; host = c.self.inside.host; area = c.in-Ok.area } in
     subst (λ r. LeavesDisk g.D.Disk.tells before after r) (sym c.done.ensures)
     (leaves_done g.D.Disk.tells before after old (2 ∷ c.args.hash.0) new c.commit.result.tip c.in-Ok.area
-    (λ told. subst (λ (x : Stored). IsOn x before.moments.now) (sym c.self.view_is) (c.requires.on_disk told)) c.in-Ok.ensures (c.commit.ensures.disconnected.base ∙ c.in-StagedBack.ensures.base) refl refl)
+    (λ told. subst (λ (x : Stored). IsOn x before.moments.now) (sym c.self.view_is) (c.requires.on_disk told)) c.in-Ok.ensures (c.commit.ensures.disconnected.base ∙ c.in-StagedBack.ensures.on_index.stays.base) refl refl)
 
 pub returns-in-Ok-clause-kept : goal.returns-in-Ok-clause-kept
 returns-in-Ok-clause-kept g c =
