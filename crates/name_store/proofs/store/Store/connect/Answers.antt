@@ -13,7 +13,7 @@ use Rattle.name_store.specs.Connecting.{Connects}
 use Rattle.name_store.specs.declared.store.Outcome.TheVariants.{Done, Refused, NoMemory, Faulted}
 use Rattle.name_store.specs.Views.{refusal_of}
 use Rattle.name_store.proofs.ByIndexLemmas.{refused_base}
-use Rattle.name_store.proofs.OutcomeLemmas.{allows_connect, leaves_refused, leaves_lacking, keeps_refused, keeps_lacking, answers_refused, answers_lacking, valid_of, keeps_faulted, answers_done, keeps_done, leaves_faulted, leaves_done}
+use Rattle.name_store.proofs.OutcomeLemmas.{a_block, leaves_refused, leaves_lacking, keeps_refused, keeps_lacking, answers_refused, answers_lacking, valid_of, keeps_faulted, answers_done, keeps_done, leaves_faulted, leaves_done}
 use Rattle.name_store.proofs.store.Store.connect.Goals as goal
 
 pub returns-in-Refused-clause-leaves : goal.returns-in-Refused-clause-leaves
@@ -61,8 +61,8 @@ returns-in-Err-clause-kept g c =
     let after = g.D.Disk.seen c.keep.new.disk in
     let old : Stored = record { index = c.self.inside.chain; host = c.self.inside.host; area = c.self.inside.area } in
     subst (λ (x : Stored). KeepsOn g.D.Disk.tells x (Connect c.args.bytes.now) before after Faulted) c.self.view_is
-    (keeps_faulted refusals (λ full (chain : Chain). Holds full chain c.args.bytes.now) (Connect c.args.bytes.now) (allows_connect c.args.bytes.now c.requires.short) old (IsConnected c.in-Staged.staged) (IsAbandoned c.in-Staged.staged) c.in-Staged.ensures.stages
-    g.D.Disk.tells before after c.keep.result (λ told. subst (λ (x : Stored). IsOn x before.moments.now) (sym c.self.view_is) (c.requires.on_disk told)) c.keep.ensures)
+    (keeps_faulted (a_block c.args.bytes.now c.requires.short old c.in-Staged.staged c.in-Staged.ensures.stages) g.D.Disk.tells before after c.keep.result
+    (λ told. subst (λ (x : Stored). IsOn x before.moments.now) (sym c.self.view_is) (c.requires.on_disk told)) c.keep.ensures)
 
 pub returns-in-Ok-clause-connects : goal.returns-in-Ok-clause-connects
 returns-in-Ok-clause-connects g c =
@@ -70,8 +70,7 @@ returns-in-Ok-clause-connects g c =
     let new : Stored = record { index = c.commit.result; host = c.self.inside.host; area = c.in-Ok.area } in
     let longer : c.in-Ok.area ≡ c.self.inside.area + (6 + length c.args.bytes.now) = omega (arith, c.in-Ok.ensures.longer) in
     subst (λ r. Connects longest_area c.args.self c.args.bytes.now r) (sym c.done.ensures) (subst (λ (x : Stored). Connects longest_area x c.args.bytes.now (Done new c.commit.result.tip)) c.self.view_is
-    (λ run s. answers_done refusals (λ full (chain : Chain). Holds full chain c.args.bytes.now) (Connect c.args.bytes.now) (allows_connect c.args.bytes.now c.requires.short) old (IsConnected c.in-Staged.staged) (IsAbandoned c.in-Staged.staged) c.in-Staged.ensures.stages
-    new (record { commits = c.commit.ensures.connected; host = refl; area = longer }) refusal_of c.commit.result.tip refl run s))
+    (λ run s. answers_done (a_block c.args.bytes.now c.requires.short old c.in-Staged.staged c.in-Staged.ensures.stages) refusal_of new (record { commits = c.commit.ensures.connected; host = refl; area = longer }) run s))
 
 pub returns-in-Ok-clause-leaves : goal.returns-in-Ok-clause-leaves
 returns-in-Ok-clause-leaves g c =
@@ -80,8 +79,8 @@ returns-in-Ok-clause-leaves g c =
     let old : Stored = record { index = c.self.inside.chain; host = c.self.inside.host; area = c.self.inside.area } in
     let new : Stored = record { index = c.commit.result; host = c.self.inside.host; area = c.in-Ok.area } in
     subst (λ r. LeavesDisk g.D.Disk.tells before after r) (sym c.done.ensures)
-    (leaves_done g.D.Disk.tells before after old (1 ∷ c.args.bytes.now) new c.commit.result.tip c.in-Ok.area
-    (λ told. subst (λ (x : Stored). IsOn x before.moments.now) (sym c.self.view_is) (c.requires.on_disk told)) c.in-Ok.ensures (c.commit.ensures.connected.base ∙ c.in-Staged.ensures.on_index.on.base) refl refl)
+    (leaves_done g.D.Disk.tells before after old (1 ∷ c.args.bytes.now) new
+    (λ told. subst (λ (x : Stored). IsOn x before.moments.now) (sym c.self.view_is) (c.requires.on_disk told)) c.in-Ok.ensures (c.commit.ensures.connected.base ∙ c.in-Staged.ensures.on_index.on.base) refl)
 
 pub returns-in-Ok-clause-kept : goal.returns-in-Ok-clause-kept
 returns-in-Ok-clause-kept g c =
@@ -89,11 +88,9 @@ returns-in-Ok-clause-kept g c =
     let after = g.D.Disk.seen c.keep.new.disk in
     let old : Stored = record { index = c.self.inside.chain; host = c.self.inside.host; area = c.self.inside.area } in
     let new : Stored = record { index = c.commit.result; host = c.self.inside.host; area = c.in-Ok.area } in
-    let longer : c.in-Ok.area ≡ c.self.inside.area + (6 + length c.args.bytes.now) = omega (arith, c.in-Ok.ensures.longer) in
     subst (λ r. KeepsOn g.D.Disk.tells c.args.self (Connect c.args.bytes.now) before after r) (sym c.done.ensures)
     (subst (λ (x : Stored). KeepsOn g.D.Disk.tells x (Connect c.args.bytes.now) before after (Done new c.commit.result.tip)) c.self.view_is
-    (keeps_done refusals (λ full (chain : Chain). Holds full chain c.args.bytes.now) (Connect c.args.bytes.now) (allows_connect c.args.bytes.now c.requires.short) old (IsConnected c.in-Staged.staged) (IsAbandoned c.in-Staged.staged) c.in-Staged.ensures.stages
-    new (record { commits = c.commit.ensures.connected; host = refl; area = longer }) g.D.Disk.tells before after c.commit.result.tip c.in-Ok.area
+    (keeps_done (a_block c.args.bytes.now c.requires.short old c.in-Staged.staged c.in-Staged.ensures.stages) g.D.Disk.tells before after new
     (λ told. subst (λ (x : Stored). IsOn x before.moments.now) (sym c.self.view_is) (c.requires.on_disk told)) c.in-Ok.ensures))
 
 pub returns-in-Ok-clause-on_index : goal.returns-in-Ok-clause-on_index
