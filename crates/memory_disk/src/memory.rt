@@ -1,4 +1,6 @@
 ghost use Rattle.std.specs.Prelude.{◌≡◌, ◌⊎◌, ◌<◌, ◌≤◌, ◌∷◌, ◌&&◌, true, false, [], ℕ, nat_lt, length, take, map, slice_index_or, OnOk, OnErr, IfOk};
+ghost use Rattle.fault_counts.specs.Counts.{after_refusal, faults_of};
+ghost use Rattle.fault_counts.specs.Faults.{NeverFell, Rose};
 ghost use Rattle.disk_model.specs.Moments.{IsImage};
 ghost use Rattle.disk_model.specs.Reads.{seen, IsRead};
 ghost use Rattle.disk_model.specs.DiskSeen.{bytes_in, Ends, Measures, ReadsAt, WritesAt, CutsTo, Syncs};
@@ -145,6 +147,21 @@ impl MemoryDisk {
 }
 
 impl MemoryDisk {
+    /// Keeps a call that found no memory, and counts that.
+    fn lack_memory(&mut self, file: u8, failed: FailedEffect)
+        requires file { file < 3 }
+        requires range { EndsInRange failed }
+        ensures first { self.new.first ≡ self.old.first }
+        ensures counts { self.new.counts ≡ after_refusal self.old.counts }
+        ensures changes { self.new.changes ≡ self.old.changes }
+        ensures kept { KeptInList (call_on file (failed_effect failed)) self.old self.new ⊎ KeptTogether (call_on file (failed_effect failed)) self.old self.new }
+        ensures rose { Rose (faults_of self.old.counts) (faults_of self.new.counts) }
+        ensures later { NeverFell (faults_of self.old.counts) (faults_of self.new.counts) }
+    {
+        self.counts.refuse();
+        self.fail(file, failed);
+    }
+
     /// Keeps a call that failed and was counted.
     fn fail(&mut self, file: u8, failed: FailedEffect)
         requires file { file < 3 }
@@ -196,8 +213,7 @@ impl MemoryDisk {
                 Ok(())
             }
             Err(_) => {
-                self.counts.refuse();
-                self.fail(file, failed);
+                self.lack_memory(file, failed);
                 Err(Failed)
             }
         }
@@ -235,8 +251,7 @@ impl MemoryDisk {
                 Ok(())
             }
             Err(_) => {
-                self.counts.refuse();
-                self.fail(file, FailedEffect::FailedLook);
+                self.lack_memory(file, FailedEffect::FailedLook);
                 Err(Failed)
             }
         }

@@ -25,16 +25,25 @@ pub fn begin(counts: &mut FaultCounts, calls: &mut Vec<KeptCall>, is_full: bool)
     if counts.next_call() {
         return false;
     }
+    if takes_room(calls, is_full) {
+        return true;
+    }
+    counts.refuse();
+    false
+}
+
+/// Takes room for one call more where the list isn't full, and says whether it has it.
+fn takes_room(calls: &mut Vec<KeptCall>, is_full: bool) -> bool
+    ensures room { IsTrue result → vec_len calls.new < vec_capacity calls.new }
+    ensures open { IsTrue result → is_full ≡ false }
+    ensures calls { calls.new.items ≡ calls.old.items }
+{
     if is_full {
-        counts.refuse();
         return false;
     }
     match calls.reserve(1) {
         Ok(()) => true,
-        Err(_) => {
-            counts.refuse();
-            false
-        }
+        Err(_) => false,
     }
 }
 

@@ -1,4 +1,5 @@
 pub mod ChainTips
+mod ByIndexLemmas
 mod StageLemmas
 mod BackLemmas
 pub mod CostLemmas

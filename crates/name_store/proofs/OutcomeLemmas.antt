@@ -2,11 +2,13 @@
 use Rattle.std.proofs.Common.{◌≡◌, ℕ, ◌+◌, ◌<◌, ◌≤◌, Bool, List, ◌∷◌, length, Ok, Err, refl, sym, ◌∙◌, subst, arith}
 use Rattle.std.specs.Prelude.{IsTrue, Result}
 use Rattle.nmc_base.specs.declared.limits.TheConstants.{LONGEST_BLOCK}
-use Rattle.nmc_base.specs.declared.chain_ends.Tip.{Tip}
 use Rattle.disk_model.specs.Moments.{start}
 use Rattle.disk_model.specs.DiskSeen.{DiskSeen}
 use Rattle.disk_model.specs.declared.disk.Failed.{Failed}
-use Rattle.chain_state.specs.Chain.{Indexed}
+use Rattle.chain_state.specs.Chain.{Indexed, SameIndex, StagedIndex, IsConnected, IsAbandoned}
+use Rattle.chain_state.specs.StageBack.{IsDisconnected}
+use Rattle.chain_state.specs.declared.stage.StageOutcome.TheVariants.{Staged}
+use Rattle.chain_state.specs.declared.back.BackOutcome.TheVariants.{StagedBack}
 use Rattle.chain_commands.specs.Chain.{Chain}
 use Rattle.chain_commands.specs.Event.{Command, Connect, Disconnect}
 use Rattle.chain_commands.specs.RunState.{RunState, chain_of, area_of, record_length, accepted, longest_area}
@@ -21,7 +23,7 @@ use Rattle.name_store.specs.Host.{IsHostOf}
 use Rattle.name_store.specs.Commands.{record_of}
 use Rattle.name_store.specs.Stands.{IsRunState}
 use Rattle.name_store.specs.Stored.{Stored, StandsFor, IsOn}
-use Rattle.name_store.specs.Stages.{IsFullWith, IsStagedFor, IsRefusedFor, LacksMemoryFor}
+use Rattle.name_store.specs.Stages.{StagesBytes, StagesHash, IsFullWith, IsStagedFor, IsRefusedFor, LacksMemoryFor}
 use Rattle.name_store.specs.Outcomes.{AnswersFor, IsFullOf, KeepsOn, LeavesDisk}
 use Rattle.name_store.specs.Keeping.{Keeps}
 use Rattle.name_store.proofs.StateLemmas.{state_with}
@@ -120,18 +122,34 @@ module _ (old new : Stored) (back : IsHandedBack old new) where
 
 -- ---- what was staged
 
--- the command is staged on the index of a store, of every chain that it stands for
-abbrev pub IsStagedOn : {M : Type 0} → Refusals M → (Type 0 → Chain → M → Type 0) → Command → Stored → (Indexed → Type 0) → (Indexed → Type 0) → Type 0
-IsStagedOn refusals Holds command old Commits Abandons =
-    (chain : Chain) → chains.StandsFor old.index chain → IsStagedFor refusals (Holds (IsFullWith old.area longest_area command) chain) chain command Commits Abandons
+-- A command is staged on the index of a store, of every chain that it stands for, and behind it stands a run state.
+pub record Staging {M : Type 0} (refusals : Refusals M) (Holds : Type 0 → Chain → M → Type 0) (command : Command) (old : Stored) (Commits Abandons : Indexed → Type 0) : Type 0 where
+  pub allows : Allows refusals Holds command
+  pub staged : (chain : Chain) → chains.StandsFor old.index chain → IsStagedFor refusals (Holds (IsFullWith old.area longest_area command) chain) chain command Commits Abandons
 
-module _ {M : Type 0} (refusals : Refusals M) (Holds : Type 0 → Chain → M → Type 0) (command : Command) (allows : Allows refusals Holds command) (old : Stored) (Commits Abandons : Indexed → Type 0)
-    (staged : IsStagedOn refusals Holds command old Commits Abandons) where
+-- a block is staged
+pub a_block : (bytes : List ℕ) → length bytes ≤ LONGEST_BLOCK → (old : Stored) (staged : StagedIndex) → StagesBytes old.area longest_area old.index bytes (Staged staged)
+    → Staging connecting.connects (λ full chain. Holds full chain bytes) (Connect bytes) old (IsConnected staged) (IsAbandoned staged)
+a_block bytes short old staged stages = record { allows = allows_connect bytes short; staged = stages }
+
+-- the disconnect of a hash is staged
+pub a_hash : (hash : List ℕ) → length hash ≡ 32 → (old : Stored) (staged : Indexed) → StagesHash old.area longest_area old.index hash (StagedBack staged)
+    → Staging disconnecting.disconnects (λ full chain. HoldsBack full chain hash) (Disconnect hash) old (IsDisconnected staged) (λ same. SameIndex same staged)
+a_hash hash long old staged stages = record { allows = allows_disconnect hash long; staged = stages }
+
+-- the new store is the old one, with an index behind the commit and an area that is longer by the command's record
+pub record IsCommitted (command : Command) (old : Stored) (Commits : Indexed → Type 0) (new : Stored) : Type 0 where
+  pub commits : Commits new.index
+  pub host : new.host ≡ old.host
+  pub area : new.area ≡ old.area + record_length command
+
+module _ {M : Type 0} {refusals : Refusals M} {Holds : Type 0 → Chain → M → Type 0} {command : Command} {old : Stored} {Commits Abandons : Indexed → Type 0}
+    (g : Staging refusals Holds command old Commits Abandons) where
   pub valid_of : (run : RunState) → StandsFor old run → HasNoneBelow (Holds (IsFullOf longest_area run command) (chain_of run)) refusals.order refusals.places
-  valid_of run s = subst (λ (a : ℕ). HasNoneBelow (Holds (longest_area < a + record_length command) (chain_of run)) refusals.order refusals.places) s.area (staged (chain_of run) s.index).valid
+  valid_of run s = subst (λ (a : ℕ). HasNoneBelow (Holds (longest_area < a + record_length command) (chain_of run)) refusals.order refusals.places) s.area (g.staged (chain_of run) s.index).valid
 
   next_of : (run : RunState) → StandsFor old run → IsRunState (accepted run command)
-  next_of run s = allows run s.is_state (valid_of run s)
+  next_of run s = g.allows run s.is_state (valid_of run s)
 
   -- a fault comes only behind all refusals
   pub keeps_faulted : {R : Type 0} (tells : Bool) (before after : DiskSeen) (result : Result ℕ Failed) → (IsTrue tells → IsOn old before.moments.now) → Keeps tells old.area (record_of command) before after result
@@ -141,31 +159,24 @@ module _ {M : Type 0} (refusals : Refusals M) (Holds : Type 0 → Chain → M �
     any_moment = each_stands tells told old before after (on told) (record_of command) result kept run command refl s.area (next_of run s) stands;
   }
 
-  -- the new store is the old one, with an index behind the commit and an area that is longer by the command's record
-  pub record IsCommitted (new : Stored) : Type 0 where
-    pub commits : Commits new.index
-    pub host : new.host ≡ old.host
-    pub area : new.area ≡ old.area + record_length command
+  stands_with : (new : Stored) → IsCommitted command old Commits new → (run : RunState) → StandsFor old run → StandsFor new (accepted run command)
+  stands_with new done run s = record {
+    index = (g.staged (chain_of run) s.index).commits new.index done.commits;
+    host = subst (λ (name : List ℕ). IsHostOf run.host name) (sym done.host) s.host;
+    area = omega (arith, done.area, s.area);
+    is_state = next_of run s;
+  }
 
-  module _ (new : Stored) (done : IsCommitted new) where
-    stands_with : (run : RunState) → StandsFor old run → StandsFor new (accepted run command)
-    stands_with run s = record {
-      index = (staged (chain_of run) s.index).commits new.index done.commits;
-      host = subst (λ (name : List ℕ). IsHostOf run.host name) (sym done.host) s.host;
-      area = omega (arith, done.area, s.area);
-      is_state = next_of run s;
-    }
+  pub answers_done : {R : Type 0} (seen : R → M) (new : Stored) → IsCommitted command old Commits new → (run : RunState) → StandsFor old run
+      → AnswersFor refusals (Holds (IsFullOf longest_area run command) (chain_of run)) seen run command (Done new new.index.tip)
+  answers_done seen new done run s = (valid_of run s, done_is run command new new.index.tip (stands_with new done run s) refl)
 
-    pub answers_done : {R : Type 0} (seen : R → M) (tip : Tip) → tip ≡ new.index.tip
-        → (run : RunState) → StandsFor old run → AnswersFor refusals (Holds (IsFullOf longest_area run command) (chain_of run)) seen run command (Done new tip)
-    answers_done seen tip same run s = (valid_of run s, done_is run command new tip (stands_with run s) same)
-
-    pub keeps_done : {R : Type 0} (tells : Bool) (before after : DiskSeen) (tip : Tip) (length_is : ℕ) → (IsTrue tells → IsOn old before.moments.now)
-        → Keeps tells old.area (record_of command) before after (Ok length_is) → KeepsOn {R = R} tells old command before after (Done new tip)
-    keeps_done tells before after tip length_is on kept = λ told run s stands. record {
-      done = stands_next tells told old before after (on told) (record_of command) length_is kept run command refl s.area (next_of run s) stands;
-      any_moment = each_stands tells told old before after (on told) (record_of command) (Ok length_is) kept run command refl s.area (next_of run s) stands;
-    }
+  pub keeps_done : {R : Type 0} (tells : Bool) (before after : DiskSeen) (new : Stored) → (IsTrue tells → IsOn old before.moments.now) → Keeps tells old.area (record_of command) before after (Ok new.area)
+      → KeepsOn {R = R} tells old command before after (Done new new.index.tip)
+  keeps_done tells before after new on kept = λ told run s stands. record {
+    done = stands_next tells told old before after (on told) (record_of command) new.area kept run command refl s.area (next_of run s) stands;
+    any_moment = each_stands tells told old before after (on told) (record_of command) (Ok new.area) kept run command refl s.area (next_of run s) stands;
+  }
 
 -- ---- the disk behind a command that was kept, or may have been
 
@@ -173,12 +184,12 @@ module _ {R : Type 0} (tells : Bool) (before after : DiskSeen) (old : Stored) (r
   pub leaves_faulted : (error : Failed) → Keeps tells old.area record_is before after (Err error) → LeavesDisk {R = R} tells before after Faulted
   leaves_faulted error kept = record { later = kept.ends.later; worked = tt; failed = kept.ends.failed; still_on = λ told. tt; others = kept.others }
 
-  pub leaves_done : (new : Stored) (tip : Tip) (length_is : ℕ) → (IsTrue tells → IsOn old before.moments.now) → Keeps tells old.area record_is before after (Ok length_is)
-      → new.index.base ≡ old.index.base → new.host ≡ old.host → new.area ≡ length_is → LeavesDisk {R = R} tells before after (Done new tip)
-  leaves_done new tip length_is on kept base host area = record {
+  pub leaves_done : (new : Stored) → (IsTrue tells → IsOn old before.moments.now) → Keeps tells old.area record_is before after (Ok new.area) → new.index.base ≡ old.index.base → new.host ≡ old.host
+      → LeavesDisk {R = R} tells before after (Done new new.index.tip)
+  leaves_done new on kept base host = record {
     later = kept.ends.later;
     worked = kept.ends.worked;
     failed = tt;
-    still_on = λ told. on_next tells told old before after (on told) record_is length_is kept new base host area;
+    still_on = λ told. on_next tells told old before after (on told) record_is new.area kept new base host refl;
     others = kept.others;
   }

@@ -17,5 +17,6 @@ pub mod Reading
 pub mod Making
 pub mod MakingSteps
 pub mod Outcomes
+pub mod ByIndex
 pub mod Connecting
 pub mod Disconnecting

@@ -1,6 +1,5 @@
 -- What staging a command answers, of every chain that the index stands for.
 use Rattle.std.specs.Prelude.{◌≡◌, ℕ, ◌+◌, ◌<◌, ◌≤◌, List}
-use Rattle.nmc_base.specs.declared.chain_ends.Base.{Base}
 use Rattle.chain_state.specs.Chain.{Indexed, SameIndex, IsConnected, IsAbandoned}
 use Rattle.chain_state.specs.StageBack.{IsDisconnected}
 use Rattle.chain_state.specs.declared.stage.StageOutcome.{StageOutcome}
@@ -57,12 +56,6 @@ Fits area most needed (Staged s) = area + needed ≤ most
 Fits area most needed (Refused same refusal) = Unit {0}
 Fits area most needed (NoMemory same) = Unit {0}
 
--- the base is the same, whatever the index stands for
-abbrev pub KeepsBase : Base → StageOutcome → Type 0
-KeepsBase base (Staged s) = s.base ≡ base
-KeepsBase base (Refused same refusal) = same.base ≡ base
-KeepsBase base (NoMemory same) = same.base ≡ base
-
 -- ---- the hash of the newest block
 
 abbrev pub HoldsBackIn : (area most : ℕ) → Chain → List ℕ → BackRefusal → Type 0
@@ -80,8 +73,3 @@ abbrev pub FitsBack : (area most : ℕ) → BackOutcome → Type 0
 FitsBack area most (StagedBack s) = area + 38 ≤ most
 FitsBack area most (back_refused same refusal) = Unit {0}
 FitsBack area most (back_memory same) = Unit {0}
-
-abbrev pub KeepsBaseBack : Base → BackOutcome → Type 0
-KeepsBaseBack base (StagedBack s) = s.base ≡ base
-KeepsBaseBack base (back_refused same refusal) = same.base ≡ base
-KeepsBaseBack base (back_memory same) = same.base ≡ base

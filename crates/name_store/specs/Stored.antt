@@ -11,7 +11,7 @@ use Rattle.chain_commands.specs.Chain.{Chain, height_of, tip_hash}
 use Rattle.chain_commands.specs.RunState.{RunState, chain_of, area_of}
 use Rattle.name_store.specs.Header.{header_text}
 use Rattle.name_store.specs.Host.{IsHostOf}
-use Rattle.name_store.specs.Stands.{IsRunState}
+use Rattle.name_store.specs.Stands.{IsRunState, EachStands}
 
 -- the index, the name of the base's host on the wire, and the length of the area
 pub record Stored : Type 0 where
@@ -25,6 +25,10 @@ pub record StandsFor (store : Stored) (run : RunState) : Type 0 where
   pub host : IsHostOf run.host store.host
   pub area : store.area ≡ area_of run
   pub is_state : IsRunState run
+
+-- whatever a crash with these files leaves stands for each run state that the store stands for
+abbrev pub EachStandsFor : Stored → Files → Type 0
+EachStandsFor store files = (run : RunState) → StandsFor store run → EachStands files run
 
 -- The store is on the disk: file 0 as read begins with the header of its base and host and a closed gate; file 1 as read is,
 -- up to the length of its area, an empty image, whole records and a closed gate; and both were synced since their last write.

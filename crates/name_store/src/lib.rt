@@ -20,7 +20,7 @@ mod staging;
 mod store;
 
 pub use faults::{CreateFault, OpenFault};
-pub use law::{one_damage, one_kind_of_files};
+pub use law::{images_of_a_store, one_damage, one_kind_of_files};
 pub use making::create;
 pub use staging::{CONNECT_RECORD, DISCONNECT_RECORD, stage_bytes, stage_hash};
 pub use store::{Outcome, Store};

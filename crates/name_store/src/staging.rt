@@ -1,7 +1,9 @@
 ghost use Rattle.std.specs.Prelude.{◌≤◌, ◌+◌, length};
 ghost use Rattle.nmc_base.specs.declared.limits.TheConstants.{LONGEST_BLOCK};
 ghost use Rattle.chain_state.specs.StageBack.{IsBackCheap};
-ghost use Rattle.name_store.specs.Stages.{StagesBytes, StagesHash, Fits, FitsBack, KeepsBase, KeepsBaseBack};
+ghost use Rattle.name_store.specs.Stages.{StagesBytes, StagesHash, Fits, FitsBack, IsFullWith};
+ghost use Rattle.chain_commands.specs.Event.{Connect, Disconnect};
+ghost use Rattle.name_store.specs.ByIndex.{StagesOn, StagesBackOn};
 ghost use Rattle.name_store.specs.GivenUp.{GivesUp};
 ghost use Rattle.name_store.specs.Costs.{IsCheapBlock};
 
@@ -33,7 +35,7 @@ pub fn stage_bytes<L: Ledger>(
 ) -> StageOutcome
     requires { length bytes.now ≤ LONGEST_BLOCK }
     ensures stages { StagesBytes area most chain bytes.now result }
-    ensures base { KeepsBase chain.base result }
+    ensures on_index { StagesOn (IsFullWith area most (Connect bytes.now)) chain bytes.now result }
     ensures fits { Fits area most (6 + length bytes.now) result }
     ensures cost { IsCheapBlock bytes.now result steps.old steps.new }
 {
@@ -77,7 +79,7 @@ pub fn stage_hash<L: Ledger>(
     steps: &mut Steps<L>,
 ) -> BackOutcome
     ensures stages { StagesHash area most chain hash.0 result }
-    ensures base { KeepsBaseBack chain.base result }
+    ensures on_index { StagesBackOn (IsFullWith area most (Disconnect hash.0)) chain hash result }
     ensures fits { FitsBack area most result }
     ensures cost { IsBackCheap chain result steps.old steps.new }
 {

@@ -3,6 +3,8 @@ ghost use Rattle.nmc_base.specs.declared.limits.TheConstants.{LONGEST_BLOCK};
 ghost use Rattle.chain_commands.specs.RunState.{longest_area};
 ghost use Rattle.chain_commands.specs.Event.{Connect, Disconnect};
 ghost use Rattle.name_store.specs.Stored.{IsOn};
+ghost use Rattle.name_store.specs.Stages.{IsFullWith};
+ghost use Rattle.name_store.specs.ByIndex.{ConnectsOn, DisconnectsOn};
 ghost use Rattle.name_store.specs.Outcomes.{IfUndone, LeavesDisk, KeepsOn};
 ghost use Rattle.name_store.specs.declared.limits.TheConstants.{EMPTY_AREA};
 ghost use Rattle.name_store.specs.Connecting as connecting;
@@ -11,7 +13,9 @@ ghost use Rattle.name_store.specs.Disconnecting as disconnecting;
 use crate::keeping::{CONNECT, DISCONNECT, keep};
 use crate::limits::LONGEST_AREA;
 use crate::staging::{stage_bytes, stage_hash};
-use chain_state::{BackOutcome, BackRefusal, Chain, Refusal, StageOutcome, StagedBack, StagedChain};
+use chain_state::{
+    BackOutcome, BackRefusal, Chain, Refusal, StageOutcome, StagedBack, StagedChain,
+};
 use disk_model::Disk;
 use domain_text::Name;
 use nmc_base::{Hash32, Steps, Tip};
@@ -107,6 +111,7 @@ impl Store {
         requires short { length bytes.now ≤ LONGEST_BLOCK }
         requires on_disk { IsTrue D.tells → IsOn self (D.seen disk.old).moments.now }
         ensures connects { connecting.Connects longest_area self bytes.now result }
+        ensures on_index { ConnectsOn (IsFullWith self.area longest_area (Connect bytes.now)) self.index bytes.now result }
         ensures undone { IfUndone (disk.new ≡ disk.old) result }
         ensures leaves { LeavesDisk D.tells (D.seen disk.old) (D.seen disk.new) result }
         ensures kept { KeepsOn D.tells self (Connect bytes.now) (D.seen disk.old) (D.seen disk.new) result }
@@ -141,6 +146,7 @@ impl Store {
     ) -> Outcome<BackRefusal>
         requires on_disk { IsTrue D.tells → IsOn self (D.seen disk.old).moments.now }
         ensures disconnects { disconnecting.Disconnects longest_area self hash.0 result }
+        ensures on_index { DisconnectsOn (IsFullWith self.area longest_area (Disconnect hash.0)) self.index hash result }
         ensures undone { IfUndone (disk.new ≡ disk.old) result }
         ensures leaves { LeavesDisk D.tells (D.seen disk.old) (D.seen disk.new) result }
         ensures kept { KeepsOn D.tells self (Disconnect hash.0) (D.seen disk.old) (D.seen disk.new) result }

@@ -9,7 +9,7 @@ use super::making::made;
 use chain_state::{BackRefusal, Refusal};
 use disk_model::Disk;
 use memory_disk::{Choice, MemoryDisk};
-use name_store::{BackOutcome, CreateFault, OpenFault, Outcome, Store};
+use name_store::{CreateFault, OpenFault, Outcome, Store};
 use nmc_base::{Hash32, NoMemory, Steps, Tip};
 use std::alloc::Global;
 use std::marker::Brand;
@@ -81,23 +81,25 @@ pub(super) fn look_at<D: Disk>(alloc: Global, disk: &mut D) -> Found {
     }
 }
 
-/// The store that is handed back, if any, and the answer.
-pub(super) fn answer_of(outcome: Outcome) -> (Option<Store>, Answer) {
-    match outcome {
-        Outcome::Done(store, tip) => (Some(store), Answer::Done(tip)),
-        Outcome::Refused(store, refusal) => (Some(store), Answer::Refused(refusal)),
-        Outcome::NoMemory(store) => (Some(store), Answer::NoMemory),
-        Outcome::Faulted => (None, Answer::Faulted),
+impl From<Refusal> for Answer {
+    fn from(refusal: Refusal) -> Self {
+        Answer::Refused(refusal)
     }
 }
 
-/// The same of a disconnect.
-pub(super) fn back_answer_of(outcome: BackOutcome) -> (Option<Store>, Answer) {
+impl From<BackRefusal> for Answer {
+    fn from(refusal: BackRefusal) -> Self {
+        Answer::RefusedBack(refusal)
+    }
+}
+
+/// The store that is handed back, if any, and the answer.
+pub(super) fn answer_of<R: Into<Answer>>(outcome: Outcome<R>) -> (Option<Store>, Answer) {
     match outcome {
-        BackOutcome::Done(store, tip) => (Some(store), Answer::Done(tip)),
-        BackOutcome::Refused(store, refusal) => (Some(store), Answer::RefusedBack(refusal)),
-        BackOutcome::NoMemory(store) => (Some(store), Answer::NoMemory),
-        BackOutcome::Faulted => (None, Answer::Faulted),
+        Outcome::Done(store, tip) => (Some(store), Answer::Done(tip)),
+        Outcome::Refused(store, refusal) => (Some(store), refusal.into()),
+        Outcome::NoMemory(store) => (Some(store), Answer::NoMemory),
+        Outcome::Faulted => (None, Answer::Faulted),
     }
 }
 
@@ -131,7 +133,7 @@ fn disconnect_from<D: Disk, L: Ledger>(
     requires some { 0 < blank.parts }
 {
     let mut steps = Steps::<L>::new(blank);
-    back_answer_of(store.disconnect(alloc, disk, hash, &mut steps))
+    answer_of(store.disconnect(alloc, disk, hash, &mut steps))
 }
 
 /// Connects the first block to the store that the files of the disk are.

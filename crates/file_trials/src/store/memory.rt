@@ -1,18 +1,17 @@
 //! The life of a store where memory is wanting: a store that is handed back gets the command again.
 
 ghost use Rattle.std.specs.Prelude.{◌≡◌, ◌<◌, IsTrue};
-ghost use Rattle.chain_commands.specs.RunState.{RunState};
-ghost use Rattle.name_store.specs.Stored.{StandsFor, IsOn};
+ghost use Rattle.name_store.specs.Stored.{IsOn};
 
 use super::first_block::{FIRST_BLOCK, FIRST_HASH};
 use super::life::{
-    Answer, BASE_TIP, FIRST_TIP, Found, answer_of, back_answer_of, connect, disconnect, found_in,
-    let_go, look_at, make,
+    Answer, BASE_TIP, FIRST_TIP, Found, answer_of, connect, disconnect, found_in, let_go, look_at,
+    make,
 };
 use crate::comparing::{ends, is_right_or_unknown};
 use disk_model::Disk;
 use memory_disk::{Choice, MemoryDisk};
-use name_store::{BackOutcome, CreateFault, OpenFault, Outcome, Store};
+use name_store::{CreateFault, OpenFault, Outcome, Store};
 use nmc_base::{Hash32, Steps};
 use std::alloc::Global;
 use std::marker::Brand;
@@ -26,7 +25,6 @@ fn connect_twice<D: Disk, L: Ledger>(
     disk: &mut D,
     blank: Blank,
 ) -> (Option<Store>, Answer)
-    requires stands { (run : RunState) × StandsFor store run }
     requires on_disk { IsTrue D.tells → IsOn store (D.seen disk.old).moments.now }
     requires name { blank.name ≡ L.name }
     requires parts { blank.parts ≡ L.parts }
@@ -46,7 +44,6 @@ fn disconnect_twice<D: Disk, L: Ledger>(
     disk: &mut D,
     blank: Blank,
 ) -> (Option<Store>, Answer)
-    requires stands { (run : RunState) × StandsFor store run }
     requires on_disk { IsTrue D.tells → IsOn store (D.seen disk.old).moments.now }
     requires name { blank.name ≡ L.name }
     requires parts { blank.parts ≡ L.parts }
@@ -55,10 +52,8 @@ fn disconnect_twice<D: Disk, L: Ledger>(
     let mut steps = Steps::<L>::new(blank);
     let hash = Hash32(FIRST_HASH);
     match store.disconnect(alloc, disk, hash, &mut steps) {
-        BackOutcome::NoMemory(again) => {
-            back_answer_of(again.disconnect(alloc, disk, hash, &mut steps))
-        }
-        outcome => back_answer_of(outcome),
+        Outcome::NoMemory(again) => { answer_of(again.disconnect(alloc, disk, hash, &mut steps)) }
+        outcome => answer_of(outcome),
     }
 }
 

@@ -1,4 +1,5 @@
 use Rattle.std.proofs.Common.{arith}
+use Rattle.name_store.proofs.ByIndexLemmas.{on_with_room, on_without_room}
 use Rattle.name_store.proofs.StageLemmas.{no_block, with_room, without_room}
 use Rattle.name_store.proofs.staging.stage_bytes.Goals as goal
 
@@ -16,3 +17,11 @@ returns-else-is_full-clause-stages g c = λ chain s.
     with_room (record { area = c.args.area; most = c.args.most; index = c.args.chain; chain = chain; bytes = c.args.bytes.now; stands = s })
     (record { block = c.in-Ok.block; is_block = c.in-Ok.ensures.read; short = c.requires }) c.stage-outcome.result
     c.stage-outcome.ensures.stages (λ full. omega (arith, full, c.if-is_full.false, c.saturating_sub.ensures))
+
+pub returns-then-is_full-clause-on_index : goal.returns-then-is_full-clause-on_index
+returns-then-is_full-clause-on_index g c =
+    on_without_room _ c.args.chain c.args.bytes.now c.in-Ok.block c.in-Ok.ensures.read (omega (arith, c.if-is_full.true, c.saturating_sub.ensures)) c.stage-outcome.result c.give_up.result
+    c.stage-outcome.ensures.stages c.give_up.ensures
+
+pub returns-else-is_full-clause-on_index : goal.returns-else-is_full-clause-on_index
+returns-else-is_full-clause-on_index g c = on_with_room _ c.args.chain c.args.bytes.now c.in-Ok.block c.in-Ok.ensures.read c.stage-outcome.result c.stage-outcome.ensures.stages

@@ -1,5 +1,6 @@
 use Rattle.std.proofs.Common.{refl, arith}
 use Rattle.chain_state.proofs.RefusalLemmas.{may_disconnect}
+use Rattle.name_store.proofs.ByIndexLemmas.{refuses_hash}
 use Rattle.name_store.proofs.BackLemmas.{refused, lacking, staged_for, full_for}
 use Rattle.name_store.proofs.staging.stage_hash.Goals as goal
 
@@ -22,3 +23,6 @@ returns-in-NoMemory-clause-stages g c = λ chain s.
     lacking (record { area = c.args.area; most = c.args.most; index = c.args.chain; chain = chain; hash = c.args.hash; stands = s }) c.in-NoMemory.chain c.in-NoMemory.ensures.stages.0
     (may_disconnect chain.base chain.start chain.blocks c.args.chain s c.args.hash c.args.chain
     (record { above = c.in-NoMemory.ensures.stages.1; hash_is = c.in-NoMemory.ensures.stages.2; same = record { base = refl; tip = refl; maps = refl; queue = refl; undos = refl } }))
+
+pub returns-in-Refused-clause-on_index : goal.returns-in-Refused-clause-on_index
+returns-in-Refused-clause-on_index g c = refuses_hash _ c.args.chain c.args.hash c.in-Refused.refusal c.in-Refused.chain c.in-Refused.ensures.stages.0 c.in-Refused.ensures.stages.1

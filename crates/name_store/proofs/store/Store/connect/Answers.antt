@@ -6,11 +6,14 @@ use Rattle.chain_commands.specs.RunState.{longest_area}
 use Rattle.chain_commands.specs.Chain.{Chain}
 use Rattle.chain_commands.specs.Connecting.{Holds, connects as refusals}
 use Rattle.name_store.specs.Stored.{Stored, IsOn}
+use Rattle.name_store.specs.Stages.{IsFullWith}
+use Rattle.name_store.specs.ByIndex.{ConnectsOn}
 use Rattle.name_store.specs.Outcomes.{KeepsOn, LeavesDisk}
 use Rattle.name_store.specs.Connecting.{Connects}
 use Rattle.name_store.specs.declared.store.Outcome.TheVariants.{Done, Refused, NoMemory, Faulted}
 use Rattle.name_store.specs.Views.{refusal_of}
-use Rattle.name_store.proofs.OutcomeLemmas.{allows_connect, leaves_refused, leaves_lacking, keeps_refused, keeps_lacking, answers_refused, answers_lacking, valid_of, keeps_faulted, answers_done, keeps_done, leaves_faulted, leaves_done}
+use Rattle.name_store.proofs.ByIndexLemmas.{refused_base}
+use Rattle.name_store.proofs.OutcomeLemmas.{a_block, leaves_refused, leaves_lacking, keeps_refused, keeps_lacking, answers_refused, answers_lacking, valid_of, keeps_faulted, answers_done, keeps_done, leaves_faulted, leaves_done}
 use Rattle.name_store.proofs.store.Store.connect.Goals as goal
 
 pub returns-in-Refused-clause-leaves : goal.returns-in-Refused-clause-leaves
@@ -18,7 +21,7 @@ returns-in-Refused-clause-leaves g c =
     let disk = g.D.Disk.seen c.args.disk.now in
     let old : Stored = record { index = c.self.inside.chain; host = c.self.inside.host; area = c.self.inside.area } in
     let new : Stored = record { index = c.in-Refused.chain; host = c.self.inside.host; area = c.self.inside.area } in
-    leaves_refused old new (record { base = c.in-Refused.ensures.base; host = refl; area = refl }) g.D.Disk.tells disk
+    leaves_refused old new (record { base = refused_base _ c.self.inside.chain c.args.bytes.now c.in-Refused.refusal c.in-Refused.chain c.in-Refused.ensures.on_index; host = refl; area = refl }) g.D.Disk.tells disk
     (λ told. subst (λ (x : Stored). IsOn x disk.moments.now) (sym c.self.view_is) (c.requires.on_disk told)) c.in-Refused.refusal
 
 pub returns-in-Refused-clause-kept : goal.returns-in-Refused-clause-kept
@@ -27,7 +30,7 @@ returns-in-Refused-clause-kept g c =
     let old : Stored = record { index = c.self.inside.chain; host = c.self.inside.host; area = c.self.inside.area } in
     let new : Stored = record { index = c.in-Refused.chain; host = c.self.inside.host; area = c.self.inside.area } in
     subst (λ (x : Stored). KeepsOn g.D.Disk.tells x (Connect c.args.bytes.now) disk disk (Refused new c.in-Refused.refusal)) c.self.view_is
-    (keeps_refused old new (record { base = c.in-Refused.ensures.base; host = refl; area = refl }) g.D.Disk.tells disk
+    (keeps_refused old new (record { base = refused_base _ c.self.inside.chain c.args.bytes.now c.in-Refused.refusal c.in-Refused.chain c.in-Refused.ensures.on_index; host = refl; area = refl }) g.D.Disk.tells disk
     (λ told. subst (λ (x : Stored). IsOn x disk.moments.now) (sym c.self.view_is) (c.requires.on_disk told)) (Connect c.args.bytes.now) c.in-Refused.refusal)
 
 pub returns-in-NoMemory-clause-leaves : goal.returns-in-NoMemory-clause-leaves
@@ -35,7 +38,7 @@ returns-in-NoMemory-clause-leaves g c =
     let disk = g.D.Disk.seen c.args.disk.now in
     let old : Stored = record { index = c.self.inside.chain; host = c.self.inside.host; area = c.self.inside.area } in
     let new : Stored = record { index = c.in-NoMemory.chain; host = c.self.inside.host; area = c.self.inside.area } in
-    leaves_lacking old new (record { base = c.in-NoMemory.ensures.base; host = refl; area = refl }) g.D.Disk.tells disk
+    leaves_lacking old new (record { base = c.in-NoMemory.ensures.on_index.stays.base; host = refl; area = refl }) g.D.Disk.tells disk
     (λ told. subst (λ (x : Stored). IsOn x disk.moments.now) (sym c.self.view_is) (c.requires.on_disk told))
 
 pub returns-in-NoMemory-clause-kept : goal.returns-in-NoMemory-clause-kept
@@ -44,7 +47,7 @@ returns-in-NoMemory-clause-kept g c =
     let old : Stored = record { index = c.self.inside.chain; host = c.self.inside.host; area = c.self.inside.area } in
     let new : Stored = record { index = c.in-NoMemory.chain; host = c.self.inside.host; area = c.self.inside.area } in
     subst (λ (x : Stored). KeepsOn g.D.Disk.tells x (Connect c.args.bytes.now) disk disk (NoMemory new)) c.self.view_is
-    (keeps_lacking old new (record { base = c.in-NoMemory.ensures.base; host = refl; area = refl }) g.D.Disk.tells disk
+    (keeps_lacking old new (record { base = c.in-NoMemory.ensures.on_index.stays.base; host = refl; area = refl }) g.D.Disk.tells disk
     (λ told. subst (λ (x : Stored). IsOn x disk.moments.now) (sym c.self.view_is) (c.requires.on_disk told)) (Connect c.args.bytes.now))
 
 pub returns-in-Err-clause-leaves : goal.returns-in-Err-clause-leaves
@@ -58,8 +61,8 @@ returns-in-Err-clause-kept g c =
     let after = g.D.Disk.seen c.keep.new.disk in
     let old : Stored = record { index = c.self.inside.chain; host = c.self.inside.host; area = c.self.inside.area } in
     subst (λ (x : Stored). KeepsOn g.D.Disk.tells x (Connect c.args.bytes.now) before after Faulted) c.self.view_is
-    (keeps_faulted refusals (λ full (chain : Chain). Holds full chain c.args.bytes.now) (Connect c.args.bytes.now) (allows_connect c.args.bytes.now c.requires.short) old (IsConnected c.in-Staged.staged) (IsAbandoned c.in-Staged.staged) c.in-Staged.ensures.stages
-    g.D.Disk.tells before after c.keep.result (λ told. subst (λ (x : Stored). IsOn x before.moments.now) (sym c.self.view_is) (c.requires.on_disk told)) c.keep.ensures)
+    (keeps_faulted (a_block c.args.bytes.now c.requires.short old c.in-Staged.staged c.in-Staged.ensures.stages) g.D.Disk.tells before after c.keep.result
+    (λ told. subst (λ (x : Stored). IsOn x before.moments.now) (sym c.self.view_is) (c.requires.on_disk told)) c.keep.ensures)
 
 pub returns-in-Ok-clause-connects : goal.returns-in-Ok-clause-connects
 returns-in-Ok-clause-connects g c =
@@ -67,8 +70,7 @@ returns-in-Ok-clause-connects g c =
     let new : Stored = record { index = c.commit.result; host = c.self.inside.host; area = c.in-Ok.area } in
     let longer : c.in-Ok.area ≡ c.self.inside.area + (6 + length c.args.bytes.now) = omega (arith, c.in-Ok.ensures.longer) in
     subst (λ r. Connects longest_area c.args.self c.args.bytes.now r) (sym c.done.ensures) (subst (λ (x : Stored). Connects longest_area x c.args.bytes.now (Done new c.commit.result.tip)) c.self.view_is
-    (λ run s. answers_done refusals (λ full (chain : Chain). Holds full chain c.args.bytes.now) (Connect c.args.bytes.now) (allows_connect c.args.bytes.now c.requires.short) old (IsConnected c.in-Staged.staged) (IsAbandoned c.in-Staged.staged) c.in-Staged.ensures.stages
-    new (record { commits = c.commit.ensures.connected; host = refl; area = longer }) refusal_of c.commit.result.tip refl run s))
+    (λ run s. answers_done (a_block c.args.bytes.now c.requires.short old c.in-Staged.staged c.in-Staged.ensures.stages) refusal_of new (record { commits = c.commit.ensures.connected; host = refl; area = longer }) run s))
 
 pub returns-in-Ok-clause-leaves : goal.returns-in-Ok-clause-leaves
 returns-in-Ok-clause-leaves g c =
@@ -77,8 +79,8 @@ returns-in-Ok-clause-leaves g c =
     let old : Stored = record { index = c.self.inside.chain; host = c.self.inside.host; area = c.self.inside.area } in
     let new : Stored = record { index = c.commit.result; host = c.self.inside.host; area = c.in-Ok.area } in
     subst (λ r. LeavesDisk g.D.Disk.tells before after r) (sym c.done.ensures)
-    (leaves_done g.D.Disk.tells before after old (1 ∷ c.args.bytes.now) new c.commit.result.tip c.in-Ok.area
-    (λ told. subst (λ (x : Stored). IsOn x before.moments.now) (sym c.self.view_is) (c.requires.on_disk told)) c.in-Ok.ensures (c.commit.ensures.connected.base ∙ c.in-Staged.ensures.base) refl refl)
+    (leaves_done g.D.Disk.tells before after old (1 ∷ c.args.bytes.now) new
+    (λ told. subst (λ (x : Stored). IsOn x before.moments.now) (sym c.self.view_is) (c.requires.on_disk told)) c.in-Ok.ensures (c.commit.ensures.connected.base ∙ c.in-Staged.ensures.on_index.on.base) refl)
 
 pub returns-in-Ok-clause-kept : goal.returns-in-Ok-clause-kept
 returns-in-Ok-clause-kept g c =
@@ -86,9 +88,15 @@ returns-in-Ok-clause-kept g c =
     let after = g.D.Disk.seen c.keep.new.disk in
     let old : Stored = record { index = c.self.inside.chain; host = c.self.inside.host; area = c.self.inside.area } in
     let new : Stored = record { index = c.commit.result; host = c.self.inside.host; area = c.in-Ok.area } in
-    let longer : c.in-Ok.area ≡ c.self.inside.area + (6 + length c.args.bytes.now) = omega (arith, c.in-Ok.ensures.longer) in
     subst (λ r. KeepsOn g.D.Disk.tells c.args.self (Connect c.args.bytes.now) before after r) (sym c.done.ensures)
     (subst (λ (x : Stored). KeepsOn g.D.Disk.tells x (Connect c.args.bytes.now) before after (Done new c.commit.result.tip)) c.self.view_is
-    (keeps_done refusals (λ full (chain : Chain). Holds full chain c.args.bytes.now) (Connect c.args.bytes.now) (allows_connect c.args.bytes.now c.requires.short) old (IsConnected c.in-Staged.staged) (IsAbandoned c.in-Staged.staged) c.in-Staged.ensures.stages
-    new (record { commits = c.commit.ensures.connected; host = refl; area = longer }) g.D.Disk.tells before after c.commit.result.tip c.in-Ok.area
+    (keeps_done (a_block c.args.bytes.now c.requires.short old c.in-Staged.staged c.in-Staged.ensures.stages) g.D.Disk.tells before after new
     (λ told. subst (λ (x : Stored). IsOn x before.moments.now) (sym c.self.view_is) (c.requires.on_disk told)) c.in-Ok.ensures))
+
+pub returns-in-Ok-clause-on_index : goal.returns-in-Ok-clause-on_index
+returns-in-Ok-clause-on_index g c =
+    let bytes = c.args.bytes.now in
+    let new : Stored = record { index = c.commit.result; host = c.self.inside.host; area = c.in-Ok.area } in
+    subst (λ r. ConnectsOn (IsFullWith c.args.self.area longest_area (Connect bytes)) c.args.self.index bytes r) (sym c.done.ensures)
+    (subst (λ (x : Stored). ConnectsOn (IsFullWith x.area longest_area (Connect bytes)) x.index bytes (Done new c.commit.result.tip)) c.self.view_is
+    (record { staged = c.in-Staged.staged; takes = c.in-Staged.ensures.on_index; connected = c.commit.ensures.connected; tip_is = refl }))

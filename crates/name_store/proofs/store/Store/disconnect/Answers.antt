@@ -11,7 +11,8 @@ use Rattle.name_store.specs.Outcomes.{KeepsOn, LeavesDisk}
 use Rattle.name_store.specs.Disconnecting.{Disconnects}
 use Rattle.name_store.specs.declared.store.Outcome.TheVariants.{Done, Refused, NoMemory, Faulted}
 use Rattle.name_store.specs.Views.{back_refusal_of}
-use Rattle.name_store.proofs.OutcomeLemmas.{allows_disconnect, leaves_refused, leaves_lacking, keeps_refused, keeps_lacking, answers_refused, answers_lacking, valid_of, keeps_faulted, answers_done, keeps_done, leaves_faulted, leaves_done}
+use Rattle.name_store.proofs.ByIndexLemmas.{refused_hash_base}
+use Rattle.name_store.proofs.OutcomeLemmas.{a_hash, leaves_refused, leaves_lacking, keeps_refused, keeps_lacking, answers_refused, answers_lacking, valid_of, keeps_faulted, answers_done, keeps_done, leaves_faulted, leaves_done}
 use Rattle.name_store.proofs.store.Store.disconnect.Goals as goal
 
 pub returns-in-Refused-clause-leaves : goal.returns-in-Refused-clause-leaves
@@ -19,7 +20,7 @@ returns-in-Refused-clause-leaves g c =
     let disk = g.D.Disk.seen c.args.disk.now in
     let old : Stored = record { index = c.self.inside.chain; host = c.self.inside.host; area = c.self.inside.area } in
     let new : Stored = record { index = c.in-Refused.chain; host = c.self.inside.host; area = c.self.inside.area } in
-    leaves_refused old new (record { base = c.in-Refused.ensures.base; host = refl; area = refl }) g.D.Disk.tells disk
+    leaves_refused old new (record { base = refused_hash_base _ c.self.inside.chain c.args.hash c.in-Refused.refusal c.in-Refused.chain c.in-Refused.ensures.on_index; host = refl; area = refl }) g.D.Disk.tells disk
     (λ told. subst (λ (x : Stored). IsOn x disk.moments.now) (sym c.self.view_is) (c.requires.on_disk told)) c.in-Refused.refusal
 
 pub returns-in-Refused-clause-kept : goal.returns-in-Refused-clause-kept
@@ -28,7 +29,7 @@ returns-in-Refused-clause-kept g c =
     let old : Stored = record { index = c.self.inside.chain; host = c.self.inside.host; area = c.self.inside.area } in
     let new : Stored = record { index = c.in-Refused.chain; host = c.self.inside.host; area = c.self.inside.area } in
     subst (λ (x : Stored). KeepsOn g.D.Disk.tells x (Disconnect c.args.hash.0) disk disk (Refused new c.in-Refused.refusal)) c.self.view_is
-    (keeps_refused old new (record { base = c.in-Refused.ensures.base; host = refl; area = refl }) g.D.Disk.tells disk
+    (keeps_refused old new (record { base = refused_hash_base _ c.self.inside.chain c.args.hash c.in-Refused.refusal c.in-Refused.chain c.in-Refused.ensures.on_index; host = refl; area = refl }) g.D.Disk.tells disk
     (λ told. subst (λ (x : Stored). IsOn x disk.moments.now) (sym c.self.view_is) (c.requires.on_disk told)) (Disconnect c.args.hash.0) c.in-Refused.refusal)
 
 pub returns-in-NoMemory-clause-leaves : goal.returns-in-NoMemory-clause-leaves
@@ -36,7 +37,7 @@ returns-in-NoMemory-clause-leaves g c =
     let disk = g.D.Disk.seen c.args.disk.now in
     let old : Stored = record { index = c.self.inside.chain; host = c.self.inside.host; area = c.self.inside.area } in
     let new : Stored = record { index = c.in-NoMemory.chain; host = c.self.inside.host; area = c.self.inside.area } in
-    leaves_lacking old new (record { base = c.in-NoMemory.ensures.base; host = refl; area = refl }) g.D.Disk.tells disk
+    leaves_lacking old new (record { base = c.in-NoMemory.ensures.on_index.stays.base; host = refl; area = refl }) g.D.Disk.tells disk
     (λ told. subst (λ (x : Stored). IsOn x disk.moments.now) (sym c.self.view_is) (c.requires.on_disk told))
 
 pub returns-in-NoMemory-clause-kept : goal.returns-in-NoMemory-clause-kept
@@ -45,7 +46,7 @@ returns-in-NoMemory-clause-kept g c =
     let old : Stored = record { index = c.self.inside.chain; host = c.self.inside.host; area = c.self.inside.area } in
     let new : Stored = record { index = c.in-NoMemory.chain; host = c.self.inside.host; area = c.self.inside.area } in
     subst (λ (x : Stored). KeepsOn g.D.Disk.tells x (Disconnect c.args.hash.0) disk disk (NoMemory new)) c.self.view_is
-    (keeps_lacking old new (record { base = c.in-NoMemory.ensures.base; host = refl; area = refl }) g.D.Disk.tells disk
+    (keeps_lacking old new (record { base = c.in-NoMemory.ensures.on_index.stays.base; host = refl; area = refl }) g.D.Disk.tells disk
     (λ told. subst (λ (x : Stored). IsOn x disk.moments.now) (sym c.self.view_is) (c.requires.on_disk told)) (Disconnect c.args.hash.0))
 
 pub returns-in-Err-clause-leaves : goal.returns-in-Err-clause-leaves
@@ -60,8 +61,8 @@ returns-in-Err-clause-kept g c =
     let old : Stored = record { index = c.self.inside.chain; host = c.self.inside.host; area = c.self.inside.area } in
     let long : length c.args.hash.0 ≡ 32 = search rules in
     subst (λ (x : Stored). KeepsOn g.D.Disk.tells x (Disconnect c.args.hash.0) before after Faulted) c.self.view_is
-    (keeps_faulted refusals (λ full (chain : Chain). HoldsBack full chain c.args.hash.0) (Disconnect c.args.hash.0) (allows_disconnect c.args.hash.0 long) old (IsDisconnected c.in-StagedBack.staged) (λ (same : Indexed). SameIndex same c.in-StagedBack.staged) c.in-StagedBack.ensures.stages
-    g.D.Disk.tells before after c.keep.result (λ told. subst (λ (x : Stored). IsOn x before.moments.now) (sym c.self.view_is) (c.requires.on_disk told)) c.keep.ensures)
+    (keeps_faulted (a_hash c.args.hash.0 long old c.in-StagedBack.staged c.in-StagedBack.ensures.stages) g.D.Disk.tells before after c.keep.result
+    (λ told. subst (λ (x : Stored). IsOn x before.moments.now) (sym c.self.view_is) (c.requires.on_disk told)) c.keep.ensures)
 
 pub returns-in-Ok-clause-disconnects : goal.returns-in-Ok-clause-disconnects
 returns-in-Ok-clause-disconnects g c =
@@ -70,8 +71,7 @@ returns-in-Ok-clause-disconnects g c =
     let long : length c.args.hash.0 ≡ 32 = search rules in
     let longer : c.in-Ok.area ≡ c.self.inside.area + 38 = omega (arith, c.in-Ok.ensures.longer) in
     subst (λ r. Disconnects longest_area c.args.self c.args.hash.0 r) (sym c.done.ensures) (subst (λ (x : Stored). Disconnects longest_area x c.args.hash.0 (Done new c.commit.result.tip)) c.self.view_is
-    (λ run s. answers_done refusals (λ full (chain : Chain). HoldsBack full chain c.args.hash.0) (Disconnect c.args.hash.0) (allows_disconnect c.args.hash.0 long) old (IsDisconnected c.in-StagedBack.staged) (λ (same : Indexed). SameIndex same c.in-StagedBack.staged) c.in-StagedBack.ensures.stages
-    new (record { commits = c.commit.ensures.disconnected; host = refl; area = longer }) back_refusal_of c.commit.result.tip refl run s))
+    (λ run s. answers_done (a_hash c.args.hash.0 long old c.in-StagedBack.staged c.in-StagedBack.ensures.stages) back_refusal_of new (record { commits = c.commit.ensures.disconnected; host = refl; area = longer }) run s))
 
 pub returns-in-Ok-clause-leaves : goal.returns-in-Ok-clause-leaves
 returns-in-Ok-clause-leaves g c =
@@ -80,8 +80,8 @@ returns-in-Ok-clause-leaves g c =
     let old : Stored = record { index = c.self.inside.chain; host = c.self.inside.host; area = c.self.inside.area } in
     let new : Stored = record { index = c.commit.result; host = c.self.inside.host; area = c.in-Ok.area } in
     subst (λ r. LeavesDisk g.D.Disk.tells before after r) (sym c.done.ensures)
-    (leaves_done g.D.Disk.tells before after old (2 ∷ c.args.hash.0) new c.commit.result.tip c.in-Ok.area
-    (λ told. subst (λ (x : Stored). IsOn x before.moments.now) (sym c.self.view_is) (c.requires.on_disk told)) c.in-Ok.ensures (c.commit.ensures.disconnected.base ∙ c.in-StagedBack.ensures.base) refl refl)
+    (leaves_done g.D.Disk.tells before after old (2 ∷ c.args.hash.0) new
+    (λ told. subst (λ (x : Stored). IsOn x before.moments.now) (sym c.self.view_is) (c.requires.on_disk told)) c.in-Ok.ensures (c.commit.ensures.disconnected.base ∙ c.in-StagedBack.ensures.on_index.stays.base) refl)
 
 pub returns-in-Ok-clause-kept : goal.returns-in-Ok-clause-kept
 returns-in-Ok-clause-kept g c =
@@ -90,9 +90,7 @@ returns-in-Ok-clause-kept g c =
     let old : Stored = record { index = c.self.inside.chain; host = c.self.inside.host; area = c.self.inside.area } in
     let new : Stored = record { index = c.commit.result; host = c.self.inside.host; area = c.in-Ok.area } in
     let long : length c.args.hash.0 ≡ 32 = search rules in
-    let longer : c.in-Ok.area ≡ c.self.inside.area + 38 = omega (arith, c.in-Ok.ensures.longer) in
     subst (λ r. KeepsOn g.D.Disk.tells c.args.self (Disconnect c.args.hash.0) before after r) (sym c.done.ensures)
     (subst (λ (x : Stored). KeepsOn g.D.Disk.tells x (Disconnect c.args.hash.0) before after (Done new c.commit.result.tip)) c.self.view_is
-    (keeps_done refusals (λ full (chain : Chain). HoldsBack full chain c.args.hash.0) (Disconnect c.args.hash.0) (allows_disconnect c.args.hash.0 long) old (IsDisconnected c.in-StagedBack.staged) (λ (same : Indexed). SameIndex same c.in-StagedBack.staged) c.in-StagedBack.ensures.stages
-    new (record { commits = c.commit.ensures.disconnected; host = refl; area = longer }) g.D.Disk.tells before after c.commit.result.tip c.in-Ok.area
+    (keeps_done (a_hash c.args.hash.0 long old c.in-StagedBack.staged c.in-StagedBack.ensures.stages) g.D.Disk.tells before after new
     (λ told. subst (λ (x : Stored). IsOn x before.moments.now) (sym c.self.view_is) (c.requires.on_disk told)) c.in-Ok.ensures))
