@@ -45,9 +45,13 @@ class Words(unittest.TestCase):
         room = pathlib.Path(made.name)
         target = room / "target"
         shutil.copytree(FEEDER, room / "feeder", ignore=shutil.ignore_patterns("tests", "__pycache__"))
-        words = ["install", "--quiet", "--no-build-isolation", "--no-deps", "--target", target, room / "feeder"]
-        run = subprocess.run([sys.executable, "-m", "pip", *words], stdout=subprocess.PIPE, stderr=subprocess.STDOUT, text=True)
-        if re.search(r"No module named '?(pip|setuptools)|invalid command 'bdist_wheel'", run.stdout):
+        words = ["-m", "pip", "install", "--quiet", "--no-build-isolation", "--no-deps", "--target", target, room / "feeder"]
+        # Debian's Python may have what this one lacks.
+        for python in (sys.executable, "/usr/bin/python3"):
+            run = subprocess.run([python, *words], stdout=subprocess.PIPE, stderr=subprocess.STDOUT, text=True)
+            if is_able := not re.search(r"No module named '?(pip|setuptools)|invalid command 'bdist_wheel'", run.stdout):
+                break
+        if not is_able:
             self.skipTest("pip, setuptools or wheel is missing here")
         self.assertEqual(run.returncode, 0, run.stdout)
         environment = {**os.environ, "PYTHONPATH": str(target)}
