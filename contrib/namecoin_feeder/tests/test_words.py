@@ -126,6 +126,14 @@ class Told(unittest.TestCase):
         progress.end()
         self.assertEqual(len(out.getvalue().splitlines()), 4)
 
+    def test_odd_words_are_one_line(self):
+        """What a node says may have ends of lines, escapes of terminals, and no end."""
+        out = io.StringIO()
+        Progress(out, Clock()).say("no\nnamecoin_feeder: all is well\x1b[2J\r\u202e" + "x" * 10**6)
+        self.assertEqual(out.getvalue().count("\n"), 1)
+        self.assertTrue(out.getvalue().startswith("namecoin_feeder: no?namecoin_feeder: all is well?[2J??xxx"))
+        self.assertLess(len(out.getvalue()), 700)
+
     def test_times(self):
         told = [spoken(it) for it in (0, 59.4, 60, 3599, 3600, 90000)]
         self.assertEqual(told, ["0 s", "59 s", "1 min 0 s", "59 min 59 s", "1 h 0 min", "1 d 1 h"])
