@@ -12,7 +12,7 @@ import sys
 import tempfile
 import time
 
-from . import FEEDER
+from . import FEEDER, TOP
 from .case import Case, unittest
 
 from namecoin_feeder.command_line import main, words
@@ -38,6 +38,13 @@ class Words(unittest.TestCase):
     def test_help_tells_the_statuses(self):
         told = set(map(int, re.findall(r"^  (\d+) ", words().format_help(), re.MULTILINE)))
         self.assertEqual(told, {*map(int, Status), 130})
+
+    def test_calls_of_the_node_are_those_of_the_page(self):
+        """What OPERATING allows the feeder's user is what the feeder asks, and no more."""
+        source = (FEEDER / "namecoin_feeder" / "node.py").read_text()
+        asked = sorted(set(re.findall(r'"(get[a-z]+)"', source)))
+        page = (TOP / "docs" / "OPERATING.md").read_text()
+        self.assertEqual(re.search(r"rpcwhitelist=jaqhumpi:([a-z,]+)", page)[1].split(","), asked)
 
     def test_runs_where_it_is_installed(self):
         made = tempfile.TemporaryDirectory()
