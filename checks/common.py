@@ -100,6 +100,10 @@ class Tally:
             print(f"{what}: {told}")
         return holds
 
+    def leaves_out(self, what, why):
+        """Tells that something isn't looked at here, and why. `.ci/run` counts these lines, and names them at its end."""
+        print(f"{self.name}: left out: {what}: {why}", flush=True)
+
     def same(self, what, got, wanted):
         return self.check(what, got == wanted, f"{shown(got)}, and not {shown(wanted)}")
 

@@ -126,7 +126,7 @@ def check_resolver(names, words_of, rows):
     program()
     missing = [name for name in (*names, "dig") if found(name) is None]
     if missing:
-        print(f"{tally.name}: skipped, since {', '.join(missing)} is missing")
+        tally.leaves_out("all of it", f"{', '.join(missing)} is missing")
         return 0
     with room() as folder, server_of_names(folder) as server:
         port = free_port(socket.SOCK_DGRAM)

@@ -7,7 +7,7 @@ import collections
 import pathlib
 import typing
 
-from .blocks import HEADER, NO_HASH, Block, Header, Place, block_hash, shown
+from .blocks import BELOW_ALL, HEADER, Block, Header, Place, block_hash, shown
 from .troubles import Status, Stop
 
 BEFORE = 8
@@ -71,7 +71,7 @@ class BlockFiles:
 
     def __init__(self, paths):
         self.files = [File(pathlib.Path(path)) for path in paths]
-        self.records, self.heights, self.chain = {}, {}, []
+        self.records, self.heights, self.works, self.chain = {}, {}, {}, []
         for number, file in enumerate(self.files):
             for at, length, header in file.records():
                 self.records.setdefault(block_hash(header), Record(header[4:36], work_of(header), number, at, length))
@@ -92,7 +92,8 @@ class BlockFiles:
         most, tip = -1, None
         while left:
             hash, height, below = left.popleft()
-            self.heights[hash], work = height, below + self.records[hash].work
+            work = below + self.records[hash].work
+            self.heights[hash], self.works[hash] = height, work
             if work > most:
                 most, tip = work, hash
             left += [(it, height + 1, work) for it in above[hash]]
@@ -102,15 +103,25 @@ class BlockFiles:
         self.chain.reverse()
 
     def best(self):
-        return Place(self.chain[-1], len(self.chain) - 1)
+        return Place(self.chain[-1], len(self.chain) - 1, self.works[self.chain[-1]])
 
     def header(self, hash):
         if hash == self.records[self.chain[0]].previous:
-            return Header(hash, NO_HASH, -1, True)
+            return BELOW_ALL._replace(hash=hash)
         height = self.heights.get(hash)
         if height is None:
             return None
-        return Header(hash, self.records[hash].previous, height, height < len(self.chain) and self.chain[height] == hash)
+        is_on_chain = height < len(self.chain) and self.chain[height] == hash
+        return Header(hash, self.records[hash].previous, height, is_on_chain, self.works[hash])
+
+    def is_downloading(self):
+        return False
+
+    def has_rejected(self, hash):
+        return False
+
+    def lacks_blocks(self):
+        return False
 
     def transaction(self, hash, index):
         return None

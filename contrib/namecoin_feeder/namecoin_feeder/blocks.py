@@ -18,19 +18,25 @@ class Block(typing.NamedTuple):
 
 
 class Place(typing.NamedTuple):
-    """A block of the best chain, with its height."""
+    """A block of the best chain, with its height and with the work of the chain up to it."""
 
     hash: bytes
     height: int
+    work: int
 
 
 class Header(typing.NamedTuple):
-    """What a source knows of a block, whether or not the best chain has it."""
+    """What a source knows of a block, whether or not the best chain has it; `work` is that of its chain up to it."""
 
     hash: bytes
     previous: bytes
     height: int
     is_on_chain: bool
+    work: int
+
+
+# What stands below the first block of a network.
+BELOW_ALL = Header(NO_HASH, NO_HASH, -1, True, 0)
 
 
 def block_hash(data):

@@ -9,6 +9,7 @@ from . import __version__
 from .block_files import BlockFiles
 from .following import Choices, Follower
 from .http_calls import Cookie, Password
+from .measures import Port
 from .node import Node
 from .pauses import Pauses
 from .progress import Progress
@@ -24,19 +25,33 @@ INTERRUPTED = 130
 EPILOG = """\
 exit statuses:
   0    with --once or --blocks: the server stands at the tip of the best chain
-  2    the words are wrong, or a file that they name can't be read
+  2    the words are wrong, a file that they name can't be read, or the port of --metrics can't be had
   3    the server refuses a block: its code, the rule's name, the block and the transaction are told
-  4    the server stands on blocks that the best chain doesn't have, down to its base or deeper than --deepest
-  5    the node refuses the name and the password, has pruned a block, or gave no good answer for --patience
+  4    the server's blocks aren't those of the best chain, and may not be taken off (--deepest, --base, --unknown, block files)
+  5    the node refuses the name and the password, has pruned a block, or nothing went well for --patience
   6    what answers isn't the feed of a server, or it gave no good answer for --patience
   130  interrupted from the terminal
-Whenever it ends, the server stands at a whole block, and the next run goes on from there.
+With --again none of 3 to 6 ends it. Whenever it ends, the server stands at a whole block, and the next run goes on from there.
 """
 
 
 def seconds(text):
     value = float(text)
     if not 0 <= value < float("inf"):
+        raise ValueError
+    return value
+
+
+def count(text):
+    value = int(text)
+    if value < 0:
+        raise ValueError
+    return value
+
+
+def port(text):
+    value = int(text)
+    if not 0 < value < 65536:
         raise ValueError
     return value
 
@@ -56,10 +71,10 @@ def url(text):
 
 
 def address(text):
-    host, _, port = text.rpartition(":")
-    if not host or not 0 < int(port) < 65536:
+    host, _, number = text.rpartition(":")
+    if not host:
         raise ValueError
-    return host.strip("[]"), int(port)
+    return host.strip("[]"), port(number)
 
 
 def words():
@@ -85,18 +100,24 @@ def add_source(group):
 
 def add_ways(group):
     """How to follow."""
-    blocks, times = {"metavar": "BLOCKS", "type": int}, {"metavar": "SECONDS", "type": seconds}
+    blocks, times = {"metavar": "BLOCKS", "type": count}, {"metavar": "SECONDS", "type": seconds}
     some_times = {"metavar": "SECONDS", "type": some_seconds}
     group.add_argument("--once", action="store_true", help="end as soon as the server stands at the node's tip")
     group.add_argument("--every", default=1, help="look for a new tip so often (%(default)s)", **some_times)
     group.add_argument("--deepest", default=1000, help="take no more blocks off in one reorganisation (%(default)s)", **blocks)
-    text = "wait so long for a node that is behind the server before blocks are taken off (%(default)s)"
-    group.add_argument("--grace", default=60, help=text, **times)
+    text = "the height of the server's base: nothing is taken off for a fork below it (%(default)s)"
+    group.add_argument("--base", metavar="HEIGHT", default=0, type=count, help=text)
+    text = "take so many blocks off that the node doesn't know, though no fork is known then (%(default)s)"
+    group.add_argument("--unknown", default=0, help=text, **blocks)
     text = "end where nothing went well for so long; 0: try for ever (%(default)s)"
     group.add_argument("--patience", default=0, help=text, **times)
+    text = "behind a refused block, or what else would end it, try again so much later; 0: end (%(default)s)"
+    group.add_argument("--again", default=0, help=text, **times)
     text = "pauses between tries grow up to this (%(default)g)"
     group.add_argument("--longest-pause", default=LONGEST_PAUSE, help=text, **some_times)
     group.add_argument("--timeout", default=60, help="wait so long for an answer (%(default)s)", **some_times)
+    text = "tell figures in the text form of Prometheus at this port of 127.0.0.1, at /metrics"
+    group.add_argument("--metrics", metavar="PORT", type=port, help=text)
 
 
 def credentials(given):
@@ -106,10 +127,17 @@ def credentials(given):
         if PASSWORD not in os.environ:
             raise Stop(Status.WORDS, f"--user wants --password-file or the variable {PASSWORD}")
         return Password(given.user, os.environ[PASSWORD])
+    return Password(given.user, password_of(given.password_file))
+
+
+def password_of(path):
     try:
-        return Password(given.user, given.password_file.read_text().partition("\n")[0])
-    except OSError as fault:
-        raise Stop(Status.WORDS, f"{given.password_file} can't be read: {fault.strerror}") from None
+        password = path.read_text().partition("\n")[0]
+    except (OSError, ValueError) as fault:
+        raise Stop(Status.WORDS, f"{path} can't be read: {getattr(fault, 'strerror', None) or 'it is no text'}") from None
+    if not password:
+        raise Stop(Status.WORDS, f"{path} has an empty first line, where the password of the node is to stand")
+    return password
 
 
 def source(given):
@@ -122,10 +150,15 @@ def run(given, progress):
     blocks = source(given)
     server = Server(given.server, given.timeout)
     pauses = Pauses(min(SHORTEST_PAUSE, given.longest_pause), given.longest_pause, given.patience, progress.say)
-    choices = Choices(given.once or blocks.is_fixed, given.every, given.deepest, given.grace)
+    again = 0 if blocks.is_fixed else given.again
+    choices = Choices(given.once or blocks.is_fixed, given.every, given.deepest, given.base, given.unknown, again)
+    follower = Follower(blocks, server, pauses, progress, choices)
+    port = Port(given.metrics, follower.measures) if given.metrics else None
     try:
-        Follower(blocks, server, pauses, progress, choices).follow()
+        follower.follow()
     finally:
+        if port is not None:
+            port.close()
         server.drop()
         blocks.close()
         progress.end()

@@ -1,50 +1,40 @@
-"""Keeps a server at the best chain of a source: forward in order, and back to the fork where that chain is another one."""
+"""Keeps a server at the best chain of a source: forward in order, and back to the fork where another branch stands above it."""
 import contextlib
 import time
 import typing
 
 from .blocks import MOST_BYTES, shown, too_long
+from .going_back import Blind, Wait, way_back
+from .measures import Measures
+from .pauses import Calm, Waits
+from .progress import spoken
 from .replies import ACCEPTED, NOT_ON_TIP, reason
-from .troubles import Moved, NodeTrouble, ServerTrouble, Status, Stop, Trouble
+from .troubles import Moved, NodeTrouble, Status, Stop, Trouble
 
 # So often in a row the best chain may move before a block is taken; then there is a pause.
 MOST_MOVES = 5
 
 
 class Choices(typing.NamedTuple):
-    """How to follow: once or on and on, seconds between two looks, blocks to go back at most, seconds to wait before that."""
+    """How to follow: once or on and on; seconds between two looks; blocks to go back at most; the height of the server's base;
+    how many blocks may be taken off that the node doesn't know; and seconds until the next try behind a stop, 0 being an end."""
 
     once: bool = False
     every: float = 1.0
     deepest: int = 1000
-    grace: float = 60.0
-
-
-class Back(typing.NamedTuple):
-    """The way back from the server's tip: its blocks above the fork, the newest first, and the fork's height.
-
-    There is no fork where the source doesn't know the tip, or where it lies deeper than blocks may be taken off. The server is
-    ahead where the fork is the source's best block: the source may be about to reach up to the tip.
-    """
-
-    stale: list
-    fork: typing.Optional[int]
-    is_ahead: bool
-    is_too_deep: bool
-
-
-class Waiting(typing.NamedTuple):
-    """Since when a source that doesn't reach up to the server's tip stands at the same best block."""
-
-    since: float
-    best: bytes
+    base: int = 0
+    unknown: int = 0
+    again: float = 0.0
 
 
 class Follower:
     def __init__(self, source, server, pauses, progress, choices=Choices(), clock=time.monotonic, sleep=time.sleep):
         self.source, self.server, self.pauses, self.progress, self.choices = source, server, pauses, progress, choices
         self.clock, self.sleep = clock, sleep
-        self.waiting, self.moves, self.unknown = None, 0, 0
+        self.waits, self.calm = Waits(progress.say, clock), Calm(pauses.shortest, pauses.longest, clock)
+        self.measures = Measures(clock)
+        # Moves of the best chain since a block was taken; and blocks taken off in this run that the source doesn't know.
+        self.moves, self.unknown = 0, 0
         # The height of the server's tip and of the source's, as the source counts.
         self.height = self.top = 0
 
@@ -52,14 +42,44 @@ class Follower:
         """Follows for ever, or until the server stands at the source's tip. What doesn't pass is raised as a Stop."""
         while True:
             try:
-                if self.step() and self.choices.once:
+                if self.look() and self.choices.once:
                     return
-            except Moved:
-                self.moves += 1
-                if self.moves >= MOST_MOVES:
-                    self.pauses.wait(NodeTrouble(f"the best chain of {self.source.name} has moved {self.moves} times"))
-            except Trouble as trouble:
-                self.pauses.wait(trouble)
+            except Stop as stop:
+                if not self.choices.again:
+                    raise
+                self.hold(stop)
+
+    def look(self):
+        """One look, and a pause where it met a trouble. Whether the server stands at the source's tip."""
+        try:
+            return self.step()
+        except Moved:
+            self.moves += 1
+            if self.moves >= MOST_MOVES:
+                self.pauses.wait(NodeTrouble(f"the best chain of {self.source.name} has moved {self.moves} times"))
+        except Trouble as trouble:
+            self.measures.troubles += 1
+            self.pauses.wait(trouble)
+        return False
+
+    def hold(self, stop):
+        """Behind what would end the program: waits for so long, or until the best chain has left the block that was refused."""
+        self.progress.say(f"{stop}; the next try is in {spoken(self.choices.again)}")
+        self.server.drop()
+        self.pauses.passed()
+        until = self.clock() + self.choices.again
+        while (left := until - self.clock()) > 0 and not self.has_left(stop.block):
+            self.sleep(min(self.choices.every, left))
+
+    def has_left(self, block):
+        """Whether the source knows a refused block, and has another best chain now."""
+        if block is None:
+            return False
+        try:
+            header = self.source.header(block)
+        except (Trouble, Stop):
+            return False
+        return header is not None and not header.is_on_chain
 
     def step(self):
         """One look at the source, and what is to be done then. Whether the server stands at its tip."""
@@ -67,27 +87,27 @@ class Follower:
             self.progress.say(f"the server at {self.server.name} stands on block {shown(self.server.tip)}")
         self.settle(0)
         best = self.source.best()
-        self.top = best.height
+        self.top = self.measures.node_height = best.height
         if best.hash == self.server.tip:
             self.is_level(best)
             return True
         header = self.source.header(self.server.tip)
-        if header is not None and header.is_on_chain:
-            self.is_known()
-            self.forward(header.height, best.height)
+        if header is None or not header.is_on_chain:
+            self.back(way_back(self.source, self.server.tip, best, self.choices), best)
+        elif header.height >= best.height:
+            raise Moved
         else:
-            self.back(best, self.way_back(best, header))
+            self.measures.is_waiting = False
+            self.forward(header.height, best.height)
         return False
 
     def is_level(self, best):
-        self.is_known()
         self.went_well()
+        self.measures.is_waiting = False
+        self.height = self.measures.server_height = best.height
         self.progress.is_level(best.height)
         if not self.choices.once:
             self.sleep(self.choices.every)
-
-    def is_known(self):
-        self.waiting, self.unknown = None, 0
 
     def went_well(self):
         self.moves = 0
@@ -129,6 +149,7 @@ class Follower:
                 if reply.code != ACCEPTED:
                     self.refused(block, reply)
                 self.height += 1
+                self.measures.is_connected(self.height)
         finally:
             if self.height > before:
                 self.went_well()
@@ -139,62 +160,66 @@ class Follower:
         while self.server.sent:
             self.server.answer()
         if reply.code == NOT_ON_TIP:
-            self.server.tip = reply.payload
-            raise ServerTrouble(f"the server stands on another block than before, {shown(reply.payload)}: who else feeds it?")
+            raise self.server.moved(reply)
         header = self.source.header(block.hash)
         if header is None or not header.is_on_chain:
             raise Moved
         why = reason(reply, self.source.transaction(block.hash, reply.number) if reply.is_rule else None)
         if why is None:
             raise self.server.unexpected(reply)
-        raise Stop(Status.REFUSED, f"the server refuses block {shown(block.hash)} of height {header.height}: {why}")
+        self.measures.refusals += 1
+        text = f"the server refuses block {shown(block.hash)} of height {header.height}: {why}"
+        raise Stop(Status.REFUSED, text, block.hash)
 
     # Back
 
-    def way_back(self, best, header):
-        stale, depth = [], 0 if header is None else header.height - best.height
-        while header is not None and not header.is_on_chain and depth <= self.choices.deepest:
-            stale.append(header.hash)
-            depth = max(depth, len(stale))
-            header = self.source.header(header.previous)
-        # Headers that were told before and behind a move of the best chain don't make one way.
-        if self.source.best() != best:
-            raise Moved
-        is_found = header is not None and header.is_on_chain
-        is_ahead = is_found and header.hash == best.hash
-        return Back(stale, header.height if is_found else None, is_ahead, depth > self.choices.deepest)
+    def back(self, found, best):
+        """Goes the way down to the fork; or waits, or takes off one block that the source doesn't know, where that is allowed."""
+        if isinstance(found, Wait) or isinstance(found, Blind) and not self.choices.unknown:
+            self.wait(found.why)
+        elif isinstance(found, Blind):
+            self.take_off_unknown(found.why)
+        elif (left := self.calm.left()) > 0:
+            self.sleep(min(self.choices.every, left))
+        else:
+            self.measures.is_waiting = False
+            self.reorganise(found, best)
 
-    def back(self, best, way):
-        """Takes blocks off, down to the fork; where the source doesn't know them, one, and looks again."""
-        if (way.fork is None or way.is_ahead) and self.may_come(best):
-            self.sleep(self.choices.every)
-            return
-        self.unknown += not way.stale
-        if way.is_too_deep or self.unknown > self.choices.deepest:
-            text = f"more than {self.choices.deepest} of its newest blocks would have to be taken off"
-            stands = f"the server stands on block {shown(self.server.tip)}, {self.aside()}"
-            raise Stop(Status.OTHER_CHAIN, f"{stands}; {text}: is it another network's node?")
-        if way.fork is not None:
-            self.progress.say(f"the best chain is another one above height {way.fork}: blocks to take off: {len(way.stale)}")
-        for hash in way.stale or [self.server.tip]:
-            self.take_off(hash)
-        self.height = way.fork if way.fork is not None else self.height
+    def wait(self, why):
+        """Waits for the source. One that can't change ends it."""
+        if self.source.is_fixed:
+            raise Stop(Status.OTHER_CHAIN, f"{why}: nothing is taken off")
+        self.measures.is_waiting = True
+        self.waits.tell(why)
+        self.pauses.bear(NodeTrouble(why))
+        self.sleep(self.choices.every)
 
-    def take_off(self, hash):
-        if self.server.tip != hash:
-            raise Moved
+    def reorganise(self, way, best):
+        """Takes off the blocks above the fork, as long as the source's best block stays."""
+        self.progress.say(f"the best chain is another one above height {way.height}: blocks to take off: {len(way.stale)}")
+        self.measures.reorganisations += 1
+        self.height = way.height + len(way.stale)
+        try:
+            for hash in way.stale:
+                if self.server.tip != hash or self.source.best() != best:
+                    raise Moved
+                self.take_off(f" of height {self.height}")
+                self.height = self.measures.server_height = self.height - 1
+        finally:
+            self.calm.ended()
+
+    def take_off_unknown(self, why):
+        self.unknown += 1
+        if self.unknown > self.choices.unknown:
+            text = f"{self.choices.unknown} blocks that it doesn't know are taken off already (--unknown)"
+            raise Stop(Status.OTHER_CHAIN, f"{why}; {text}: is it another network's node?")
+        self.take_off(f", which {self.source.name} doesn't know")
+
+    def take_off(self, what):
+        """Takes off the server's newest block."""
+        hash = self.server.tip
         if not self.server.disconnect():
-            raise Stop(Status.OTHER_CHAIN, f"the server stands on its base, block {shown(hash)}, {self.aside()}")
-
-    def aside(self):
-        return f"which isn't on the best chain of {self.source.name}"
-
-    def may_come(self, best):
-        """Whether to wait for the source: it may have been started anew, and be about to reach up to the server's tip."""
-        now = self.clock()
-        if self.waiting is None:
-            tip = shown(self.server.tip)
-            self.progress.say(f"the server stands on block {tip}, which isn't on the best chain of {self.source.name} yet")
-        if self.waiting is None or self.waiting.best != best.hash:
-            self.waiting = Waiting(now, best.hash)
-        return not self.source.is_fixed and now - self.waiting.since < self.choices.grace
+            aside = f"which isn't on the best chain of {self.source.name}"
+            raise Stop(Status.OTHER_CHAIN, f"the server stands on its base, block {shown(hash)}, {aside}")
+        self.measures.disconnected += 1
+        self.progress.say(f"block {shown(hash)}{what} is taken off")

@@ -1,8 +1,9 @@
 """A Namecoin Core node as the source of blocks, by its JSON-RPC."""
 import collections
 import itertools
+import re
 
-from .blocks import MOST_BYTES, NO_HASH, Header, Place, block_of, hash_of, shown, too_long
+from .blocks import BELOW_ALL, MOST_BYTES, NO_HASH, Header, Place, block_of, hash_of, shown, too_long
 from .http_calls import Calls, RpcError, TooLong
 from .troubles import Moved, NodeTrouble, Status, Stop
 
@@ -12,6 +13,29 @@ MOST_TEXT = 2 * MOST_BYTES + 4096
 # Hashes are asked for so many at a time, and blocks in runs: so many runs ahead, each of so many blocks at most, which come to
 # some 512 KiB if they are as long as those before.
 HASHES, RUNS, MOST_IN_A_RUN, RUN_BYTES = 500, 4, 16, 524_288
+# No chain that the server takes is higher.
+MOST_HEIGHT = 2_000_000_000
+# The work of a chain, as nodes write it: 256 bits in hexadecimal.
+WORK = re.compile("[0-9A-Fa-f]{64}")
+
+
+def whole(number, least, most):
+    """A whole number within its bounds; JSON has others, and texts, and nothing at all."""
+    if type(number) is not int or not least <= number <= most:
+        raise ValueError
+    return number
+
+
+def header_of(hash, found):
+    """What a node tells of a block; an error where that isn't what nodes tell."""
+    if found["hash"] != shown(hash) or not WORK.fullmatch(found["chainwork"]):
+        raise ValueError
+    height = whole(found["height"], 0, MOST_HEIGHT)
+    previous = hash_of(found["previousblockhash"]) if height or "previousblockhash" in found else NO_HASH
+    if len(previous) != len(NO_HASH):
+        raise ValueError
+    is_on_chain = whole(found["confirmations"], -1, MOST_HEIGHT + 1) >= 0
+    return Header(hash, previous, height, is_on_chain, int(found["chainwork"], 16))
 
 
 class Node:
@@ -39,13 +63,13 @@ class Node:
             header = self.header(hash)
             if header is None:
                 raise NodeTrouble("the node doesn't know its own best block")
-            self.last_best = Place(hash, header.height)
+            self.last_best = Place(hash, header.height, header.work)
         return self.last_best
 
     def header(self, hash):
         """What the node knows of a block; None where it doesn't know it."""
         if hash == NO_HASH:
-            return Header(NO_HASH, NO_HASH, -1, True)
+            return BELOW_ALL
         try:
             found = self.ask("getblockheader", shown(hash))
         except RpcError as error:
@@ -53,10 +77,37 @@ class Node:
                 return None
             raise NodeTrouble(str(error)) from None
         try:
-            previous = hash_of(found["previousblockhash"]) if "previousblockhash" in found else NO_HASH
-            return Header(hash, previous, int(found["height"]), found["confirmations"] >= 0)
+            return header_of(hash, found)
         except (LookupError, TypeError, ValueError):
             raise NodeTrouble("the node gives a header that can't be read") from None
+
+    def is_downloading(self):
+        """Whether the node says that it is in its initial download: its best chain may be any old one."""
+        return self.chain_state()[0]
+
+    def lacks_blocks(self):
+        """Whether the node knows headers above its best block."""
+        _, blocks, headers = self.chain_state()
+        return headers > blocks
+
+    def chain_state(self):
+        """Whether the node is in its initial download; the height of its best chain; and that of its headers."""
+        found = self.wanted("getblockchaininfo")
+        try:
+            is_downloading = found["initialblockdownload"]
+            if type(is_downloading) is not bool:
+                raise ValueError
+            return is_downloading, *(whole(found[it], 0, MOST_HEIGHT) for it in ("blocks", "headers"))
+        except (LookupError, TypeError, ValueError):
+            raise NodeTrouble("the node tells of its download what can't be read") from None
+
+    def has_rejected(self, hash):
+        """Whether the block is the tip of a branch that the node holds to be invalid."""
+        tips = self.wanted("getchaintips")
+        try:
+            return any(tip["hash"] == shown(hash) and tip["status"] == "invalid" for tip in tips)
+        except (LookupError, TypeError):
+            raise NodeTrouble("the node tells of its branches what can't be read") from None
 
     def wanted(self, *request):
         try:

@@ -3,6 +3,8 @@ import collections
 import time
 
 ON_TERMINAL, ELSEWHERE = 0.1, 10.0
+# A line is cut behind so many characters: what a node says stands in some.
+MOST_SAID = 600
 # The speed is that of so many seconds.
 SPAN = 10.0
 
@@ -17,7 +19,8 @@ class Progress:
         self.heights, self.owed = collections.deque(), None
 
     def say(self, text):
-        """A line for itself."""
+        """A line for itself. What isn't to be printed, as in an odd node's words, is replaced, so that it is one line."""
+        text = "".join(it if it.isprintable() else "?" for it in text[:MOST_SAID]) + (".." if len(text) > MOST_SAID else "")
         self.out.write(("\r\x1b[K" if self.is_terminal else "") + f"namecoin_feeder: {text}\n")
         self.out.flush()
 

@@ -102,8 +102,7 @@ class Server:
         if reply.code == ACCEPTED:
             self.accepts(reply)
         elif reply.code == NOT_TIP:
-            self.tip = reply.payload
-            raise ServerTrouble(f"the server stands on another block than before, {shown(self.tip)}: who else feeds it?")
+            raise self.moved(reply)
         elif reply.code != AT_BASE:
             raise self.unexpected(reply)
         return reply.code == ACCEPTED
@@ -112,6 +111,13 @@ class Server:
         if len(reply.payload) != 4 + len(NO_HASH):
             raise self.unexpected(reply)
         self.tip = reply.payload[4:]
+
+    def moved(self, reply):
+        """The trouble that the server stands on another block than it said; the reply tells which."""
+        if len(reply.payload) != len(NO_HASH):
+            return self.unexpected(reply)
+        self.tip = reply.payload
+        return ServerTrouble(f"the server stands on another block than before, {shown(self.tip)}: who else feeds it?")
 
     def write(self, text):
         try:

@@ -36,8 +36,8 @@ class Moved(Exception):
 
 
 class Stop(Exception):
-    """The program ends with this status."""
+    """The program ends with this status; `block` is the one that the server refuses, where it does."""
 
-    def __init__(self, status, text):
+    def __init__(self, status, text, block=None):
         super().__init__(text)
-        self.status = status
+        self.status, self.block = status, block

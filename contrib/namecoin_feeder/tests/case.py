@@ -17,7 +17,7 @@ from blocks import QUERY, frame
 from common import run_in
 
 SECONDS = 30
-FAST = ("--every", "0.05", "--longest-pause", "0.1", "--grace", "0.3", "--timeout", "5")
+FAST = ("--every", "0.05", "--longest-pause", "0.1", "--timeout", "5")
 MEMORY = "/dev/shm"
 
 

@@ -102,8 +102,9 @@ class FakeNode:
         self.chains, self.tip, self.cookie = chains, tip, cookie
         self.port, self.listener, self.best = port or free_port(socket.SOCK_STREAM), None, []
         self.before, self.asked, self.lock = None, [], threading.RLock()
-        # What the node doesn't know (any more).
-        self.forgotten = set()
+        # What the node doesn't know (any more); what it has rejected; and what a block's work is above that of one block.
+        self.forgotten, self.rejected, self.heavy = set(), set(), {}
+        self.is_downloading, self.headers = False, None
         self.set_word(FIRST_SIGHT)
         self.start()
 
@@ -170,7 +171,25 @@ class FakeNode:
         chain = self.chain()
         is_best = made.height < len(chain) and chain[made.height] == hash
         header = {"hash": text, "height": made.height, "confirmations": len(chain) - made.height if is_best else -1}
+        header["chainwork"] = f"{self.work(hash):064x}"
         return header if hash == self.chains.first else {**header, "previousblockhash": made.previous[::-1].hex()}
+
+    def work(self, hash):
+        """That of a chain up to a block."""
+        return sum(1 + self.heavy.get(it, 0) for it in [self.chains.first, *self.chains.path(hash)])
+
+    def getblockchaininfo(self):
+        height = len(self.chain()) - 1
+        headers = height if self.headers is None else self.headers
+        return {"chain": "regtest", "blocks": height, "headers": headers, "initialblockdownload": self.is_downloading}
+
+    def getchaintips(self):
+        below = {made.previous for made in self.chains.blocks.values()}
+        tips = [hash for hash in self.chains.blocks if hash not in below or hash == self.tip or hash in self.rejected]
+        return [{"hash": hash[::-1].hex(), "status": self.status(hash)} for hash in tips]
+
+    def status(self, hash):
+        return "active" if hash == self.tip else "invalid" if hash in self.rejected else "valid-fork"
 
     def getblock(self, text, verbosity):
         hash, made = self.known(text)

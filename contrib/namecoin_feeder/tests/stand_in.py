@@ -20,15 +20,15 @@ KINDS = {CONNECT: (0, 8_388_608), DISCONNECT: (32, 32), QUERY: (0, 65_535)}
 
 
 class ModelChain(Model):
-    """The model over another base. It is never closed, so it outlives each server."""
+    """The model over the base with another hash. It is never closed, so it outlives each server."""
 
-    def __init__(self, base):
+    def __init__(self, hash):
         super().__init__()
-        self.base = base
+        self.hash = hash
 
     @property
     def tip(self):
-        return self.blocks[-1][0] if self.blocks else self.base
+        return self.blocks[-1][0] if self.blocks else self.hash
 
     def open(self):
         pass

@@ -51,8 +51,17 @@ class BlockFiles(Case):
         self.assert_same()
 
     def test_other_files(self):
+        """Files that don't have the server's tip: they say of no fork, so nothing is taken off."""
         self.feed_files(self.written("first", self.all[:21]))
-        self.assertIn("isn't on the best chain of the block file", self.feed_files(self.written("second", self.all[25:]), status=4))
+        tip = self.server.tip
+        self.assertIn("doesn't know: nothing is taken off", self.feed_files(self.written("second", self.all[25:]), status=4))
+        self.assertEqual(self.server.tip, tip)
+
+    def test_files_that_end_below_the_tip(self):
+        self.feed_files(self.written("first", self.all[:21]))
+        tip = self.server.tip
+        self.assertIn("nothing is taken off", self.feed_files(self.written("second", self.all[:15]), status=4))
+        self.assertEqual(self.server.tip, tip)
 
     def test_no_blocks(self):
         self.assertIn("there is no block in these files", self.feed_files(self.written("empty", []), status=2))

@@ -95,53 +95,6 @@ class Following(Case):
         self.feed()
         self.assert_same()
 
-    def test_chain_gets_shorter(self):
-        """As by `invalidateblock`: after the grace, the newest blocks are taken off."""
-        self.start()
-        tip = self.chains.grow(self.chains.first, 30)
-        self.reaches(tip)
-        self.reaches(self.chains.back(tip, 3))
-        self.assert_same()
-
-    def test_node_that_is_behind(self):
-        """A node that reaches up to the server's tip in time: no block is taken off."""
-        tip = self.chains.grow(self.chains.first, 30)
-        self.node.move(tip)
-        self.feed()
-        self.node.move(self.chains.back(tip, 20))
-        run = self.start("--once", "--grace", "20")
-        timer = threading.Timer(0.5, self.node.move, (self.chains.add(tip),))
-        timer.start()
-        self.assertEqual(run.wait(20), 0)
-        self.assertEqual(self.server.codes.count(ACCEPTED), 31)
-        self.assert_same()
-
-    def test_tip_moves_while_the_fork_is_looked_for(self):
-        """A node that is behind when its tip is asked for, and isn't any more in the midst of the headers."""
-        tip = self.chains.grow(self.chains.first, 30)
-        self.node.move(tip)
-        self.feed()
-        self.node.move(self.chains.back(tip, 20))
-
-        def before(method, words):
-            if method == "getblockheader" and words[0] == self.chains.back(tip, 3)[::-1].hex():
-                self.node.move(self.chains.add(tip))
-                self.node.before = None
-
-        self.node.before = before
-        self.feed("--grace", "20")
-        self.assertEqual(self.server.codes.count(ACCEPTED), 31)
-        self.assert_same()
-
-    def test_node_that_forgot_stale_blocks(self):
-        self.node.move(self.chains.grow(self.chains.first, 30))
-        self.feed()
-        fork = self.chains.back(self.node.tip, 8)
-        self.node.forgotten = set(self.chains.path(self.node.tip)[-8:])
-        self.node.move(self.chains.grow(fork, 10))
-        self.feed()
-        self.assert_same()
-
     def test_server_that_lost_its_files(self):
         """Started on new files while there is nothing to feed: it gets all blocks again, before the next one comes."""
         self.start()

@@ -81,45 +81,35 @@ class Refusals(Case):
         self.feed()
         self.assert_same()
 
-    def test_base_that_the_chain_has_not(self):
-        tip = self.chains.grow(self.chains.first, 10)
-        self.node.move(tip)
-        self.feed()
-        other = type(self.chains)()
-        other.numbers = 1000
-        other.blocks.clear()
-        other.first = other.put(self.chains.blocks[tip].data, 0, {}, {})
-        self.node.chains = other
-        self.node.move(other.grow(other.first, 20))
-        self.node.forgotten = {other.first}
-        self.assertIn("more than 4 of its newest blocks", self.feed("--deepest", "4", status=4))
-        self.assertIn(f"stands on its base, block {self.chains.first[::-1].hex()}, which isn't", self.feed(status=4))
-
-    def test_deeper_than_wanted(self):
-        self.node.move(self.chains.grow(self.chains.first, 20))
-        self.feed()
-        tip = self.node.tip
-        self.node.move(self.chains.grow(self.chains.back(tip, 11), 12))
-        self.assertIn("more than 10 of its newest blocks", self.feed("--deepest", "10", status=4))
-        self.assertEqual(self.server.tip, tip)
-        self.feed("--deepest", "11")
+    def test_tries_again_at_long_intervals(self):
+        """With --again a refused block doesn't end the feeder: it goes on as soon as the node has left the block."""
+        tip = self.chains.grow(self.chains.first, 20)
+        self.node.move(self.chains.grow(self.chains.add(tip, [GREEDY]), 3))
+        run = self.start("--again", "3600")
+        self.heard(run, "code 15, Greedy")
+        self.waits_for("the end of the connection", lambda: self.server.tip == tip)
+        self.assertEqual(self.server.codes.count(15), 1)
+        self.reaches(self.chains.grow(tip, 5))
+        self.assertIsNone(run.poll())
         self.assert_same()
 
-    def test_node_that_is_far_behind(self):
-        """As long as the node goes on it is waited for; where it stands still, the feeder ends, and nothing is taken off."""
-        tip = self.chains.grow(self.chains.first, 30)
-        self.node.move(tip)
-        self.feed()
-        path = self.chains.path(tip)
-        self.node.move(path[0])
-        run = self.start("--once", "--deepest", "10", "--grace", "1")
-        self.heard(run, "isn't on the best chain of the node yet")
-        for hash in path[1:6]:
-            time.sleep(0.3)
-            self.node.move(hash)
+    def test_tries_again_behind_the_interval(self):
+        """The block is sent again, since the server may be another one now."""
+        self.node.move(self.chains.add(self.chains.grow(self.chains.first, 20), [GREEDY]))
+        run = self.start("--again", "0.2")
+        self.waits_for("refusals", lambda: self.server.codes.count(15) >= 3)
         self.assertIsNone(run.poll())
-        self.ends(run, 4)
-        self.assertEqual(self.server.tip, tip)
+
+    def test_again_with_the_node(self):
+        """What else would end it is tried again too: a name that the node refuses, and blocks too deep."""
+        self.cookie.write_text("user:other")
+        run = self.start("--again", "0.2", "--once")
+        self.heard(run, "refuses the name and the password (HTTP status 401); the next try is in 0 s")
+        self.cookie.write_text("user:word")
+        self.ends(run)
+
+    def test_wrong_words_end_it_all_the_same(self):
+        self.assertIn("can't be read", self.feed("--again", "1", "--user", "a", "--password-file", "/nowhere", status=2))
 
     def test_names_of_rules(self):
         """The codes and names are those of the documents."""

@@ -54,6 +54,9 @@ class OfTheNode(Case):
         self.assertIn("no answer in time", said)
         self.assert_same()
 
+    def test_odd_words_of_an_error(self):
+        self.assertIn("error -1: a?namecoin_feeder: b", self.fails(RpcFault(-1, "a\nnamecoin_feeder: b" + "c" * 10**6)))
+
     def test_warming_up(self):
         said = self.fails(RpcFault(-28, "Loading block index..."), "getbestblockhash", 1, 3)
         self.assertIn("the node is starting: Loading block index...", said)

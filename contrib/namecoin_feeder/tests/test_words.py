@@ -12,7 +12,7 @@ import sys
 import tempfile
 import time
 
-from . import FEEDER
+from . import FEEDER, TOP
 from .case import Case, unittest
 
 from namecoin_feeder.command_line import main, words
@@ -39,15 +39,26 @@ class Words(unittest.TestCase):
         told = set(map(int, re.findall(r"^  (\d+) ", words().format_help(), re.MULTILINE)))
         self.assertEqual(told, {*map(int, Status), 130})
 
+    def test_calls_of_the_node_are_those_of_the_page(self):
+        """What OPERATING allows the feeder's user is what the feeder asks, and no more."""
+        source = (FEEDER / "namecoin_feeder" / "node.py").read_text()
+        asked = sorted(set(re.findall(r'"(get[a-z]+)"', source)))
+        page = (TOP / "docs" / "OPERATING.md").read_text()
+        self.assertEqual(re.search(r"rpcwhitelist=jaqhumpi:([a-z,]+)", page)[1].split(","), asked)
+
     def test_runs_where_it_is_installed(self):
         made = tempfile.TemporaryDirectory()
         self.addCleanup(made.cleanup)
         room = pathlib.Path(made.name)
         target = room / "target"
         shutil.copytree(FEEDER, room / "feeder", ignore=shutil.ignore_patterns("tests", "__pycache__"))
-        words = ["install", "--quiet", "--no-build-isolation", "--no-deps", "--target", target, room / "feeder"]
-        run = subprocess.run([sys.executable, "-m", "pip", *words], stdout=subprocess.PIPE, stderr=subprocess.STDOUT, text=True)
-        if re.search(r"No module named '?(pip|setuptools)|invalid command 'bdist_wheel'", run.stdout):
+        words = ["-m", "pip", "install", "--quiet", "--no-build-isolation", "--no-deps", "--target", target, room / "feeder"]
+        # Debian's Python may have what this one lacks.
+        for python in (sys.executable, "/usr/bin/python3"):
+            run = subprocess.run([python, *words], stdout=subprocess.PIPE, stderr=subprocess.STDOUT, text=True)
+            if is_able := not re.search(r"No module named '?(pip|setuptools)|invalid command 'bdist_wheel'", run.stdout):
+                break
+        if not is_able:
             self.skipTest("pip, setuptools or wheel is missing here")
         self.assertEqual(run.returncode, 0, run.stdout)
         environment = {**os.environ, "PYTHONPATH": str(target)}
@@ -121,6 +132,14 @@ class Told(unittest.TestCase):
         self.assertEqual(out.getvalue().splitlines()[3], "namecoin_feeder: height 31, the tip")
         progress.end()
         self.assertEqual(len(out.getvalue().splitlines()), 4)
+
+    def test_odd_words_are_one_line(self):
+        """What a node says may have ends of lines, escapes of terminals, and no end."""
+        out = io.StringIO()
+        Progress(out, Clock()).say("no\nnamecoin_feeder: all is well\x1b[2J\r\u202e" + "x" * 10**6)
+        self.assertEqual(out.getvalue().count("\n"), 1)
+        self.assertTrue(out.getvalue().startswith("namecoin_feeder: no?namecoin_feeder: all is well?[2J??xxx"))
+        self.assertLess(len(out.getvalue()), 700)
 
     def test_times(self):
         told = [spoken(it) for it in (0, 59.4, 60, 3599, 3600, 90000)]
