@@ -1,7 +1,6 @@
 -- What the index says of a block's bytes and of a hash, and that its base stays.
 use Rattle.std.proofs.Common.{◌≡◌, List, ℕ, ◌∙◌}
 use Rattle.block_grammar.specs.Block.{Block, IsBlock}
-use Rattle.nmc_base.specs.declared.chain_ends.Base.{Base}
 use Rattle.nmc_base.specs.declared.hashes.Hash32.{Hash32}
 use Rattle.chain_state.specs.Chain.{Indexed, SameIndex}
 use Rattle.chain_state.specs.Stage.{IsRefusal, Stages}

@@ -1,5 +1,5 @@
 -- What an opened store stands for.
-use Rattle.std.proofs.Common.{◌≡◌, ◌≢◌, ◌⊎◌, inl, inr, ℕ, zero, suc, ◌+◌, ◌-◌, ◌<◌, ◌≤◌, ◌^◌, Bool, true, List, [], ◌∷◌, ◌++◌, length, take, drop, get_or, refl, sym, ◌∙◌, ap, subst, arith, length-take, length-drop, append_assoc}
+use Rattle.std.proofs.Common.{◌≡◌, ℕ, zero, suc, ◌+◌, ◌-◌, ◌<◌, ◌≤◌, Bool, List, [], ◌∷◌, ◌++◌, length, take, drop, refl, sym, ◌∙◌, ap, subst, arith, length-take, length-drop, append_assoc}
 use Rattle.std.specs.Prelude.{IsTrue, slice_index, All}
 use Rattle.std.specs.Int.{w32, to_le_bytes}
 use Rattle.std.proofs.Math.Seq.{drop-cons, take-add}
@@ -23,7 +23,7 @@ use Rattle.name_store.specs.declared.faults.OpenFault.TheVariants as faults
 use Rattle.name_store.specs.Damage as damage
 use Rattle.name_store.specs.Damage.{HasNoImage}
 use Rattle.std.proofs.Common.{Err}
-use Rattle.name_store.specs.Header.{IsBegun, HasHeader, HasFields, magic, header_text, base_at, host_at, hash_at, host_length_at, height_at, selections_at}
+use Rattle.name_store.specs.Header.{IsBegun, HasHeader, magic, header_text, base_at, host_at, hash_at, host_length_at, height_at, selections_at}
 use Rattle.name_store.specs.Host.{IsHostOf}
 use Rattle.name_store.specs.Commands.{IsAllowed, AreAllowed, record_of, records_of, gate_behind}
 use Rattle.name_store.specs.Stands.{Bytes, IsRunState, Stands}

@@ -1,5 +1,5 @@
 -- The outcomes of a command, of each kind.
-use Rattle.std.proofs.Common.{◌≡◌, ℕ, ◌+◌, ◌<◌, ◌≤◌, Bool, List, ◌∷◌, length, Ok, Err, refl, sym, ◌∙◌, subst, arith}
+use Rattle.std.proofs.Common.{◌≡◌, ℕ, ◌+◌, ◌<◌, ◌≤◌, Bool, List, length, Ok, Err, refl, sym, subst, arith}
 use Rattle.std.specs.Prelude.{IsTrue, Result}
 use Rattle.nmc_base.specs.declared.limits.TheConstants.{LONGEST_BLOCK}
 use Rattle.disk_model.specs.Moments.{start}
@@ -12,7 +12,7 @@ use Rattle.chain_state.specs.declared.back.BackOutcome.TheVariants.{StagedBack}
 use Rattle.chain_commands.specs.Chain.{Chain}
 use Rattle.chain_commands.specs.Event.{Command, Connect, Disconnect}
 use Rattle.chain_commands.specs.RunState.{RunState, chain_of, area_of, record_length, accepted, longest_area}
-use Rattle.chain_commands.specs.Refusals.{Refusals, HasNoneBelow, IsFirst}
+use Rattle.chain_commands.specs.Refusals.{Refusals, HasNoneBelow}
 use Rattle.chain_commands.specs.Connecting as connecting
 use Rattle.chain_commands.specs.Connecting.{IsValid, Holds}
 use Rattle.chain_commands.specs.Disconnecting as disconnecting
@@ -23,7 +23,7 @@ use Rattle.name_store.specs.Host.{IsHostOf}
 use Rattle.name_store.specs.Commands.{record_of}
 use Rattle.name_store.specs.Stands.{IsRunState}
 use Rattle.name_store.specs.Stored.{Stored, StandsFor, IsOn}
-use Rattle.name_store.specs.Stages.{StagesBytes, StagesHash, IsFullWith, IsStagedFor, IsRefusedFor, LacksMemoryFor}
+use Rattle.name_store.specs.Stages.{StagesBytes, StagesHash, IsFullWith, IsStagedFor}
 use Rattle.name_store.specs.Outcomes.{AnswersFor, IsFullOf, KeepsOn, LeavesDisk}
 use Rattle.name_store.specs.Keeping.{Keeps}
 use Rattle.name_store.proofs.StateLemmas.{state_with}
@@ -73,9 +73,6 @@ pub record IsHandedBack (old new : Stored) : Type 0 where
   pub area : new.area ≡ old.area
 
 module _ (old new : Stored) (back : IsHandedBack old new) where
-  pub stands_same : (run : RunState) → StandsFor old run → chains.StandsFor new.index (chain_of run) → StandsFor new run
-  stands_same run s index = record { index = index; host = subst (λ (name : List ℕ). IsHostOf run.host name) (sym back.host) s.host; area = back.area ∙ s.area; is_state = s.is_state }
-
   module _ {R : Type 0} (tells : Bool) (disk : DiskSeen) (on : IsTrue tells → IsOn old disk.moments.now) where
     pub leaves_refused : (refusal : R) → LeavesDisk {R = R} tells disk disk (Refused new refusal)
     leaves_refused refusal = record {
@@ -100,25 +97,6 @@ module _ (old new : Stored) (back : IsHandedBack old new) where
 
     pub keeps_lacking : (command : Command) → KeepsOn {R = R} tells old command disk disk (NoMemory new)
     keeps_lacking command = λ told run s stands. record { done = tt; any_moment = stands_still tells told old disk disk (on told) run (accepted run command) stands }
-
-  module _ {M R : Type 0} (refusals : Refusals M) (Holds : Type 0 → Chain → M → Type 0) (command : Command) where
-    pub answers_refused : (seen : R → M) (refusal : R)
-        → ((chain : Chain) → chains.StandsFor old.index chain → IsRefusedFor refusals (Holds (IsFullWith old.area longest_area command) chain) chain (seen refusal) new.index)
-        → (run : RunState) → StandsFor old run → AnswersFor refusals (Holds (IsFullOf longest_area run command) (chain_of run)) seen run command (Refused new refusal)
-    answers_refused seen refusal staging run s =
-        let it = staging (chain_of run) s.index in (
-          subst (λ (a : ℕ). IsFirst (Holds (longest_area < a + record_length command) (chain_of run)) refusals.order (seen refusal)) s.area it.refuses,
-          stands_same run s it.stands,
-        )
-
-    pub answers_lacking : (seen : R → M)
-        → ((chain : Chain) → chains.StandsFor old.index chain → LacksMemoryFor refusals (Holds (IsFullWith old.area longest_area command) chain) chain new.index)
-        → (run : RunState) → StandsFor old run → AnswersFor refusals (Holds (IsFullOf longest_area run command) (chain_of run)) seen run command (NoMemory new)
-    answers_lacking seen staging run s =
-        let it = staging (chain_of run) s.index in (
-          subst (λ (a : ℕ). HasNoneBelow (Holds (longest_area < a + record_length command) (chain_of run)) refusals.order refusals.before_memory) s.area it.takes_memory,
-          stands_same run s it.stands,
-        )
 
 -- ---- what was staged
 

@@ -12,10 +12,7 @@ use Rattle.disk_model.proofs.ImageLemmas.{IsSettled-image}
 use Rattle.gate_journal.specs.Gate.{ClosedAfter, record_text}
 use Rattle.gate_journal.specs.Records.{IsArea, records_text, image_front}
 use Rattle.gate_journal.proofs.RecordLemmas.{front-push}
-use Rattle.chain_state.specs.Chain.{Indexed}
-use Rattle.name_store.specs.Standing as chains
 use Rattle.name_store.proofs.ChainTips.{index_tip}
-use Rattle.chain_commands.specs.Chain.{Chain}
 use Rattle.chain_commands.specs.Event.{Command}
 use Rattle.chain_commands.specs.RunState.{RunState, chain_of, area_of, accepted}
 use Rattle.name_store.specs.Header.{header_text}

@@ -7,7 +7,7 @@ use Rattle.nmc_base.specs.declared.hashes.Hash32.{Hash32}
 use Rattle.nmc_base.specs.declared.chain_ends.Tip.{Tip}
 use Rattle.chain_state.specs.Chain.{Indexed, SameIndex, StagedIndex, IsStagedOn, IsConnected, IsAbandoned}
 use Rattle.chain_state.specs.Stage.{IsRefusal}
-use Rattle.chain_state.specs.StageBack.{IsStagedBackOn, IsBackRefusal, IsDisconnected}
+use Rattle.chain_state.specs.StageBack.{IsBackRefusal, IsDisconnected}
 use Rattle.chain_state.specs.declared.stage.Refusal.{Refusal}
 use Rattle.chain_state.specs.declared.stage.Refusal.TheVariants.{BadBlock, NotOnTip, HeightLimit, MerkleMismatch, Rule, JournalFull}
 use Rattle.chain_state.specs.declared.stage.StageOutcome.{StageOutcome}
@@ -18,7 +18,6 @@ use Rattle.chain_state.specs.declared.back.BackOutcome.{BackOutcome}
 use Rattle.chain_state.specs.declared.back.BackOutcome.TheVariants.{StagedBack, Refused as back_refused, NoMemory as back_memory}
 use Rattle.name_store.specs.declared.store.Outcome.{Outcome}
 use Rattle.name_store.specs.declared.store.Outcome.TheVariants as outcome
-use Rattle.name_store.specs.Stored.{Stored}
 
 -- ---- the bytes of a block
 

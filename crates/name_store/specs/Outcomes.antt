@@ -1,8 +1,8 @@
 -- What a command comes to: what it answers of every run state that the store stands for, and what it leaves of the disk. So it is
 -- of each kind of command, whose refusals and whose condition of each are given.
-use Rattle.std.specs.Prelude.{◌≡◌, ℕ, ◌+◌, ◌<◌, Bool, IsTrue, IsFalse}
+use Rattle.std.specs.Prelude.{ℕ, ◌+◌, ◌<◌, Bool, IsTrue, IsFalse}
 use Rattle.fault_counts.specs.Faults.{NeverFell}
-use Rattle.disk_model.specs.Moments.{Files, EachMoment}
+use Rattle.disk_model.specs.Moments.{EachMoment}
 use Rattle.disk_model.specs.Changes.{LeavesOthers}
 use Rattle.disk_model.specs.DiskSeen.{DiskSeen, HasFailed, bytes_in}
 use Rattle.nmc_base.specs.declared.chain_ends.Tip.{Tip}

@@ -1,5 +1,5 @@
 -- What staging a command answers, of every chain that the index stands for.
-use Rattle.std.specs.Prelude.{◌≡◌, ℕ, ◌+◌, ◌<◌, ◌≤◌, List}
+use Rattle.std.specs.Prelude.{ℕ, ◌+◌, ◌<◌, ◌≤◌, List}
 use Rattle.chain_state.specs.Chain.{Indexed, SameIndex, IsConnected, IsAbandoned}
 use Rattle.chain_state.specs.StageBack.{IsDisconnected}
 use Rattle.chain_state.specs.declared.stage.StageOutcome.{StageOutcome}

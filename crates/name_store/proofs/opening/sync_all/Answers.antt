@@ -1,4 +1,3 @@
-use Rattle.std.proofs.Common.{sym, ap, subst, ◌∙◌, arith}
 use Rattle.disk_model.proofs.ImageLemmas.{keeps_synced, keeps_then}
 use Rattle.disk_model.proofs.MomentLemmas.{last_moment}
 use Rattle.name_store.proofs.OpenLemmas.{all_synced}

@@ -1,10 +1,6 @@
 use Rattle.std.proofs.Common.{◌≡◌, ◌+◌, ◌∷◌, length, refl, sym, ◌∙◌, subst, arith}
-use Rattle.chain_state.specs.Chain.{IsConnected, IsAbandoned}
-use Rattle.disk_model.specs.DiskSeen.{DiskSeen}
 use Rattle.chain_commands.specs.Event.{Connect}
 use Rattle.chain_commands.specs.RunState.{longest_area}
-use Rattle.chain_commands.specs.Chain.{Chain}
-use Rattle.chain_commands.specs.Connecting.{Holds, connects as refusals}
 use Rattle.name_store.specs.Stored.{Stored, IsOn}
 use Rattle.name_store.specs.Stages.{IsFullWith}
 use Rattle.name_store.specs.ByIndex.{ConnectsOn}
@@ -13,7 +9,7 @@ use Rattle.name_store.specs.Connecting.{Connects}
 use Rattle.name_store.specs.declared.store.Outcome.TheVariants.{Done, Refused, NoMemory, Faulted}
 use Rattle.name_store.specs.Views.{refusal_of}
 use Rattle.name_store.proofs.ByIndexLemmas.{refused_base}
-use Rattle.name_store.proofs.OutcomeLemmas.{a_block, leaves_refused, leaves_lacking, keeps_refused, keeps_lacking, answers_refused, answers_lacking, valid_of, keeps_faulted, answers_done, keeps_done, leaves_faulted, leaves_done}
+use Rattle.name_store.proofs.OutcomeLemmas.{a_block, leaves_refused, leaves_lacking, keeps_refused, keeps_lacking, keeps_faulted, answers_done, keeps_done, leaves_faulted, leaves_done}
 use Rattle.name_store.proofs.store.Store.connect.Goals as goal
 
 pub returns-in-Refused-clause-leaves : goal.returns-in-Refused-clause-leaves

@@ -1,18 +1,13 @@
 use Rattle.std.proofs.Common.{rules, ◌≡◌, ◌+◌, ◌∷◌, length, refl, sym, ◌∙◌, subst, arith}
-use Rattle.chain_state.specs.Chain.{Indexed, SameIndex}
-use Rattle.chain_state.specs.StageBack.{IsDisconnected}
-use Rattle.disk_model.specs.DiskSeen.{DiskSeen}
 use Rattle.chain_commands.specs.Event.{Disconnect}
 use Rattle.chain_commands.specs.RunState.{longest_area}
-use Rattle.chain_commands.specs.Chain.{Chain}
-use Rattle.chain_commands.specs.Disconnecting.{HoldsBack, disconnects as refusals}
 use Rattle.name_store.specs.Stored.{Stored, IsOn}
 use Rattle.name_store.specs.Outcomes.{KeepsOn, LeavesDisk}
 use Rattle.name_store.specs.Disconnecting.{Disconnects}
 use Rattle.name_store.specs.declared.store.Outcome.TheVariants.{Done, Refused, NoMemory, Faulted}
 use Rattle.name_store.specs.Views.{back_refusal_of}
 use Rattle.name_store.proofs.ByIndexLemmas.{refused_hash_base}
-use Rattle.name_store.proofs.OutcomeLemmas.{a_hash, leaves_refused, leaves_lacking, keeps_refused, keeps_lacking, answers_refused, answers_lacking, valid_of, keeps_faulted, answers_done, keeps_done, leaves_faulted, leaves_done}
+use Rattle.name_store.proofs.OutcomeLemmas.{a_hash, leaves_refused, leaves_lacking, keeps_refused, keeps_lacking, keeps_faulted, answers_done, keeps_done, leaves_faulted, leaves_done}
 use Rattle.name_store.proofs.store.Store.disconnect.Goals as goal
 
 pub returns-in-Refused-clause-leaves : goal.returns-in-Refused-clause-leaves

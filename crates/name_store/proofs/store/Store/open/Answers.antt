@@ -9,10 +9,9 @@ use Rattle.nmc_base.specs.declared.chain_ends.Base.{Base}
 use Rattle.chain_commands.specs.RunState.{on_base}
 use Rattle.name_store.specs.Damage.{HasNoImage}
 use Rattle.name_store.specs.Header.{base_at, HasHeader}
-use Rattle.name_store.specs.Opening.{IsOpened, IsSynced, OpenAnswer}
+use Rattle.name_store.specs.Opening.{IsOpened, OpenAnswer}
 use Rattle.name_store.specs.Reading.{HasFollowedAll, AreaAnswer, FollowsArea}
-use Rattle.name_store.specs.Stored.{Stored}
-use Rattle.name_store.proofs.OpenLemmas.{HasOpened, still_synced, opened, area_bad, commands_bad}
+use Rattle.name_store.proofs.OpenLemmas.{still_synced, opened, area_bad, commands_bad}
 use Rattle.name_store.proofs.ReadingLemmas.{never_fell}
 use Rattle.name_store.proofs.FollowLaws.{opened_from}
 use Rattle.name_store.proofs.store.Store.open.Goals as goal
