@@ -2,6 +2,7 @@ ghost use Rattle.std.specs.Prelude.{◌≤◌};
 
 use crate::comparing::same;
 use chain_state::Chain;
+use dns_message::LEAST_LIMIT;
 use domain_text::{Name, absolute_name};
 use machine::{Answered, answer};
 use nmc_base::{Base, Hash32, NoMemory, Profile};
@@ -37,7 +38,7 @@ fn reply_of(
 ) -> usize
     ensures { result ≤ 512 }
 {
-    match answer(alloc, chain, host, message, buffer) {
+    match answer(alloc, chain, host, message, LEAST_LIMIT, buffer) {
         Answered::Dropped => 0,
         Answered::Text(size) => size,
     }

@@ -3,7 +3,7 @@ pub mod FileLemmas
 pub mod TurnLemmas
 pub mod ReachedLemmas
 pub mod AnsweringLemmas
-pub mod OutcomeLemmas
+pub mod DeterminedLemmas
 pub mod OpeningLemmas
 pub mod DumpingLemmas
 pub mod ServingLemmas

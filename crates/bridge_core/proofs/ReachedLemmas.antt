@@ -10,7 +10,7 @@ use Rattle.disk_model.specs.DiskSeen.{DiskSeen, HasFailed}
 use Rattle.disk_model.proofs.MomentLemmas.{last_moment, weaken, join}
 use Rattle.feed_frames.specs.Frames.{Frame}
 use Rattle.feed_frames.specs.Replies.{Reply}
-use Rattle.chain_commands.specs.Event.{Command, Event, Do, Ask, frame_of}
+use Rattle.chain_commands.specs.Event.{Command, Event, Do, Ask, event_frame}
 use Rattle.chain_commands.specs.RunState.{RunState, accepted, all_accepted}
 use Rattle.chain_commands.specs.Surviving.{accepted_of}
 use Rattle.machine.specs.Step.{Step, Run}
@@ -21,9 +21,9 @@ use Rattle.bridge_core.specs.Bridge.{accepted_by, AsksNothing, AnswersEvent, Are
 use Rattle.bridge_core.specs.Reached.{Beginning, Begins, Passes, none_yet, one_more, StandsForFront, StandsForAsked, Asked, asked, IsKept, LeavesFront, LeavesOldOrFront, HoldsAnswered, LeadsTo, IsReached, BreaksAt, IsBroken}
 use Rattle.bridge_core.specs.declared.bridge.Turned.TheVariants.{On, Ended}
 
-pub frames_push : (events : List Event) (event : Event) → map frame_of events ++ frame_of event ∷ [] ≡ map frame_of (events ++ event ∷ [])
+pub frames_push : (events : List Event) (event : Event) → map event_frame events ++ event_frame event ∷ [] ≡ map event_frame (events ++ event ∷ [])
 frames_push [] event = refl
-frames_push (e ∷ events) event = ap (λ (fs : List Frame). frame_of e ∷ fs) (frames_push events event)
+frames_push (e ∷ events) event = ap (λ (fs : List Frame). event_frame e ∷ fs) (frames_push events event)
 
 -- ---- what images stand for
 
@@ -118,21 +118,21 @@ step_undone old new last reply step undone = step_state old new last reply step 
 
 module _ {D : Type 0} (tells : Bool) (seen : D → DiskSeen) (begun : Beginning D) {frames : List Frame} {replies : List Reply} {old : Stored} {before : D}
     (r : IsReached tells seen begun frames replies old before) (event : Event) (reply : Reply) (after : D) where
-  frames_are : frames ++ frame_of event ∷ [] ≡ map frame_of (r.events ++ event ∷ [])
-  frames_are = ap (λ (fs : List Frame). fs ++ frame_of event ∷ []) r.frames_are ∙ frames_push r.events event
+  frames_are : frames ++ event_frame event ∷ [] ≡ map event_frame (r.events ++ event ∷ [])
+  frames_are = ap (λ (fs : List Frame). fs ++ event_frame event ∷ []) r.frames_are ∙ frames_push r.events event
 
   module _ (new : Stored) (a : AnswersEvent tells seen old before event reply (On new) after) (run : RunState) (b : Begins tells begun run) where
     abbrev led : LeadsTo r.passes run
     led = r.each run b
 
     abbrev next : RunState
-    next = (a.turns led.new led.stands).new
+    next = (a.step led.new led.stands).new
 
     abbrev with_event : Asked
     with_event = asked (r.events ++ event ∷ []) (replies ++ reply ∷ []) None
 
     runs_next : Run run (r.events ++ event ∷ []) (replies ++ reply ∷ []) next
-    runs_next = run_push run r.events replies led.new (record { event = event; reply = reply; next = next; step = (a.turns led.new led.stands).step }) led.runs
+    runs_next = run_push run r.events replies led.new (record { event = event; reply = reply; next = next; step = (a.step led.new led.stands).step }) led.runs
 
     -- what came of the event in the run state, and on the disk
     data Came : Type 0 where
@@ -141,13 +141,13 @@ module _ {D : Type 0} (tells : Bool) (seen : D → DiskSeen) (begun : Beginning 
 
     came_of : (e : Event) → event ≡ e → Came
     came_of (Do last) is =
-        let step : Step led.new (Do last) reply next = subst (λ (x : Event). Step led.new x reply next) is (a.turns led.new led.stands).step in
+        let step : Step led.new (Do last) reply next = subst (λ (x : Event). Step led.new x reply next) is (a.step led.new led.stands).step in
         elim (cases_eq reply.code 0) [
           | inl done ↦ joins (step_done led.new next last reply step (eq-eqb reply.code 0 done) ∙ ap (accepted_by led.new) (sym is)) done
           | inr undone ↦ leaves (step_undone led.new next last reply step (ne_eqb reply.code 0 undone)) (a.untouched (subst (λ (x : Event). AsksNothing x reply) (sym is) (undone, a.told)))
         ]
     came_of (Ask message) is =
-        let step : Step led.new (Ask message) reply next = subst (λ (x : Event). Step led.new x reply next) is (a.turns led.new led.stands).step in
+        let step : Step led.new (Ask message) reply next = subst (λ (x : Event). Step led.new x reply next) is (a.step led.new led.stands).step in
         leaves step.unchanged (a.untouched (subst (λ (x : Event). AsksNothing x reply) (sym is) tt))
 
     crashes : IsTrue tells → OutlivesCrashes led.new event (seen before) (seen after) reply
@@ -184,7 +184,7 @@ module _ {D : Type 0} (tells : Bool) (seen : D → DiskSeen) (begun : Beginning 
     leads_next = record {
       new = next;
       runs = runs_next;
-      stands = (a.turns led.new led.stands).stands;
+      stands = (a.step led.new led.stands).stands;
       files = λ told. files_by told came;
       any_moment = λ told.
           join (weaken (LeavesOldOrFront begun.before run with_event) (λ files leaves image_is is. elim (leaves image_is is) [
@@ -200,7 +200,7 @@ module _ {D : Type 0} (tells : Bool) (seen : D → DiskSeen) (begun : Beginning 
 
   -- the event was answered
   pub reached_by : (new : Stored) → AnswersEvent tells seen old before event reply (On new) after
-      → IsReached tells seen begun (frames ++ frame_of event ∷ []) (replies ++ reply ∷ []) new after
+      → IsReached tells seen begun (frames ++ event_frame event ∷ []) (replies ++ reply ∷ []) new after
   reached_by new a = record {
     events = r.events ++ event ∷ [];
     frames_are = frames_are;
@@ -234,7 +234,7 @@ module _ {D : Type 0} (tells : Bool) (seen : D → DiskSeen) (begun : Beginning 
       breaks_at = record {
         new = led_to.new;
         runs = led_to.runs;
-        valid = a.turns led_to.new led_to.stands;
+        valid = a.step led_to.new led_to.stands;
         files = λ told. last_moment (a.kept told led_to.new led_to.stands (led_to.files told).read).any_moment;
         any_moment = λ told.
             join (weaken (LeavesOldOrFront begun.before run keeping) (λ files leaves image_is is. elim (leaves image_is is) [
@@ -247,7 +247,7 @@ module _ {D : Type 0} (tells : Bool) (seen : D → DiskSeen) (begun : Beginning 
             (moments_broken told) (led_to.acknowledged told);
       }
 
-    pub broken_by : IsBroken tells seen begun (frames ++ frame_of event ∷ []) (replies ++ reply ∷ []) after
+    pub broken_by : IsBroken tells seen begun (frames ++ event_frame event ∷ []) (replies ++ reply ∷ []) after
     broken_by = record {
       events = r.events;
       last = event;

@@ -6,7 +6,7 @@ use Rattle.fault_counts.specs.Faults.{NeverFell, Rose}
 use Rattle.fault_counts.proofs.FaultLemmas.{NeverFell_refl, NeverFell_trans}
 use Rattle.byte_io.specs.Port.{Note, PortSeen, Adds, BindsTo, NotesFault}
 use Rattle.disk_model.specs.DiskSeen.{DiskSeen}
-use Rattle.port_loop.specs.Transcript.{Transcript, Attends}
+use Rattle.port_loop.specs.Transcript.{PollTranscript, Attends}
 use Rattle.port_loop.specs.declared.attending.Ending.{Ending}
 use Rattle.port_loop.specs.declared.attending.Ending.TheVariants as endings
 use Rattle.chain_commands.specs.Event.{last_kind}
@@ -20,7 +20,7 @@ use Rattle.bridge_core.specs.declared.bridge.Turned.TheVariants.{On}
 use Rattle.bridge_core.specs.declared.status.Status.TheVariants.{PortFault}
 use Rattle.bridge_core.specs.declared.words.Plan.{Plan}
 use Rattle.bridge_core.proofs.OpeningLemmas.{Unbegun, cause_of, begins_well}
-use Rattle.bridge_core.proofs.OutcomeLemmas.{reached_later}
+use Rattle.bridge_core.proofs.DeterminedLemmas.{reached_later}
 
 -- a run of `serve`, as contracts see it
 pub record Scene (D : Type 0) : Type 0 where
@@ -46,7 +46,7 @@ pub record Loop {D : Type 0} (s : Scene D) : Type 0 where
 
 module _ {D : Type 0} (s : Scene D) (l : Loop s) where
   abbrev EndsBy : Ending → Type 0
-  EndsBy how = Transcript last_kind (Reached s.tells s.seen) (Broken s.tells s.seen) s.plan.turns l.attends.notes (On l.begun.bridge, l.begun.opened) how (l.last, s.disk)
+  EndsBy how = PollTranscript last_kind (Reached s.tells s.seen) (Broken s.tells s.seen) s.plan.turns l.attends.notes (On l.begun.bridge, l.begun.opened) how (l.last, s.disk)
 
   added : Adds s.old.port.notes s.new.port.notes l.attends.notes
   added = λ after told.

@@ -60,7 +60,7 @@ module _ {D : Type 0} (tells : Bool) (seen : D → DiskSeen) {R M : Type 0} (ref
     command_done new tip d told =
         let zero : reply.code ≡ 0 = code_of reply (told_tip tip) told in
         record {
-          turns = λ run s.
+          step = λ run s.
               let on = d.answers run s in
               record {
                 new = accepted run command_is;
@@ -80,8 +80,8 @@ module _ {D : Type 0} (tells : Bool) (seen : D → DiskSeen) {R M : Type 0} (ref
         → ((run : RunState) → StandsFor old run → Moves run (Do command_is) reply new)
         → store.LeavesDisk tells (seen before) (seen after) (lacking new) → KeepsOn tells old command_is (seen before) (seen after) (lacking new)
         → AnswersEvent tells seen old before (Do command_is) reply (On new) after
-    command_not_done new other same turns leaves kept = record {
-      turns = turns;
+    command_not_done new other same step leaves kept = record {
+      step = step;
       told = other.no_fault;
       untouched = λ asks. same;
       leaves = record { later = leaves.later; ends = λ zero. absurd (other.not_done zero); others = leaves.others; still_on = leaves.still_on };
@@ -110,7 +110,7 @@ module _ {D : Type 0} (tells : Bool) (seen : D → DiskSeen) {R M : Type 0} (ref
     command_faulted d told =
         let code = code_of reply fault_reply told in
         record {
-          turns = λ run s. kind.valid run (d.answers run s);
+          step = λ run s. kind.valid run (d.answers run s);
           told = told;
           untouched = λ asks. absurd (asks.1 code);
           leaves = record { later = d.leaves.later; ends = d.leaves.failed; others = d.leaves.others; still_on = λ tell. tt };

@@ -44,12 +44,12 @@ pub record Moves (old : RunState) (event : Event) (reply : Reply) (bridge : Stor
   pub stands : StandsFor bridge new
 
 -- A bridge that goes on made one step of the machine. It ends only behind all refusals.
-abbrev pub TurnsFor : RunState → Event → Reply → Turned → Type 0
-TurnsFor run event reply (On bridge) = Moves run event reply bridge
-TurnsFor run event reply Ended = IsValidEvent run event
+abbrev pub MakesStepFor : RunState → Event → Reply → Turned → Type 0
+MakesStepFor run event reply (On bridge) = Moves run event reply bridge
+MakesStepFor run event reply Ended = IsValidEvent run event
 
-abbrev pub Turns : Stored → Event → Reply → Turned → Type 0
-Turns old event reply turned = (run : RunState) → StandsFor old run → TurnsFor run event reply turned
+abbrev pub MakesStep : Stored → Event → Reply → Turned → Type 0
+MakesStep old event reply turned = (run : RunState) → StandsFor old run → MakesStepFor run event reply turned
 
 -- code FD is the reply exactly where the bridge has ended, and it has no payload
 abbrev pub TellsFault : Reply → Turned → Type 0
@@ -104,7 +104,7 @@ Keeps tells old event before after reply =
 
 -- one event was answered, by the bridge over the disk as it was
 pub record AnswersEvent {D : Type 0} (tells : Bool) (seen : D → DiskSeen) (old : Stored) (before : D) (event : Event) (reply : Reply) (turned : Turned) (after : D) : Type 0 where
-  pub turns : Turns old event reply turned
+  pub step : MakesStep old event reply turned
   pub told : TellsFault reply turned
   pub untouched : AsksNothing event reply → after ≡ before
   pub leaves : LeavesDisk tells (seen before) (seen after) event reply turned

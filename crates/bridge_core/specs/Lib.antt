@@ -3,7 +3,7 @@ pub mod Bridge
 pub mod Reached
 pub mod Statuses
 pub mod Opening
-pub mod Outcome
+pub mod Determined
 pub mod Replaying
 pub mod Dumping
 pub mod Serving

@@ -5,7 +5,7 @@ use Rattle.disk_model.specs.Moments.{Files, EachMoment, IsImage}
 use Rattle.disk_model.specs.DiskSeen.{DiskSeen, HasFailed, bytes_in}
 use Rattle.feed_frames.specs.Frames.{Frame}
 use Rattle.feed_frames.specs.Replies.{Reply}
-use Rattle.chain_commands.specs.Event.{Event, frame_of}
+use Rattle.chain_commands.specs.Event.{Event, event_frame}
 use Rattle.chain_commands.specs.RunState.{RunState}
 use Rattle.machine.specs.Step.{Run}
 use Rattle.name_store.specs.Stands.{Bytes, Stands, EachStandsForEither}
@@ -100,7 +100,7 @@ pub record LeadsTo {D : Type 0} {tells : Bool} {seen : D → DiskSeen} {start : 
 -- the frames are events, which were answered by these replies, and of every run state that the run began at
 pub record IsReached {D : Type 0} (tells : Bool) (seen : D → DiskSeen) (start : Beginning D) (frames : List Frame) (replies : List Reply) (bridge : Stored) (disk : D) : Type 0 where
   pub events : List Event
-  pub frames_are : frames ≡ map frame_of events
+  pub frames_are : frames ≡ map event_frame events
   pub passes : Passes tells seen start events replies bridge disk
   pub later : NeverFell start.before.faults (seen disk).faults
   pub each : (run : RunState) → Begins tells start run → LeadsTo passes run
@@ -127,7 +127,7 @@ pub record IsBroken {D : Type 0} (tells : Bool) (seen : D → DiskSeen) (start :
   pub answered : List Reply
   pub bridge : Stored
   pub before : D
-  pub frames_are : frames ≡ map frame_of (events ++ last ∷ [])
+  pub frames_are : frames ≡ map event_frame (events ++ last ∷ [])
   pub replies_are : replies ≡ answered ++ fault_reply ∷ []
   pub passes : Passes tells seen start events answered bridge before
   pub ends : AnswersEvent tells seen bridge before last fault_reply Ended disk

@@ -8,7 +8,7 @@ use Rattle.frame_loop.specs.declared.following.Ending.TheVariants as endings
 use Rattle.chain_commands.specs.Event.{last_kind}
 use Rattle.bridge_core.specs.Reached.{Beginning, Reached, Broken}
 use Rattle.bridge_core.specs.Opening.{IsUnbegun, HasOpened, WritesNothing}
-use Rattle.bridge_core.specs.Outcome.{Outside, IsDetermined, IsComplete}
+use Rattle.bridge_core.specs.Determined.{Outside, IsDetermined, IsComplete}
 use Rattle.bridge_core.specs.declared.bridge.Turned.{Turned}
 use Rattle.bridge_core.specs.declared.status.Status.{Status}
 use Rattle.bridge_core.specs.declared.status.Status.TheVariants.{Done, BadFrame, CutFrame, DiskFault, SourceFault, SinkFault, InputLimit}

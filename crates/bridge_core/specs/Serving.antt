@@ -3,7 +3,7 @@ use Rattle.std.specs.Prelude.{◌≡◌, ◌⊎◌, Bool, IsTrue, List, [], Some
 use Rattle.fault_counts.specs.Faults.{NeverFell, Rose}
 use Rattle.byte_io.specs.Port.{Note, PortSeen, Adds, NotesFault}
 use Rattle.disk_model.specs.DiskSeen.{DiskSeen, bytes_in}
-use Rattle.port_loop.specs.Transcript.{Transcript}
+use Rattle.port_loop.specs.Transcript.{PollTranscript}
 use Rattle.port_loop.specs.declared.attending.Ending.{Ending}
 use Rattle.port_loop.specs.declared.attending.Ending.TheVariants as endings
 use Rattle.chain_commands.specs.Event.{last_kind}
@@ -42,7 +42,7 @@ pub record ServesSo {D : Type 0} (tells : Bool) (seen : D → DiskSeen) (disk : 
   pub added : Adds old.port.notes new.port.notes notes
   pub at_first : Reached tells seen start [] [] (On start.bridge, start.opened)
   pub last : Turned
-  pub transcript : Transcript last_kind (Reached tells seen) (Broken tells seen) plan.turns notes (On start.bridge, start.opened) how (last, disk)
+  pub transcript : PollTranscript last_kind (Reached tells seen) (Broken tells seen) plan.turns notes (On start.bridge, start.opened) how (last, disk)
 
 -- the files were opened, and nothing came of it
 pub record StaysOpened (tells : Bool) (old new : DiskSeen) : Type 0 where

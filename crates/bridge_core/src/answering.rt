@@ -1,5 +1,5 @@
 ghost use Rattle.frame_loop.specs.Turns as loops;
-ghost use Rattle.chain_commands.specs.Event.{Ask, Do, frame_of};
+ghost use Rattle.chain_commands.specs.Event.{Ask, Do, event_frame};
 ghost use Rattle.bridge_core.specs.Reached.{Ready, Reached, Broken};
 ghost use Rattle.bridge_core.specs.Views.{command_of, IsWithinLimits};
 
@@ -24,7 +24,7 @@ fn deal<D: Disk, L: Ledger>(
 ) -> Result<(), Over>
     requires within { IsWithinLimits command }
     requires ready { Ready D.tells D.seen (turned.old, disk.old) }
-    ensures { loops.Turns (Ready D.tells D.seen) (Reached D.tells D.seen) (Broken D.tells D.seen) (turned.old, disk.old) (frame_of (Do (command_of command.entry))) reply.new (turned.new, disk.new) result }
+    ensures { loops.Turns (Ready D.tells D.seen) (Reached D.tells D.seen) (Broken D.tells D.seen) (turned.old, disk.old) (event_frame (Do (command_of command.entry))) reply.new (turned.new, disk.new) result }
 {
     match mem::replace(turned, Turned::Ended) {
         Turned::Ended => Err(Over),
@@ -47,7 +47,7 @@ fn ask<D: Disk>(
     reply: &mut ReplyBuf,
 ) -> Result<(), Over>
     requires ready { Ready D.tells D.seen (turned.old, disk.now) }
-    ensures { loops.Turns (Ready D.tells D.seen) (Reached D.tells D.seen) (Broken D.tells D.seen) (turned.old, disk.now) (frame_of (Ask message.now)) reply.new (turned.new, disk.now) result }
+    ensures { loops.Turns (Ready D.tells D.seen) (Reached D.tells D.seen) (Broken D.tells D.seen) (turned.old, disk.now) (event_frame (Ask message.now)) reply.new (turned.new, disk.now) result }
 {
     let _ = disk;
     match turned {

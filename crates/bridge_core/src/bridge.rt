@@ -8,7 +8,7 @@ ghost use Rattle.chain_commands.specs.RunState.{RunState};
 ghost use Rattle.name_report.specs.Report.{Reports, reported_by};
 ghost use Rattle.name_store.specs.Opening.{IsSynced, OpenAnswer};
 ghost use Rattle.name_store.specs.Stored.{StandsFor, IsOn};
-ghost use Rattle.bridge_core.specs.Bridge.{AnswersEvent, IsCheapTurn, Turns, fault_code};
+ghost use Rattle.bridge_core.specs.Bridge.{AnswersEvent, IsCheapTurn, MakesStep, fault_code};
 ghost use Rattle.bridge_core.specs.Dumping.{reported_of};
 ghost use Rattle.bridge_core.specs.Views.{command_of, IsWithinLimits};
 
@@ -167,7 +167,7 @@ impl Bridge {
     /// Answers a message of DNS from the names that the chain serves: code 8 is that of one that gets no reply, and code 0 of
     /// all others, whose reply is the payload, SERVFAIL for want of memory. It asks nothing of the disk.
     pub fn query(&mut self, alloc: Global, message: &[u8], reply: &mut ReplyBuf)
-        ensures turns { Turns self.old (Ask message.now) reply.new (Turned.On self.new) }
+        ensures step { MakesStep self.old (Ask message.now) reply.new (Turned.On self.new) }
         ensures no_fault { reply.new.code ≢ fault_code }
         ensures same { self.new ≡ self.old }
     {

@@ -2,7 +2,7 @@ ghost use Rattle.std.specs.Prelude.{◌≡◌, ◌↔◌, ◌^◌, List, ℕ};
 ghost use Rattle.nmc_base.specs.declared.chain_ends.Base.{Base};
 ghost use Rattle.frame_loop.specs.Transcript.{streams};
 ghost use Rattle.bridge_core.specs.Words.{Asks, AsksForFiles, AsksToServe, Spares};
-ghost use Rattle.bridge_core.specs.Outcome.{outside};
+ghost use Rattle.bridge_core.specs.Determined.{outside};
 ghost use Rattle.bridge_core.specs.Making.{Inits};
 ghost use Rattle.bridge_core.specs.Replaying.{Replays};
 ghost use Rattle.bridge_core.specs.Dumping.{Dumps, dump_seen};

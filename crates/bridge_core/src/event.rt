@@ -1,6 +1,6 @@
 ghost use Rattle.std.specs.Prelude.{◌≡◌};
 ghost use Rattle.feed_frames.specs.Front as feed;
-ghost use Rattle.chain_commands.specs.Event.{frame_of, last_kind};
+ghost use Rattle.chain_commands.specs.Event.{event_frame, last_kind};
 ghost use Rattle.frame_loop.specs.Turns.{IsAskable};
 ghost use Rattle.bridge_core.specs.Views.{event_of, IsReadable};
 
@@ -32,7 +32,7 @@ const CONNECT: u8 = 1;
 /// The event of a whole frame.
 pub(crate) fn read_event(frame: Frame<'_>) -> Event<'_>
     requires { IsAskable last_kind (feed.frame_of frame) }
-    ensures same { frame_of (event_of result) ≡ feed.frame_of frame.entry }
+    ensures same { event_frame (event_of result) ≡ feed.frame_of frame.entry }
     ensures within { IsReadable result }
 {
     if frame.kind == CONNECT {

@@ -3,6 +3,7 @@
 
 mod answering;
 mod bridge;
+mod codes;
 mod command;
 mod dumping;
 mod event;

@@ -1,6 +1,6 @@
 ghost use Rattle.std.specs.Prelude.{◌≡◌, ◌<◌, ◌≤◌, ◌^◌};
 ghost use Rattle.frame_loop.specs.Transcript.{streams};
-ghost use Rattle.bridge_core.specs.Outcome.{outside};
+ghost use Rattle.bridge_core.specs.Determined.{outside};
 ghost use Rattle.bridge_core.specs.Replaying.{Replays, status_of_ending};
 
 use crate::bridge::{Bridge, Turned};

@@ -8,6 +8,7 @@ ghost use Rattle.chain_commands.specs.Disconnecting.{back_reply};
 ghost use Rattle.name_store.specs.Views.{refusal_of, back_refusal_of};
 ghost use Rattle.bridge_core.specs.Bridge.{fault_reply};
 
+use crate::codes;
 use chain_state::{BackRefusal, Refusal};
 use frame_loop::ReplyBuf;
 use nmc_base::Tip;
@@ -16,7 +17,7 @@ use nmc_base::Tip;
 pub(crate) fn accept(reply: &mut ReplyBuf, tip: &Tip)
     ensures { reply.new ≡ record { code = 0; payload = to_le_bytes w32 tip.now.height ++ tip.now.hash.0 } }
 {
-    reply.set(0, &tip.height.to_le_bytes(), &tip.hash.0);
+    reply.set(codes::DONE, &tip.height.to_le_bytes(), &tip.hash.0);
 }
 
 /// The code of a connect's refusal with its payload.
@@ -24,12 +25,12 @@ pub(crate) fn refuse(reply: &mut ReplyBuf, refusal: &Refusal)
     ensures { reply.new ≡ refusal_reply (refusal_of refusal.now) }
 {
     match refusal {
-        Refusal::BadBlock { at } => reply.set(1, &at.to_le_bytes(), &[]),
-        Refusal::NotOnTip { tip } => reply.set(2, &tip.0, &[]),
-        Refusal::HeightLimit => reply.set(4, &[], &[]),
-        Refusal::MerkleMismatch { computed } => reply.set(3, &computed.0, &[]),
+        Refusal::BadBlock { at } => reply.set(codes::BAD_BLOCK, &at.to_le_bytes(), &[]),
+        Refusal::NotOnTip { tip } => reply.set(codes::NOT_ON_TIP, &tip.0, &[]),
+        Refusal::HeightLimit => reply.set(codes::HEIGHT_LIMIT, &[], &[]),
+        Refusal::MerkleMismatch { computed } => reply.set(codes::MERKLE_MISMATCH, &computed.0, &[]),
         Refusal::Rule { tx, refusal } => reply.set(refusal.number(), &tx.to_le_bytes(), &[]),
-        Refusal::JournalFull => reply.set(5, &[], &[]),
+        Refusal::JournalFull => reply.set(codes::JOURNAL_FULL, &[], &[]),
     }
 }
 
@@ -38,9 +39,9 @@ pub(crate) fn refuse_back(reply: &mut ReplyBuf, refusal: &BackRefusal)
     ensures { reply.new ≡ back_reply (back_refusal_of refusal.now) }
 {
     match refusal {
-        BackRefusal::AtBase => reply.set(7, &[], &[]),
-        BackRefusal::NotTip { tip } => reply.set(6, &tip.0, &[]),
-        BackRefusal::JournalFull => reply.set(5, &[], &[]),
+        BackRefusal::AtBase => reply.set(codes::AT_BASE, &[], &[]),
+        BackRefusal::NotTip { tip } => reply.set(codes::NOT_TIP, &tip.0, &[]),
+        BackRefusal::JournalFull => reply.set(codes::JOURNAL_FULL, &[], &[]),
     }
 }
 
@@ -48,12 +49,12 @@ pub(crate) fn refuse_back(reply: &mut ReplyBuf, refusal: &BackRefusal)
 pub(crate) fn lack_memory(reply: &mut ReplyBuf)
     ensures { reply.new ≡ no_memory_reply }
 {
-    reply.set(0xFE, &[], &[]);
+    reply.set(codes::NO_MEMORY, &[], &[]);
 }
 
 /// Code FD, a fault of the disk.
 pub(crate) fn tell_fault(reply: &mut ReplyBuf)
     ensures { reply.new ≡ fault_reply }
 {
-    reply.set(0xFD, &[], &[]);
+    reply.set(codes::DISK_FAULT, &[], &[]);
 }

@@ -19,7 +19,7 @@ abbrev pub last_kind : ℕ
 last_kind = 3
 
 -- each kind of frame is one kind of event
-abbrev pub frame_of : Event → Frame
-frame_of (Do (Connect block)) = record { kind = 1; payload = block }
-frame_of (Do (Disconnect hash)) = record { kind = 2; payload = hash }
-frame_of (Ask message) = record { kind = 3; payload = message }
+abbrev pub event_frame : Event → Frame
+event_frame (Do (Connect block)) = record { kind = 1; payload = block }
+event_frame (Do (Disconnect hash)) = record { kind = 2; payload = hash }
+event_frame (Ask message) = record { kind = 3; payload = message }

@@ -2,15 +2,15 @@
 
 ghost use Rattle.std.specs.Prelude.{◌≡◌, List, ℕ};
 ghost use Rattle.feed_frames.specs.Frames.{Frame, IsFramed};
-ghost use Rattle.chain_commands.specs.Event.{Connect, Disconnect, Event, frame_of, last_kind};
+ghost use Rattle.chain_commands.specs.Event.{Connect, Disconnect, Event, event_frame, last_kind};
 ghost use Rattle.chain_commands.specs.RunState.{RunState, chain_of, IsFull};
 ghost use Rattle.chain_commands.specs.Connecting.{Refusal, Refuses};
 ghost use Rattle.chain_commands.specs.Disconnecting.{BackRefusal, RefusesBack};
 
 /// Each whole frame is one event.
 pub fn one_event()
-    ensures some { (frame : Frame) → IsFramed last_kind frame → (event : Event) × (frame_of event ≡ frame) }
-    ensures one { (event other : Event) → frame_of event ≡ frame_of other → event ≡ other }
+    ensures some { (frame : Frame) → IsFramed last_kind frame → (event : Event) × (event_frame event ≡ frame) }
+    ensures one { (event other : Event) → event_frame event ≡ event_frame other → event ≡ other }
 {}
 
 /// A command has one refusal at most: the order of the conditions decides.

@@ -1,4 +1,4 @@
 pub mod DeliveryLemmas
 pub mod DeskLemmas
 pub mod StreamLemmas
-pub mod OutcomeLemmas
+pub mod DeterminedLemmas

@@ -6,4 +6,4 @@ pub mod Delivery
 pub mod Filling
 pub mod Answering
 pub mod Transcript
-pub mod Outcome
+pub mod Determined

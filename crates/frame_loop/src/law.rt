@@ -1,5 +1,5 @@
 ghost use Rattle.frame_loop.specs.Transcript.{Streams, Transcript};
-ghost use Rattle.frame_loop.specs.Outcome.{IsDetermined, IsComplete};
+ghost use Rattle.frame_loop.specs.Determined.{IsDetermined, IsComplete};
 ghost use Rattle.frame_loop.specs.declared.following.Ending.{Ending};
 ghost use Rattle.feed_frames.specs.Frames.{Frame};
 ghost use Rattle.feed_frames.specs.Replies.{Reply};

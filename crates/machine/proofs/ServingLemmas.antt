@@ -7,7 +7,6 @@ use Rattle.chain_names.specs.Index.{served_value}
 use Rattle.chain_names.specs.Tables.{names_in}
 use Rattle.chain_state.specs.Chain.{Indexed}
 use Rattle.chain_state.specs.Standing.{StandsForChain, chain_maps}
-use Rattle.dns_message.specs.declared.numbers.TheConstants.{LEAST_LIMIT}
 use Rattle.bit_resolver.specs.Replies.{MayReply}
 use Rattle.machine.specs.Serving.{served_by, served_on, zone_at, MayReplyBy, MayReplyOn}
 
@@ -18,7 +17,7 @@ module _ (base : Base) (start : Log) (blocks : List (List ℕ)) (c : Indexed) (s
       ∙ ap (λ (m : Maps). served_value base.profile m.names c.tip.height) s.maps
       ∙ ap (served_value base.profile (chain_maps base start blocks).names) s.height
 
-  pub may_reply_on : (host bytes : List ℕ) (reply : Option (List ℕ)) → MayReplyBy c host bytes reply → MayReplyOn base start blocks host bytes reply
-  may_reply_on host bytes reply may =
-      subst (λ live. MayReply live (zone_at host (base.height + length blocks)) LEAST_LIMIT bytes reply) same_served
-      (subst (λ height. MayReply (served_by c) (zone_at host height) LEAST_LIMIT bytes reply) s.height may)
+  pub may_reply_on : (host : List ℕ) (limit : ℕ) (bytes : List ℕ) (reply : Option (List ℕ)) → MayReplyBy c host limit bytes reply → MayReplyOn base start blocks host limit bytes reply
+  may_reply_on host limit bytes reply may =
+      subst (λ live. MayReply live (zone_at host (base.height + length blocks)) limit bytes reply) same_served
+      (subst (λ height. MayReply (served_by c) (zone_at host height) limit bytes reply) s.height may)

@@ -5,7 +5,6 @@ use Rattle.chain_names.specs.Index.{served_value}
 use Rattle.chain_names.specs.Log.{log_of}
 use Rattle.domain_text.specs.Host.{IsAbsoluteHost}
 use Rattle.import_expand.specs.Sources.{Live}
-use Rattle.dns_message.specs.declared.numbers.TheConstants.{LEAST_LIMIT}
 use Rattle.bit_resolver.specs.declared.zone.Zone.{Zone}
 use Rattle.bit_resolver.specs.Replies.{MayReply}
 use Rattle.feed_frames.specs.Replies.{Reply}
@@ -25,12 +24,12 @@ abbrev pub query_reply : Option (List ℕ) → Reply
 query_reply None = record { code = 8; payload = [] }
 query_reply (Some text) = record { code = 0; payload = text }
 
--- The message gets its reply from the names that the chain serves, of at most as many bytes as a datagram has room for
--- (RFC 1035, 4.2.1); or SERVFAIL for want of memory, where it asks a question.
-pub record Queries (old : RunState) (message : List ℕ) (reply : Reply) (new : RunState) : Type 0 where
+-- The message gets its reply from the names that the chain serves, of at most so many bytes; or SERVFAIL for want of memory, where
+-- it asks a question.
+pub record Queries (limit : ℕ) (old : RunState) (message : List ℕ) (reply : Reply) (new : RunState) : Type 0 where
   pub unchanged : new ≡ old
   pub host : List ℕ
   pub is_host : IsAbsoluteHost old.host host
   pub answer : Option (List ℕ)
-  pub answers : MayReply (served_on (chain_of old)) (zone_on host (chain_of old)) LEAST_LIMIT message answer
+  pub answers : MayReply (served_on (chain_of old)) (zone_on host (chain_of old)) limit message answer
   pub told : reply ≡ query_reply answer

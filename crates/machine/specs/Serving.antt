@@ -7,7 +7,6 @@ use Rattle.chain_names.specs.Index.{served_value}
 use Rattle.chain_names.specs.Tables.{names_in}
 use Rattle.chain_state.specs.Chain.{Indexed}
 use Rattle.import_expand.specs.Sources.{Live}
-use Rattle.dns_message.specs.declared.numbers.TheConstants.{LEAST_LIMIT}
 use Rattle.bit_resolver.specs.declared.zone.Zone.{Zone}
 use Rattle.bit_resolver.specs.Replies.{MayReply}
 
@@ -23,11 +22,10 @@ served_on base start blocks = served_value base.profile (history_of (log_of star
 abbrev pub zone_at : List ℕ → ℕ → Zone
 zone_at host height = record { host = host; serial = height }
 
--- What a message over UDP may be answered with from an index (RFC 1035, 4.2.1).
-abbrev pub MayReplyBy : Indexed → List ℕ → List ℕ → Option (List ℕ) → Type 0
-MayReplyBy c host bytes reply = MayReply (served_by c) (zone_at host c.tip.height) LEAST_LIMIT bytes reply
+-- What a message may be answered with from an index, in so many bytes at most.
+abbrev pub MayReplyBy : Indexed → List ℕ → ℕ → List ℕ → Option (List ℕ) → Type 0
+MayReplyBy c host = MayReply (served_by c) (zone_at host c.tip.height)
 
 -- the same from a chain
-abbrev pub MayReplyOn : Base → Log → List (List ℕ) → List ℕ → List ℕ → Option (List ℕ) → Type 0
-MayReplyOn base start blocks host bytes reply =
-    MayReply (served_on base start blocks) (zone_at host (base.height + length blocks)) LEAST_LIMIT bytes reply
+abbrev pub MayReplyOn : Base → Log → List (List ℕ) → List ℕ → ℕ → List ℕ → Option (List ℕ) → Type 0
+MayReplyOn base start blocks host = MayReply (served_on base start blocks) (zone_at host (base.height + length blocks))

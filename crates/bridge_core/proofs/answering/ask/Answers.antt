@@ -1,8 +1,8 @@
 use Rattle.std.proofs.Common.{◌≡◌, sym, ap, subst}
 use Rattle.frame_loop.specs.Turns.{GoesOn}
-use Rattle.chain_commands.specs.Event.{Ask, frame_of}
+use Rattle.chain_commands.specs.Event.{Ask, event_frame}
 use Rattle.name_store.specs.Stored.{Stored}
-use Rattle.bridge_core.specs.Bridge.{Turns}
+use Rattle.bridge_core.specs.Bridge.{MakesStep}
 use Rattle.bridge_core.specs.Reached.{IsReady, Ready, Reached}
 use Rattle.bridge_core.specs.declared.bridge.Turned.{Turned}
 use Rattle.bridge_core.specs.declared.bridge.Turned.TheVariants.{On}
@@ -19,7 +19,7 @@ returns-in-On g c =
     let reply = c.query.new.reply in
     let same : c.query.new.self ≡ bridge = c.query.ensures.same in
     let ready = subst (λ (t : Turned). IsReady tells t (seen disk)) c.in-On.is c.requires.ready in
-    let turns = subst (λ (b : Stored). Turns bridge (Ask message) reply (On b)) same c.query.ensures.turns in
-    subst (λ (t : Turned). GoesOn (Ready tells seen) (Reached tells seen) (t, disk) (frame_of (Ask message)) reply (On c.query.new.self, disk)) (sym c.in-On.is)
-    (subst (λ (b : Stored). GoesOn (Ready tells seen) (Reached tells seen) (On bridge, disk) (frame_of (Ask message)) reply (On b, disk)) (sym same)
-    (goes_on_by tells seen disk disk bridge reply (Ask message) bridge (asked_answers tells seen disk bridge reply message ready turns c.query.ensures.no_fault)))
+    let step = subst (λ (b : Stored). MakesStep bridge (Ask message) reply (On b)) same c.query.ensures.step in
+    subst (λ (t : Turned). GoesOn (Ready tells seen) (Reached tells seen) (t, disk) (event_frame (Ask message)) reply (On c.query.new.self, disk)) (sym c.in-On.is)
+    (subst (λ (b : Stored). GoesOn (Ready tells seen) (Reached tells seen) (On bridge, disk) (event_frame (Ask message)) reply (On b, disk)) (sym same)
+    (goes_on_by tells seen disk disk bridge reply (Ask message) bridge (asked_answers tells seen disk bridge reply message ready step c.query.ensures.no_fault)))

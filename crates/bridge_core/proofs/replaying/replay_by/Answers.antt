@@ -3,12 +3,12 @@ use Rattle.disk_model.specs.DiskSeen.{bytes_in}
 use Rattle.frame_loop.specs.Transcript.{streams}
 use Rattle.name_store.proofs.FollowLaws.{opens_for}
 use Rattle.bridge_core.specs.Opening.{HasOpened}
-use Rattle.bridge_core.specs.Outcome.{outside}
+use Rattle.bridge_core.specs.Determined.{outside}
 use Rattle.bridge_core.specs.Reached.{Beginning}
 use Rattle.bridge_core.specs.Replaying.{Replays}
 use Rattle.bridge_core.specs.declared.status.Status.{Status}
 use Rattle.bridge_core.proofs.OpeningLemmas.{first_reached}
-use Rattle.bridge_core.proofs.OutcomeLemmas.{replays_loop, replays_unbegun}
+use Rattle.bridge_core.proofs.DeterminedLemmas.{replays_loop, replays_unbegun}
 use Rattle.bridge_core.proofs.replaying.replay_by.Goals as goal
 
 pub returns-in-Ok : goal.returns-in-Ok

@@ -4,8 +4,8 @@ use Rattle.disk_model.specs.Moments.{start}
 use Rattle.disk_model.proofs.ImageLemmas.{keeps_unchanged}
 use Rattle.frame_loop.specs.Transcript.{streams}
 use Rattle.name_store.specs.declared.faults.OpenFault.TheVariants.{NoMemory}
-use Rattle.bridge_core.specs.Outcome.{outside}
-use Rattle.bridge_core.proofs.OutcomeLemmas.{replays_unbegun}
+use Rattle.bridge_core.specs.Determined.{outside}
+use Rattle.bridge_core.proofs.DeterminedLemmas.{replays_unbegun}
 use Rattle.bridge_core.proofs.StatusLemmas.{memory_not_fault}
 use Rattle.bridge_core.proofs.replaying.replay_counted.Goals as goal
 

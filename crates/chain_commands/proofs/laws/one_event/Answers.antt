@@ -1,9 +1,9 @@
 use Rattle.std.proofs.Common.{◌≡◌, refl, ap, arith, inl, inr}
 use Rattle.feed_frames.specs.Frames.{Frame, IsFramed}
-use Rattle.chain_commands.specs.Event.{Event, Connect, Disconnect, Do, Ask, frame_of, last_kind}
+use Rattle.chain_commands.specs.Event.{Event, Connect, Disconnect, Do, Ask, event_frame, last_kind}
 use Rattle.chain_commands.proofs.laws.one_event.Goals as goal
 
-some_event : (frame : Frame) → IsFramed last_kind frame → (event : Event) × (frame_of event ≡ frame)
+some_event : (frame : Frame) → IsFramed last_kind frame → (event : Event) × (event_frame event ≡ frame)
 some_event frame (low, inl h) = (Do (Connect frame.payload), rw h.of_kind refl)
 some_event frame (low, inr (inl h)) = (Do (Disconnect frame.payload), rw h.of_kind refl)
 some_event frame (low, inr (inr (inl h))) = (Ask frame.payload, rw h.of_kind refl)
@@ -15,7 +15,7 @@ payload_of a b e = ap (λ (f : Frame). f.payload) e
 kind_of : (a b : Frame) → a ≡ b → a.kind ≡ b.kind
 kind_of a b e = ap (λ (f : Frame). f.kind) e
 
-same_event : (a b : Event) → frame_of a ≡ frame_of b → a ≡ b
+same_event : (a b : Event) → event_frame a ≡ event_frame b → a ≡ b
 same_event (Do (Connect a)) (Do (Connect b)) e = ap (λ block. Do (Connect block)) (payload_of _ _ e)
 same_event (Do (Disconnect a)) (Do (Disconnect b)) e = ap (λ hash. Do (Disconnect hash)) (payload_of _ _ e)
 same_event (Ask a) (Ask b) e = ap Ask (payload_of _ _ e)

@@ -1,4 +1,4 @@
-use Rattle.frame_loop.proofs.OutcomeLemmas.{determined, complete}
+use Rattle.frame_loop.proofs.DeterminedLemmas.{determined, complete}
 use Rattle.frame_loop.proofs.law.one_ending.Goals as goal
 
 pub returns-clause-determined : goal.returns-clause-determined

@@ -10,8 +10,8 @@ use Rattle.feed_frames.specs.Replies.{Reply}
 use Rattle.feed_frames.proofs.SplittingLemmas.{SameSplitting, are_parts, same_splitting, splitting, splits_more, bad_then}
 use Rattle.frame_loop.specs.Causes.{SinkCause, failing, stalling}
 use Rattle.frame_loop.specs.Transcript.{SoFar, Streams, Transcript}
-use Rattle.frame_loop.specs.Outcome.{NothingFailed, IsDetermined, IsComplete, IsOutcome, whole, cut, over, broken, EndsWell, all_answered, ended_before}
-use Rattle.frame_loop.specs.Outcome as outcomes
+use Rattle.frame_loop.specs.Determined.{NothingFailed, IsDetermined, IsComplete, IsOutcome, whole, cut, over, broken, EndsWell, all_answered, ended_before}
+use Rattle.frame_loop.specs.Determined as outcomes
 use Rattle.frame_loop.specs.declared.following.Ending.{Ending}
 use Rattle.frame_loop.specs.declared.following.Ending.TheVariants.{Done, BadFrame, CutFrame, SourceFault, SinkFault, Ended, InputLimit}
 

@@ -4,8 +4,8 @@ use Rattle.fault_counts.specs.Faults.{Rose}
 use Rattle.disk_model.specs.DiskSeen.{DiskSeen, bytes_in}
 use Rattle.feed_frames.specs.Frames.{Frame, Splits, IsRest}
 use Rattle.frame_loop.specs.Transcript.{Streams}
-use Rattle.frame_loop.specs.Outcome as loops
-use Rattle.frame_loop.specs.Outcome.{IsWhole, IsBadAt, IsCutAt, IsOverLimit}
+use Rattle.frame_loop.specs.Determined as loops
+use Rattle.frame_loop.specs.Determined.{IsWhole, IsBadAt, IsCutAt, IsOverLimit}
 use Rattle.chain_commands.specs.Event.{last_kind}
 use Rattle.chain_commands.specs.RunState.{RunState}
 use Rattle.name_store.specs.Stands.{Stands}

@@ -8,15 +8,15 @@ use Rattle.feed_frames.specs.Frames.{Frame}
 use Rattle.feed_frames.specs.Replies.{Reply}
 use Rattle.frame_loop.specs.Transcript as loops
 use Rattle.frame_loop.specs.Transcript.{Transcript, passed}
-use Rattle.frame_loop.specs.Outcome as outcomes
+use Rattle.frame_loop.specs.Determined as outcomes
 use Rattle.frame_loop.specs.declared.following.Ending.{Ending}
 use Rattle.frame_loop.specs.declared.following.Ending.TheVariants as endings
-use Rattle.frame_loop.proofs.OutcomeLemmas as loop_outcomes
+use Rattle.frame_loop.proofs.DeterminedLemmas as loop_outcomes
 use Rattle.chain_commands.specs.Event.{last_kind}
 use Rattle.name_store.specs.declared.faults.OpenFault.{OpenFault}
 use Rattle.name_store.specs.declared.faults.OpenFault.TheVariants as faults
 use Rattle.bridge_core.specs.Reached.{Beginning, HasReached, Reached, Broken, IsBroken}
-use Rattle.bridge_core.specs.Outcome.{Outside, IsDecided, IsDetermined, IsComplete, whole, bad, cut, over, uninitialised, damaged, lacking}
+use Rattle.bridge_core.specs.Determined.{Outside, IsDecided, IsDetermined, IsComplete, whole, bad, cut, over, uninitialised, damaged, lacking}
 use Rattle.bridge_core.specs.Opening.{status_of_fault, HasOpened, EndsWell, is_done}
 use Rattle.bridge_core.specs.Replaying.{status_of_ending, EndsSo, unbegun, ended, Replays}
 use Rattle.bridge_core.specs.declared.bridge.Turned.{Turned}

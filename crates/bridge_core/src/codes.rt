@@ -1,0 +1,22 @@
+//! The codes of replies. The definitions have each as a number, so that one that is changed here alone is refused.
+
+/// The command was accepted, or the message has a reply.
+pub(crate) const DONE: u8 = 0;
+/// The bytes are no block.
+pub(crate) const BAD_BLOCK: u8 = 1;
+/// The block isn't on the tip.
+pub(crate) const NOT_ON_TIP: u8 = 2;
+/// The block's transactions have another Merkle root.
+pub(crate) const MERKLE_MISMATCH: u8 = 3;
+/// The tip has the greatest height.
+pub(crate) const HEIGHT_LIMIT: u8 = 4;
+/// The area has no room for the record.
+pub(crate) const JOURNAL_FULL: u8 = 5;
+/// The hash isn't the newest block's.
+pub(crate) const NOT_TIP: u8 = 6;
+/// No block stands on the base.
+pub(crate) const AT_BASE: u8 = 7;
+/// The disk failed.
+pub(crate) const DISK_FAULT: u8 = 0xFD;
+/// Memory ran out.
+pub(crate) const NO_MEMORY: u8 = 0xFE;
