@@ -35,42 +35,46 @@ def way_back(source, tip, best, choices):
         return Wait(f"{stands}, and {source.name} is in its initial download")
     if header is None:
         unknown = f"{stands}, which {source.name} doesn't know"
-        return Wait(f"{unknown} yet") if source.lacks_blocks() else Blind(unknown)
+        return Wait(f"{unknown} yet") if source.lacks_blocks() else Blind(f"{unknown} (--unknown, where everybody has left it)")
     if header.is_on_chain:
         raise Moved
     if best.work < header.work and not source.has_rejected(tip):
         return Wait(f"{stands}, and {source.name} is behind: its best chain, of height {best.height}, has less work")
-    way = walked(source, header, choices.deepest)
-    if way.height == best.height:
-        return Wait(f"{stands}, and {source.name} at height {best.height} below it: no other branch is known")
-    if way.height > best.height or source.best() != best:
-        # Headers that were told before and behind a move of the best chain don't make one way.
+    stale, last = walked(source, header, choices.deepest)
+    # Headers that were told before and behind a move of the best chain don't make one way.
+    if source.best() != best or last and last.is_on_chain and last.hash != best.hash and last.height >= best.height:
         raise Moved
-    if way.height < choices.base and not source.is_fixed:
-        fork = f"the best chain of {source.name} leaves the server's at height {way.height}"
-        raise Stop(Status.OTHER_CHAIN, f"{stands}; {fork}, below its base: is it another network's node?")
-    return way
+    if last is None:
+        return Wait(f"{stands}, and {source.name} doesn't know what stands {len(stale)} blocks below it: no fork is known")
+    if last.hash == best.hash:
+        return Wait(f"{stands}, and {source.name} at height {best.height} below it: no other branch is known")
+    if why := why_not(source, stale, last, choices):
+        raise Stop(Status.OTHER_CHAIN, f"{stands}, {why}: is it another network's node?")
+    return Way(stale, last.height)
 
 
 def walked(source, header, deepest):
-    """The way down from a block aside of the best chain to the first one on it."""
-    stale, tip = [], header.hash
-    while not header.is_on_chain:
+    """The blocks from one aside of the best chain down to the last before the fork, and the fork; at most one more than may be
+    taken off, and the block below it; or None, where the source doesn't know that one."""
+    stale = []
+    while not header.is_on_chain and len(stale) <= deepest:
         stale.append(header.hash)
-        if len(stale) > deepest:
-            raise too_deep(source, tip, deepest)
         below = source.header(header.previous)
-        if below is None or below.height != header.height - 1:
+        if below is None:
+            return stale, None
+        if below.height != header.height - 1:
             raise NodeTrouble(f"{source.name} gives headers that don't make one chain")
         header = below
-    if header.hash == NO_HASH:
-        why = f"which has no block in common with the best chain of {source.name}"
-        raise Stop(Status.OTHER_CHAIN, f"the server stands on block {shown(tip)}, {why}: is it another network's node?")
-    return Way(stale, header.height)
+    return stale, header
 
 
-def too_deep(source, tip, deepest):
-    """The stop where more blocks would be taken off than is allowed."""
-    stands = f"the server stands on block {shown(tip)}, which isn't on the best chain of {source.name}"
-    text = f"more than {deepest} of its newest blocks would have to be taken off"
-    return Stop(Status.OTHER_CHAIN, f"{stands}; {text}: is it another network's node?")
+def why_not(source, stale, last, choices):
+    """Why the blocks of a way, above its last one, may not be taken off; None where they may."""
+    if len(stale) > choices.deepest:
+        aside = f"which isn't on the best chain of {source.name}"
+        return f"{aside}; more than {choices.deepest} of its newest blocks would have to be taken off"
+    if last.hash == NO_HASH:
+        return f"which has no block in common with the best chain of {source.name}"
+    if last.height < choices.base and not source.is_fixed:
+        return f"and the best chain of {source.name} leaves the server's at height {last.height}, below its base"
+    return None

@@ -54,13 +54,21 @@ class BlockFiles(Case):
         """Files that don't have the server's tip: they say of no fork, so nothing is taken off."""
         self.feed_files(self.written("first", self.all[:21]))
         tip = self.server.tip
-        self.assertIn("doesn't know: nothing is taken off", self.feed_files(self.written("second", self.all[25:]), status=4))
+        self.assertIn("everybody has left it): nothing is taken off", self.feed_files(self.written("second", self.all[25:]), status=4))
         self.assertEqual(self.server.tip, tip)
 
     def test_files_that_end_below_the_tip(self):
         self.feed_files(self.written("first", self.all[:21]))
         tip = self.server.tip
         self.assertIn("nothing is taken off", self.feed_files(self.written("second", self.all[:15]), status=4))
+        self.assertEqual(self.server.tip, tip)
+
+    def test_files_with_a_gap(self):
+        """They have the server's tip, and not where its chain leaves theirs."""
+        self.feed_files(self.written("first", self.all[:21]))
+        tip = self.server.tip
+        said = self.feed_files(self.written("second", self.all[17:]), status=4)
+        self.assertIn("doesn't know what stands 4 blocks below it: no fork is known: nothing is taken off", said)
         self.assertEqual(self.server.tip, tip)
 
     def test_no_blocks(self):

@@ -154,6 +154,20 @@ class Waiting(Case):
         self.assertEqual(self.server.codes.count(ACCEPTED), HEIGHT + 1)
         self.assert_same()
 
+    def test_a_way_of_two_chains_is_no_way(self):
+        """Its tip moves to a branch that leaves below the base, and on, in the midst of the headers: that ends nothing."""
+        deep, path = self.chains.grow(self.chains.back(self.top, 20), 22), self.chains.path(self.top)
+        self.node.move(self.chains.grow(self.chains.back(self.top, 5), 7))
+        moves = {path[27]: deep, path[9]: self.chains.add(self.top)}
+
+        def before(method, words):
+            if method == "getblockheader" and (tip := moves.pop(bytes.fromhex(words[0])[::-1], None)):
+                self.node.move(tip)
+
+        self.node.before = before
+        self.feed("--base", "20")
+        self.assertEqual((moves, self.server.codes.count(ACCEPTED)), ({}, HEIGHT + 1))
+
     def test_moves_back_while_blocks_are_taken_off(self):
         """Of ten blocks the node takes the first four away, and then comes back: no more are taken off."""
         self.node.move(self.chains.grow(self.chains.back(self.top, 10), 12))
@@ -173,7 +187,7 @@ class Waiting(Case):
         self.node.forgotten = set(self.chains.path(self.top)[-8:])
         self.node.move(self.chains.grow(fork, 10))
         run = self.start("--once")
-        self.heard(run, "which the node doesn't know: nothing is taken off")
+        self.heard(run, "which the node doesn't know (--unknown, where everybody has left it): nothing is taken off")
         self.looks(run)
         run.kill()
         self.assertEqual(self.server.tip, self.top)

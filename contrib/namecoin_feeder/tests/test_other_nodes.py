@@ -36,7 +36,7 @@ class OtherNodes(Case):
 
     def test_another_network(self):
         self.other_network()
-        self.stays("which the node doesn't know: nothing is taken off")
+        self.stays("which the node doesn't know (--unknown, where everybody has left it): nothing is taken off")
 
     def test_another_network_with_unknown_blocks_allowed(self):
         """It takes what it was allowed to, and no more; on the base there is nothing left to take."""
