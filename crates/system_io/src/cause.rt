@@ -1,5 +1,4 @@
-use std::fmt;
-use std::io;
+use std::{fmt, io};
 
 /// What people are told of: why a call failed, or what else stands behind a status.
 #[derive(Drop)]
@@ -22,9 +21,15 @@ pub(crate) enum Cause {
         error: io::Error,
     },
     /// The two ports are bound.
-    Listening { udp: u16, feed: u16 },
+    Listening {
+        udp: u16,
+        feed: u16,
+    },
     /// The feed's connection is another user's.
-    Stranger { user: u32, own: u32 },
+    Stranger {
+        user: u32,
+        own: u32,
+    },
 }
 
 impl fmt::Display for Cause {

@@ -1,7 +1,9 @@
 use std::time::{Clock, Duration};
 
-/// So many microseconds are a millisecond, and a second.
+/// So many microseconds are a millisecond.
 pub(crate) const MILLISECOND: u64 = 1_000;
+
+/// So many are a second.
 pub(crate) const SECOND: u64 = 1_000_000;
 
 /// No time is later.

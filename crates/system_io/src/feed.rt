@@ -11,8 +11,10 @@ use std::alloc::Global;
 use std::io::{self, ErrorKind};
 use std::mem;
 
-/// How long a connection that is let go has for taking its last replies, and one that was silent and has none to take.
+/// How long a connection that is let go has for taking its last replies.
 const LEAVE: u64 = 5 * SECOND;
+
+/// How long one has that was silent, and has none to take.
 const LEAVE_IN_SILENCE: u64 = SECOND / 2;
 
 /// The one place of a feed.
@@ -145,7 +147,11 @@ impl<'a> Feed<'a> {
     fn make_room(&mut self, now: u64) -> bool {
         let leave = match &self.place {
             Place::Open(link) if self.waiting.is_some() && now >= link.yields_at() => {
-                if link.is_behind() { LEAVE } else { LEAVE_IN_SILENCE }
+                if link.is_behind() {
+                    LEAVE
+                } else {
+                    LEAVE_IN_SILENCE
+                }
             }
             _ => return false,
         };

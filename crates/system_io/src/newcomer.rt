@@ -1,3 +1,5 @@
+ghost use Rattle.std.specs.Prelude.{◌≡◌, ◌⊎◌, IsTrue};
+
 use crate::owner::{Ends, Holder, is_taken};
 use crate::search::{Found, Search, Tables};
 use std::io::{self, ErrorKind};
@@ -49,29 +51,41 @@ impl Newcomer {
     }
 
     /// Looks on for a while whose the connection is.
-    ///
-    /// What a row says of a user and of a number isn't read by the system at one moment: where the other end is closed in
-    /// between, the user may be root's, which stands for none. A number that stands there a second time was there at the first,
-    /// and so was its user. And the row was that of this very connection only if this one stands still behind both: another
-    /// with the same two addresses can't have been made before.
     pub(crate) fn judge(&mut self, tables: &Tables, own: u32) -> io::Result<Verdict> {
         let holder = match self.search.go_on(tables)? {
             Found::Nothing => return Ok(Verdict::Open),
             Found::Nobody => return Ok(Verdict::Unknown),
             Found::Holder(holder) => holder,
         };
-        if !is_taken(holder.user, own) {
-            return Ok(Verdict::Stranger(holder.user));
+        let first = self.first;
+        match first {
+            None if is_taken(holder.user, own) => {
+                self.first = Some(holder);
+                self.search = Search::new(self.ends);
+                Ok(Verdict::Open)
+            }
+            None => Ok(Verdict::Stranger(holder.user)),
+            Some(first) => Ok(verdict_on(first, holder, own, self.stream.peer_addr().is_ok())),
         }
-        if self.first.is_none() {
-            self.first = Some(holder);
-            self.search = Search::new(self.ends);
-            return Ok(Verdict::Open);
-        }
-        if self.first == Some(holder) && self.stream.peer_addr().is_ok() {
-            Ok(Verdict::Taken)
-        } else {
-            Ok(Verdict::Unknown)
-        }
+    }
+}
+
+/// What comes of two looks, and of whether this end of the connection stands still behind both.
+///
+/// What a row says of a user and of a number isn't read by the system at one moment: where the other end is closed in between,
+/// the user may be root's, which stands for none. A number that stands there a second time was there at the first, and so was
+/// its user. And the row was that of this very connection only if this end stands still: another with the same two addresses
+/// can't have been made before.
+fn verdict_on(first: Holder, second: Holder, own: u32, stands: bool) -> Verdict
+    ensures user { result ≡ Verdict.Taken → (second.user ≡ own) ⊎ (second.user ≡ 0) }
+    ensures same { result ≡ Verdict.Taken → first ≡ second }
+    ensures stands { result ≡ Verdict.Taken → IsTrue stands }
+{
+    if !is_taken(second.user, own) {
+        Verdict::Stranger(second.user)
+    } else if first == second && stands {
+        Verdict::Taken
+    } else {
+        Verdict::Unknown
     }
 }

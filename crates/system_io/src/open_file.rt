@@ -63,11 +63,7 @@ fn open_or_make(rt: &HostRuntime, name: &str, is_there: bool) -> io::Result<Opti
 }
 
 /// Opens a file, or makes it empty where it is absent, and says whether it was made.
-fn open(
-    rt: &HostRuntime,
-    people: &People<'_>,
-    name: &'static str,
-) -> io::Result<(File, bool)> {
+fn open(rt: &HostRuntime, people: &People<'_>, name: &'static str) -> io::Result<(File, bool)> {
     for _ in 0..TRIES {
         let is_there = is_there(rt, people, name)?;
         let opened = open_or_make(rt, name, is_there);

@@ -5,10 +5,13 @@ use std::net::SocketAddrV4;
 /// The number of root.
 const ROOT: u32 = 0;
 
-/// The states of a connection that was made and that its user hasn't let go, by the system's numbers for them: established,
-/// and the two behind the end of what it sends.
+/// A connection that was made (the system's number for the state, as for the next two).
 const ESTABLISHED: u8 = 1;
+
+/// One whose end has told that it sends no more.
 const FIN_WAIT1: u8 = 4;
+
+/// The same, and the other end has heard it.
 const FIN_WAIT2: u8 = 5;
 
 /// What stands in front of the address of an IPv4 peer in the table of IPv6: `::ffff:0:0/96` (RFC 4291, 2.5.5.2).
@@ -37,10 +40,12 @@ struct Row {
 }
 
 impl Row {
-    /// A socket that was closed has no number any more, and its row may name root as its user. Neither is its connection one
-    /// that is yet to be made.
+    /// Who holds the socket, where its connection was made and isn't closed. A socket that was closed has no number any more, and
+    /// its row may name root as its user.
     fn holder(&self) -> Option<Holder>
-        ensures { IfSome result (λ holder. (holder.user ≡ self.now.user) × (holder.inode ≡ self.now.inode) × (self.now.inode ≢ 0)) }
+        ensures state { IfSome result (λ holder. (self.now.state ≡ 1) ⊎ ((self.now.state ≡ 4) ⊎ (self.now.state ≡ 5))) }
+        ensures is_held { IfSome result (λ holder. self.now.inode ≢ 0) }
+        ensures same { IfSome result (λ holder. (holder.user ≡ self.now.user) × (holder.inode ≡ self.now.inode)) }
     {
         match self.state {
             ESTABLISHED | FIN_WAIT1 | FIN_WAIT2 if self.inode != 0 => Some(Holder {
@@ -68,8 +73,7 @@ fn is_at(text: &str, address: SocketAddrV4) -> bool {
     };
     let ip = ip.strip_prefix(MAPPED).unwrap_or(ip);
     let wanted = u32::from_ne_bytes(address.ip().octets());
-    u32::from_str_radix(ip, 16) == Ok(wanted)
-        && u16::from_str_radix(port, 16) == Ok(address.port())
+    u32::from_str_radix(ip, 16) == Ok(wanted) && u16::from_str_radix(port, 16) == Ok(address.port())
 }
 
 /// The row, where it is one of these ends: behind its number both addresses, the state, two queues, the timer, the

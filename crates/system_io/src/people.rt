@@ -1,11 +1,10 @@
 ghost use Rattle.std.specs.Prelude.{◌≡◌};
 
 use crate::cause::Cause;
-use std::fmt;
 use std::io::{self, IsTerminal};
 use std::os::unix::fs::MetadataExt;
 use std::rt::Env;
-use std::{fs, str};
+use std::{fmt, fs, str};
 
 /// The longest name of a program that is told, and the longest text of a device and an inode.
 const ROOM: usize = 256;

@@ -4,7 +4,6 @@ ghost use Rattle.system_io.specs.Arrival.{IsWithin};
 use crate::cause::Cause;
 use crate::client::Client;
 use crate::clock::{MILLISECOND, SECOND, now};
-
 use crate::feed::Feed;
 use crate::people::People;
 use byte_io::Polled;
