@@ -1,9 +1,8 @@
 -- What a replay comes to, by how its loop ended, or why its files weren't opened.
 use Rattle.std.proofs.Common.{◌≡◌, ℕ, Bool, List, ◌∷◌, ◌++◌, [], refl, sym, subst}
-use Rattle.std.specs.Prelude.{IsTrue}
 use Rattle.fault_counts.specs.Faults.{NeverFell, Rose}
 use Rattle.fault_counts.proofs.FaultLemmas.{NeverFell_refl}
-use Rattle.disk_model.specs.DiskSeen.{DiskSeen, bytes_in}
+use Rattle.disk_model.specs.DiskSeen.{DiskSeen}
 use Rattle.feed_frames.specs.Frames.{Frame}
 use Rattle.feed_frames.specs.Replies.{Reply}
 use Rattle.frame_loop.specs.Transcript as loops
@@ -15,10 +14,10 @@ use Rattle.frame_loop.proofs.DeterminedLemmas as loop_outcomes
 use Rattle.chain_commands.specs.Event.{last_kind}
 use Rattle.name_store.specs.declared.faults.OpenFault.{OpenFault}
 use Rattle.name_store.specs.declared.faults.OpenFault.TheVariants as faults
-use Rattle.bridge_core.specs.Reached.{Beginning, HasReached, Reached, Broken, IsBroken}
-use Rattle.bridge_core.specs.Determined.{Outside, IsDecided, IsDetermined, IsComplete, whole, bad, cut, over, uninitialised, damaged, lacking}
+use Rattle.bridge_core.specs.Reached.{Beginning, HasReached, Reached, Broken}
+use Rattle.bridge_core.specs.Determined.{Outside, IsDecided, IsDetermined, whole, bad, cut, over, uninitialised, damaged, lacking}
 use Rattle.bridge_core.specs.Opening.{status_of_fault, HasOpened, EndsWell, is_done}
-use Rattle.bridge_core.specs.Replaying.{status_of_ending, EndsSo, unbegun, ended, Replays}
+use Rattle.bridge_core.specs.Replaying.{status_of_ending, unbegun, ended, Replays}
 use Rattle.bridge_core.specs.declared.bridge.Turned.{Turned}
 use Rattle.bridge_core.specs.declared.bridge.Turned.TheVariants.{On, Ended}
 use Rattle.bridge_core.proofs.OpeningLemmas.{Unbegun, cause_of, begins_well}

@@ -5,7 +5,6 @@ use Rattle.fault_counts.specs.Faults.{NeverFell}
 use Rattle.fault_counts.proofs.FaultLemmas.{NeverFell_refl}
 use Rattle.byte_io.specs.Sink.{SinkSeen}
 use Rattle.frame_loop.specs.Causes.{SinkCause, failing, stalling}
-use Rattle.name_report.specs.Report.{reported_by, Reports}
 use Rattle.name_report.specs.declared.reporting.ReportFault.{ReportFault}
 use Rattle.name_report.specs.declared.reporting.ReportFault.TheVariants as reports
 use Rattle.name_store.specs.declared.faults.OpenFault.{OpenFault}

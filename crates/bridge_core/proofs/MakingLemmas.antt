@@ -1,5 +1,5 @@
 -- What `init` comes to, by what came of making the files.
-use Rattle.std.proofs.Common.{◌≡◌, Bool, List, ℕ, Result, Ok, Err, OnOk, refl}
+use Rattle.std.proofs.Common.{Bool, List, ℕ, Result, Ok, Err, OnOk, refl}
 use Rattle.std.specs.Prelude.{IsTrue, IsErrOf}
 use Rattle.nmc_base.specs.declared.chain_ends.Base.{Base}
 use Rattle.disk_model.specs.Changes.{LeavesFrom}

@@ -1,5 +1,5 @@
 -- What a run begins at, behind the opening of its files; and why one doesn't begin.
-use Rattle.std.proofs.Common.{◌≡◌, inl, Bool, [], Some, None, Err, Ok, refl, sym, subst, arith}
+use Rattle.std.proofs.Common.{◌≡◌, inl, Bool, [], None, Err, refl, sym, subst, arith}
 use Rattle.std.specs.Prelude.{IsTrue}
 use Rattle.fault_counts.specs.Faults.{NeverFell, Rose}
 use Rattle.disk_model.specs.Moments.{EachMoment}
@@ -16,7 +16,6 @@ use Rattle.name_store.specs.Opening.{IsSynced, OpenAnswer, OpensFor}
 use Rattle.name_store.specs.declared.faults.OpenFault.{OpenFault}
 use Rattle.name_store.specs.declared.faults.OpenFault.TheVariants as faults
 use Rattle.name_store.specs.Stands.{Stands}
-use Rattle.name_store.specs.Stored.{Stored}
 use Rattle.bridge_core.specs.Bridge.{AreFilesOf}
 use Rattle.bridge_core.specs.Opening.{status_of_fault, HasOpened, WritesNothing, IsUnbegun, uninitialised, damaged, disk_fault, no_memory, EndsWell, lacks_memory}
 use Rattle.bridge_core.specs.Reached.{Beginning, Begins, Passes, none_yet, asked, LeavesOldOrFront, LeadsTo, IsReached}

@@ -1,24 +1,22 @@
 -- A run goes on by one turn, or a fault of the disk ends it.
-use Rattle.std.proofs.Common.{◌≡◌, ◌⊎◌, inl, inr, true, false, eqb, ◌==◌, if◌then◌else◌, ℕ, ◌+◌, ◌≤◌, Bool, List, [], ◌∷◌, ◌++◌, length, map, Some, None, Option, refl, sym, ap, subst, ◌∙◌, append_assoc, length-append, arith}
+use Rattle.std.proofs.Common.{◌≡◌, inl, inr, true, false, eqb, ◌==◌, if◌then◌else◌, ℕ, ◌+◌, ◌≤◌, Bool, List, [], ◌∷◌, ◌++◌, length, map, Some, None, Option, refl, sym, ap, subst, ◌∙◌, append_assoc, length-append, arith}
 use Rattle.std.specs.Prelude.{IsTrue}
 use Rattle.std.proofs.lemmas.List.{append-nil}
 use Rattle.std.proofs.lemmas.Bool.{cases_eq, eq-eqb, ne_eqb}
-use Rattle.fault_counts.specs.Faults.{NeverFell}
 use Rattle.fault_counts.proofs.FaultLemmas.{NeverFell_trans, stayed_then_Rose}
-use Rattle.disk_model.specs.Moments.{Files, EachMoment, start, IsImage}
+use Rattle.disk_model.specs.Moments.{Files, EachMoment, start}
 use Rattle.disk_model.specs.DiskSeen.{DiskSeen, HasFailed}
 use Rattle.disk_model.proofs.MomentLemmas.{last_moment, weaken, join}
 use Rattle.feed_frames.specs.Frames.{Frame}
 use Rattle.feed_frames.specs.Replies.{Reply}
 use Rattle.chain_commands.specs.Event.{Command, Event, Do, Ask, event_frame}
 use Rattle.chain_commands.specs.RunState.{RunState, accepted, all_accepted}
-use Rattle.chain_commands.specs.Surviving.{accepted_of}
 use Rattle.machine.specs.Step.{Step, Run}
 use Rattle.machine.proofs.RunLemmas.{run_push, run_state}
-use Rattle.name_store.specs.Stands.{Bytes, Stands, EachStandsForEither}
+use Rattle.name_store.specs.Stands.{Bytes, Stands}
 use Rattle.name_store.specs.Stored.{Stored}
 use Rattle.bridge_core.specs.Bridge.{accepted_by, AsksNothing, AnswersEvent, AreFilesOf, OutlivesCrashes, LeavesDisk}
-use Rattle.bridge_core.specs.Reached.{Beginning, Begins, Passes, none_yet, one_more, StandsForFront, StandsForAsked, Asked, asked, IsKept, LeavesFront, LeavesOldOrFront, HoldsAnswered, LeadsTo, IsReached, BreaksAt, IsBroken}
+use Rattle.bridge_core.specs.Reached.{Beginning, Begins, Passes, none_yet, one_more, StandsForFront, StandsForAsked, Asked, asked, LeavesFront, LeavesOldOrFront, HoldsAnswered, LeadsTo, IsReached, BreaksAt, IsBroken}
 use Rattle.bridge_core.specs.declared.bridge.Turned.TheVariants.{On, Ended}
 
 pub frames_push : (events : List Event) (event : Event) → map event_frame events ++ event_frame event ∷ [] ≡ map event_frame (events ++ event ∷ [])

@@ -1,6 +1,6 @@
 -- What a run of `serve` comes to, by how its polls ended, or why none was made.
 use Rattle.std.proofs.Common.{◌≡◌, inl, inr, Bool, List, [], ◌++◌, refl, sym, subst, ◌∙◌}
-use Rattle.std.specs.Prelude.{IsTrue, ◌⊎◌}
+use Rattle.std.specs.Prelude.{◌⊎◌}
 use Rattle.std.proofs.lemmas.List.{append-nil}
 use Rattle.fault_counts.specs.Faults.{NeverFell, Rose}
 use Rattle.fault_counts.proofs.FaultLemmas.{NeverFell_refl, NeverFell_trans}

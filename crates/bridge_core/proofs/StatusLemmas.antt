@@ -1,5 +1,5 @@
 -- What the statuses of `init` aren't, and which command the words ask for.
-use Rattle.std.proofs.Common.{◌≡◌, ℕ, Bool, List, Some, subst}
+use Rattle.std.proofs.Common.{◌≡◌, ℕ, Bool, List, Some}
 use Rattle.nmc_base.specs.declared.chain_ends.Base.{Base}
 use Rattle.name_store.specs.declared.faults.OpenFault.TheVariants as faults
 use Rattle.disk_model.specs.DiskSeen.{DiskSeen}

@@ -1,12 +1,12 @@
 -- A turn of a bridge by what came of the command in its store: of a connect and of a disconnect alike.
-use Rattle.std.proofs.Common.{◌≡◌, ℕ, ◌≤◌, List, ◌++◌, refl, sym, ap, subst, ◌∙◌, arith}
-use Rattle.std.specs.Prelude.{Bool, IsTrue}
+use Rattle.std.proofs.Common.{◌≡◌, ℕ, List, ◌++◌, refl, sym, ap, subst, ◌∙◌, arith}
+use Rattle.std.specs.Prelude.{Bool}
 use Rattle.std.specs.Int.{w32, to_le_bytes}
 use Rattle.disk_model.specs.DiskSeen.{DiskSeen, bytes_in}
 use Rattle.feed_frames.specs.Replies.{Reply}
 use Rattle.nmc_base.specs.declared.chain_ends.Tip.{Tip}
 use Rattle.chain_commands.specs.Chain.{Chain, height_of}
-use Rattle.chain_commands.specs.Event.{Command, Do, Ask}
+use Rattle.chain_commands.specs.Event.{Command, Do}
 use Rattle.chain_commands.specs.RunState.{RunState, chain_of, accepted}
 use Rattle.chain_commands.specs.Reply.{accepted_reply, no_memory_reply}
 use Rattle.chain_commands.specs.Refusals.{Refusals, HasNoneBelow, Answers, accepts, declines, lacks_memory}
@@ -18,7 +18,7 @@ use Rattle.name_store.specs.declared.store.Outcome.{Outcome}
 use Rattle.name_store.specs.declared.store.Outcome.TheVariants.{Done, Refused, NoMemory, Faulted}
 use Rattle.name_store.specs.Stands.{Stands}
 use Rattle.name_store.specs.Stored.{Stored, StandsFor, IsTipOf}
-use Rattle.bridge_core.specs.Bridge.{IsValidEvent, fault_code, fault_reply, AnswersEvent, LeavesDisk, Moves}
+use Rattle.bridge_core.specs.Bridge.{IsValidEvent, fault_code, fault_reply, AnswersEvent, Moves}
 use Rattle.bridge_core.specs.declared.bridge.Turned.TheVariants.{On, Ended}
 use Rattle.bridge_core.proofs.FileLemmas.{files_of, crashes_done, crashes_undone}
 

@@ -1,10 +1,10 @@
 -- What was fed in pieces and what was given are the splitting of the joined pieces.
-use Rattle.std.proofs.Common.{◌≡◌, ℕ, ◌+◌, List, [], ◌∷◌, ◌++◌, length, refl, sym, ap, subst, ◌∙◌, length-append, arith}
-use Rattle.std.proofs.lemmas.List.{append-nil, flat_map_more}
-use Rattle.feed_frames.specs.Frames.{Frame, IsFramed, frame_text, frames_text, Splits, IsRest}
-use Rattle.feed_frames.specs.Feed.{Feed, Takes}
+use Rattle.std.proofs.Common.{◌≡◌, ℕ, ◌+◌, List, [], ◌∷◌, ◌++◌, length, refl, sym, ap, subst, ◌∙◌, length-append}
+use Rattle.std.proofs.lemmas.List.{flat_map_more}
+use Rattle.feed_frames.specs.Frames.{Frame, IsFramed, frame_text, frames_text, Splits}
+use Rattle.feed_frames.specs.Feed.{Feed}
 use Rattle.feed_frames.specs.Law.{Came, nothing_yet, fed, gave, joined}
-use Rattle.feed_frames.proofs.SplittingLemmas.{splits_nothing, splits_more, splits_push, one_splitting}
+use Rattle.feed_frames.proofs.SplittingLemmas.{splits_nothing, splits_more, splits_push}
 
 joined_more : (pieces : List (List ℕ)) (piece : List ℕ) → joined pieces ++ piece ≡ joined (pieces ++ piece ∷ [])
 joined_more pieces piece = flat_map_more (λ (p : List ℕ). p) [] pieces piece

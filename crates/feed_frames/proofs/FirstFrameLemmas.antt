@@ -1,11 +1,11 @@
 -- Bytes begin with a whole frame or they don't, and so they are whole frames and a rest.
-use Rattle.std.proofs.Common.{◌≡◌, ◌⊎◌, inl, inr, ℕ, zero, suc, ◌+◌, ◌<◌, ◌≤◌, ◌^◌, Bool, true, false, List, [], ◌∷◌, ◌++◌, length, get_or, take, drop, refl, sym, ap, subst, ◌∙◌, append_assoc, length-append, arith}
+use Rattle.std.proofs.Common.{◌≡◌, ◌⊎◌, inl, inr, ℕ, zero, suc, ◌+◌, ◌<◌, ◌≤◌, ◌^◌, true, false, List, [], ◌∷◌, ◌++◌, length, get_or, take, drop, refl, sym, ap, subst, ◌∙◌, append_assoc, length-append, arith}
 use Rattle.std.specs.Int.{w32, from_le_bytes}
 use Rattle.std.proofs.Math.Dec.{leb}
 use Rattle.std.proofs.lemmas.Bool.Decides.{leb_tells}
 use Rattle.std.proofs.lemmas.List.{get_or-drop, drop_at, nil_from_length}
 use Rattle.feed_frames.specs.Kinds.{IsKind, IsLength}
-use Rattle.feed_frames.specs.Frames.{Frame, frame_text, frames_text, IsBadFrame, unknown_kind, IsPartialFrame, nothing, header_cut, IsRest, bad, partial}
+use Rattle.feed_frames.specs.Frames.{Frame, frame_text, frames_text, unknown_kind, nothing, header_cut, IsRest, bad, partial}
 use Rattle.feed_frames.specs.Front.{BeginsWith}
 use Rattle.feed_frames.specs.Law.{AreBytes, HasSplitting}
 use Rattle.feed_frames.proofs.KindLemmas.{kind_or_not, length_or_not}

@@ -1,5 +1,5 @@
 -- What a reader of frames holds, and what its next frame is.
-use Rattle.std.specs.Prelude.{◌≡◌, ℕ, ◌+◌, List, [], ◌∷◌, ◌++◌, length, Option, Some, None, Result, Ok, Err}
+use Rattle.std.specs.Prelude.{◌≡◌, ℕ, ◌+◌, List, [], ◌++◌, length, Option, Some, None, Result, Ok, Err}
 use Rattle.feed_frames.specs.Frames as frames
 use Rattle.feed_frames.specs.Frames.{frame_text, IsFramed, IsBadFrame, IsPartialFrame}
 use Rattle.feed_frames.specs.Front.{frame_of}

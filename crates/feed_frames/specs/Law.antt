@@ -1,5 +1,5 @@
 -- What was fed to a reader of frames, and what it gave, in any order.
-use Rattle.std.specs.Prelude.{◌≡◌, ℕ, ◌<◌, ◌^◌, List, [], ◌∷◌, ◌++◌, slice_index_or}
+use Rattle.std.specs.Prelude.{ℕ, ◌<◌, ◌^◌, List, [], ◌∷◌, ◌++◌, slice_index_or}
 use Rattle.std.specs.List.{flat_map}
 use Rattle.feed_frames.specs.Frames.{Frame, Splits, IsRest}
 use Rattle.feed_frames.specs.Feed.{Feed, fresh_feed, after_piece, Takes}

@@ -1,5 +1,5 @@
 -- What contracts see of the port in memory.
-use Rattle.std.specs.Prelude.{◌≡◌, ℕ, ◌⊎◌, Bool, true, false, if◌then◌else◌, List, [], ◌∷◌, ◌++◌, drop, Option, Some, None}
+use Rattle.std.specs.Prelude.{◌≡◌, ℕ, Bool, true, false, if◌then◌else◌, List, [], ◌∷◌, ◌++◌, drop, Option, Some, None}
 use Rattle.fault_counts.specs.Counts.{Counts, after_refusal, faults_of, fresh_counts, is_next_listed}
 use Rattle.byte_io.specs.Port.{Got, nothing, fault, Note, PortSeen}
 

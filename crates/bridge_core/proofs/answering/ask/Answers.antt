@@ -1,4 +1,4 @@
-use Rattle.std.proofs.Common.{◌≡◌, sym, ap, subst}
+use Rattle.std.proofs.Common.{◌≡◌, sym, subst}
 use Rattle.frame_loop.specs.Turns.{GoesOn}
 use Rattle.chain_commands.specs.Event.{Ask, event_frame}
 use Rattle.name_store.specs.Stored.{Stored}

@@ -1,8 +1,6 @@
-use Rattle.std.proofs.Common.{arith, rules, length, take, drop, length-drop, ◌-◌, sym, ap, ◌∙◌, refl}
-use Rattle.std.proofs.lemmas.List.{take_all}
+use Rattle.std.proofs.Common.{arith, rules}
 use Rattle.std.proofs.lemmas.Bool.{both_ways}
-use Rattle.feed_frames.specs.Front.{frame_of}
-use Rattle.feed_frames.proofs.FrontLemmas.{unknown_front, short_front, wrong_front, cut_front, whole_front}
+use Rattle.feed_frames.proofs.FrontLemmas.{unknown_front, short_front, wrong_front, cut_front}
 use Rattle.feed_frames.proofs.front.front_of.Goals as goal
 
 pub returns-in-len1-up : goal.returns-in-len1-up

@@ -2,14 +2,13 @@ use Rattle.std.proofs.Common.{List, ℕ, Bool}
 use Rattle.disk_model.specs.DiskSeen.{DiskSeen}
 use Rattle.chain_state.specs.declared.back.BackRefusal as back
 use Rattle.chain_commands.specs.Disconnecting.{BackRefusal}
-use Rattle.std.proofs.Common.{ap, subst}
+use Rattle.std.proofs.Common.{subst}
 use Rattle.chain_commands.specs.Event.{Disconnect, Do}
 use Rattle.chain_commands.specs.RunState.{RunState, chain_of, IsFull}
 use Rattle.chain_commands.specs.Disconnecting.{HoldsBack, disconnects}
 use Rattle.name_store.specs.Views.{back_refusal_of}
 use Rattle.name_store.specs.Stored.{Stored}
 use Rattle.bridge_core.specs.Bridge.{AnswersEvent}
-use Rattle.bridge_core.specs.declared.bridge.Turned.{Turned}
 use Rattle.bridge_core.specs.declared.bridge.Turned.TheVariants.{On, Ended}
 use Rattle.bridge_core.proofs.CodeLemmas.{back_is_other}
 use Rattle.bridge_core.proofs.TurnLemmas.{IsKind, command_done, command_refused, command_lacking, command_faulted}

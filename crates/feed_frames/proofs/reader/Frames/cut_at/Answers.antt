@@ -1,4 +1,4 @@
-use Rattle.std.proofs.Common.{◌≡◌, ℕ, refl, ap, subst, arith}
+use Rattle.std.proofs.Common.{◌≡◌, ℕ, ap, subst, arith}
 use Rattle.feed_frames.specs.Frames.{IsBadFrame, IsPartialFrame}
 use Rattle.feed_frames.specs.Front.{BeginsWith, frame_of}
 use Rattle.feed_frames.specs.Feed.{Feed}

@@ -1,8 +1,7 @@
-use Rattle.std.proofs.Common.{◌≡◌, ℕ, ◌+◌, List, ◌++◌, length, refl, sym, ap, ◌∙◌, arith}
+use Rattle.std.proofs.Common.{◌≡◌, ℕ, ◌+◌, List, ◌++◌, length, refl, ap, ◌∙◌, arith}
 use Rattle.std.specs.Vec.{with_items}
 use Rattle.std.proofs.lemmas.List.{with_items_is}
 use Rattle.feed_frames.specs.Places.{between}
-use Rattle.feed_frames.specs.Feed.{Feed}
 use Rattle.feed_frames.proofs.BufferLemmas.{put_behind}
 use Rattle.feed_frames.proofs.reader.Frames.feed.Goals as goal
 
