@@ -94,9 +94,10 @@ module _ (run : RunState) where
   holds_more few many most mid now none_yet no_more more turn held =
       join (weaken (LeavesFront run 0 many) (more 0) held) (weaken (LeavesFront run 0 many) (leaves_fewer many (omega arith)) turn)
   holds_more few many most mid now (one_more {events = events} event reply new after before by) no_more more turn held =
-      let here : length events + 1 ≤ most = omega (arith, no_more, length-append events (event ∷ [])) in
-      (join (weaken (LeavesFront run (length events + 1) many) (more (length events + 1)) held.0) (weaken (LeavesFront run (length events + 1) many) (leaves_fewer many here) turn),
-      holds_more few many most mid now before (omega (arith, here)) more turn held.1)
+      let here : length events + 1 ≤ most = omega (arith, no_more, length-append events (event ∷ [])) in (
+        join (weaken (LeavesFront run (length events + 1) many) (more (length events + 1)) held.0) (weaken (LeavesFront run (length events + 1) many) (leaves_fewer many here) turn),
+        holds_more few many most mid now before (omega (arith, here)) more turn held.1,
+      )
 
 -- ---- the state behind one step
 
@@ -190,10 +191,11 @@ module _ {D : Type 0} (tells : Bool) (seen : D → DiskSeen) (begun : Beginning 
             | inr so ↦ inr (elim so [ inl f ↦ inl (front_more run event reply f) | inr none ↦ absurd none ])
           ]) (led.any_moment told))
           (weaken (LeavesOldOrFront begun.before run with_event) (λ files leaves image_is is. inr (leaves_fewer run with_event (omega arith) files leaves image_is is)) (moments_by told came));
-      acknowledged = λ told.
-          (start (λ image_is is. inl (front_of_all run (length r.events + 1) (omega (arith, length-append r.events (event ∷ []))) runs_next ((files_by told came).each image_is is))),
-          holds_more run (asked r.events replies None) with_event (length r.events) (seen before) (seen after) r.passes (omega arith) (λ least files leaves. leaves_more run event reply files leaves)
-          (moments_by told came) (led.acknowledged told));
+      acknowledged = λ told. (
+        start (λ image_is is. inl (front_of_all run (length r.events + 1) (omega (arith, length-append r.events (event ∷ []))) runs_next ((files_by told came).each image_is is))),
+        holds_more run (asked r.events replies None) with_event (length r.events) (seen before) (seen after) r.passes (omega arith) (λ least files leaves. leaves_more run event reply files leaves)
+            (moments_by told came) (led.acknowledged told),
+      );
     }
 
   -- the event was answered

@@ -94,8 +94,8 @@ module _ {D : Type 0} (tells : Bool) (seen : D → DiskSeen) {R M : Type 0} (ref
         → AnswersEvent tells seen old before (Do command_is) reply (On new) after
     command_refused new refusal d told other =
         command_not_done new other d.undone (λ run s.
-            let on = d.answers run s in
-            record { new = run; step = kind.steps run reply run (declines (view refusal) on.0 refl told); stands = on.1 })
+        let on = d.answers run s in
+        record { new = run; step = kind.steps run reply run (declines (view refusal) on.0 refl told); stands = on.1 })
         (record { later = d.leaves.later; worked = tt; failed = tt; still_on = d.leaves.still_on; others = d.leaves.others })
         (λ tell run s stands. let k = d.kept tell run s stands in record { done = tt; any_moment = k.any_moment })
 
@@ -103,8 +103,8 @@ module _ {D : Type 0} (tells : Bool) (seen : D → DiskSeen) {R M : Type 0} (ref
     command_lacking new d told =
         let code = code_of reply no_memory_reply told in
         command_not_done new (record { not_done = λ zero. omega (arith, code, zero); no_fault = λ fault. omega (arith, code, fault) }) d.undone (λ run s.
-            let on = d.answers run s in
-            record { new = run; step = kind.steps run reply run (lacks_memory on.0 refl told); stands = on.1 }) d.leaves d.kept
+        let on = d.answers run s in
+        record { new = run; step = kind.steps run reply run (lacks_memory on.0 refl told); stands = on.1 }) d.leaves d.kept
 
     pub command_faulted : Did old before after Faulted → reply ≡ fault_reply → AnswersEvent tells seen old before (Do command_is) reply Ended after
     command_faulted d told =

@@ -19,7 +19,14 @@ pub(crate) fn answer_query(alloc: Global, store: &Store, message: &[u8], reply: 
     ensures no_fault { reply.new.code ≢ fault_code }
 {
     let mut text = [0; LEAST_LIMIT];
-    match answer(alloc, store.chain(), store.host(), message, LEAST_LIMIT, &mut text) {
+    match answer(
+        alloc,
+        store.chain(),
+        store.host(),
+        message,
+        LEAST_LIMIT,
+        &mut text,
+    ) {
         Answered::Dropped => reply.set(DROPPED, &[], &[]),
         Answered::Text(size) => reply.set(codes::DONE, &[], &text[..size]),
     }

@@ -60,10 +60,10 @@ impl<'a> Disk for FileDisk<'a> {
     ghost tells = { false };
 
     ghost seen = { λ d. record {
-        moments = record { now = λ file. synced_file []; past = [] };
-        faults = counted d.faults;
-        failed = d.failed;
-        changes = d.changes;
+      moments = record { now = λ file. synced_file []; past = [] };
+      faults = counted d.faults;
+      failed = d.failed;
+      changes = d.changes;
     } };
 
     ghost shows = { λ d file told below. no_telling told };
