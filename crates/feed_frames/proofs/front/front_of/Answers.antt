@@ -25,5 +25,5 @@ returns-else-payload-length c =
     let behind = drop 5 c.args.bytes.now in
     let whole : take (length c.args.bytes.now - 5) behind ≡ behind = subst (λ (m : ℕ). take m behind ≡ behind) (length-drop 5 c.args.bytes.now) (take-length behind) in
     whole_front c.args.kinds c.args.bytes.now n (record { kind = get_or c.args.bytes.now 0 0; payload = c.split_at.result.0.now })
-        (record { long = c.in-len5-up.len_at_least; fits = λ i. omega (arith, c.type_inv.bytes i); length_is = c.from_le_bytes-length.ensures })
-        (c.is_length.ensures.0 c.if-not-is_length.false) (search rules) refl (c.split_at.ensures.front ∙ ap (take n) whole)
+    (record { long = c.in-len5-up.len_at_least; fits = λ i. omega (arith, c.type_inv.bytes i); length_is = c.from_le_bytes-length.ensures })
+    (c.is_length.ensures.0 c.if-not-is_length.false) (search rules) refl (c.split_at.ensures.front ∙ ap (take n) whole)
