@@ -1,5 +1,6 @@
 """JSON-RPC over HTTP: calls whose replies are read later, so that a node can work on several at once."""
 import base64
+import contextlib
 import http.client
 import json
 import pathlib
@@ -85,9 +86,10 @@ class Call:
     def results(self, most):
         """The results in order, an RpcError in the place of a refused one. The message may have so many bytes at most."""
         try:
-            response = self.line.connection.getresponse()
-            length = response.length
-            text = response.read(most + 1) if length is None or length <= most else None
+            # Closed here and not where it is let go of: Python forgets an interrupt that comes within that.
+            with contextlib.closing(self.line.connection.getresponse()) as response:
+                length, status = response.length, response.status
+                text = response.read(most + 1) if length is None or length <= most else None
         except FAULTS as fault:
             raise self.lost(fault) from None
         if text is None or len(text) > most:
@@ -95,7 +97,7 @@ class Call:
             raise TooLong
         if length is not None and len(text) < length:
             raise self.lost(http.client.IncompleteRead(text, length - len(text)))
-        return self.read(response.status, text)
+        return self.read(status, text)
 
     def read(self, status, text):
         if status in (401, 403):

@@ -69,12 +69,15 @@ class Words(unittest.TestCase):
 class Ends(Case):
     def test_terminated(self):
         """Ended by a signal; started again, it goes on."""
-        self.node.move(self.chains.grow(self.chains.first, 300))
+        self.node.move(self.chains.grow(self.chains.first, 400))
+        # So slow that there is something left to feed for each of the runs.
+        self.server.before = lambda _: time.sleep(0.005)
         for number in (signal.SIGTERM, signal.SIGKILL, signal.SIGINT):
             run, before = self.start(), self.server.frames
             self.waits_for("frames", lambda: self.server.frames > before + 20)
             run.send_signal(number)
             self.assertEqual(run.wait(10), 130 if number == signal.SIGINT else -number)
+        self.server.before = None
         self.feed()
         self.assert_same()
 
