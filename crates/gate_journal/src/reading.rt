@@ -1,5 +1,5 @@
 // Reading the start of a record: its gate and its length.
-ghost use Rattle.std.specs.Prelude.{◌≡◌, ◌<◌, ◌≤◌, ◌+◌, ◌^◌, length, IsTrue, IfOk, IfSome};
+ghost use Rattle.std.specs.Prelude.{◌≡◌, ◌<◌, ◌+◌, ◌^◌, length, IsTrue, IfOk, IfSome};
 ghost use Rattle.std.specs.Int.{w32, from_le_bytes, to_le_bytes};
 ghost use Rattle.disk_model.specs.Moments.{EachMoment};
 ghost use Rattle.disk_model.specs.Changes.{Unchanged};

@@ -5,7 +5,6 @@ ghost use Rattle.disk_model.specs.FileState.{put};
 ghost use Rattle.disk_model.specs.Moments.{EachMoment};
 ghost use Rattle.disk_model.specs.Changes.{Changes};
 ghost use Rattle.disk_model.specs.DiskSeen.{Ends, bytes_in};
-ghost use Rattle.gate_journal.specs.Gate.{behind_gate};
 ghost use Rattle.gate_journal.specs.Writes.{KeepsBelow};
 
 use crate::gate::CLOSED;

@@ -1,4 +1,4 @@
-ghost use Rattle.std.specs.Prelude.{◌≡◌, ◌⊎◌, ◌<◌, ◌≤◌, ◌∷◌, ◌&&◌, true, false, [], ℕ, nat_lt, length, take, map, slice_index_or, OnOk, OnErr, IfOk};
+ghost use Rattle.std.specs.Prelude.{◌≡◌, ◌⊎◌, ◌<◌, ◌≤◌, ◌∷◌, ◌&&◌, true, false, [], ℕ, nat_lt, length, map, slice_index_or, OnErr, IfOk};
 ghost use Rattle.fault_counts.specs.Counts.{after_refusal, faults_of};
 ghost use Rattle.fault_counts.specs.Faults.{NeverFell, Rose};
 ghost use Rattle.disk_model.specs.Moments.{IsImage};

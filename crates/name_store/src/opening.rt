@@ -4,13 +4,13 @@ ghost use Rattle.disk_model.specs.Changes.{Unchanged, KeepsSettled};
 ghost use Rattle.disk_model.specs.DiskSeen.{Ends, EndsWith, bytes_in, file_in};
 ghost use Rattle.gate_journal.specs.Stand.{IsReadable};
 ghost use Rattle.name_store.specs.Opening.{OpenAnswer, IsSynced};
-ghost use Rattle.name_store.specs.Reading.{IsBegunBy, FollowsArea, IsInArea, first_gate};
+ghost use Rattle.name_store.specs.Reading.{FollowsArea, IsInArea, first_gate};
 ghost use Rattle.name_store.specs.Damage.{HasNoImage};
 ghost use Rattle.nmc_base.specs.Heights.{highest};
 
 use crate::area::open_area;
 use crate::faults::OpenFault;
-use crate::header::{Header, read_header};
+use crate::header::read_header;
 use crate::reading::{Reading, read_all};
 use crate::store::Store;
 use chain_state::Chain;

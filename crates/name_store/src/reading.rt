@@ -1,5 +1,5 @@
 //! Reading the commands of the area, one after the other.
-ghost use Rattle.std.specs.Prelude.{◌≡◌, IsTrue, IfOk, IsErrOf};
+ghost use Rattle.std.specs.Prelude.{◌≡◌, IsTrue, IfOk};
 ghost use Rattle.disk_model.specs.Moments.{EachMoment};
 ghost use Rattle.disk_model.specs.Changes.{Unchanged};
 ghost use Rattle.disk_model.specs.DiskSeen.{EndsWith, file_in, bytes_in};
