@@ -14,7 +14,7 @@ from .fake_node import FIRST_SIGHT, FakeNode
 from .stand_in import ModelChain, Replay, StandIn, is_built
 
 from blocks import QUERY, frame
-from common import run_in
+from common import pieces, run_in
 
 SECONDS = 30
 FAST = ("--every", "0.05", "--longest-pause", "0.1", "--timeout", "5")
@@ -81,6 +81,13 @@ class Case(unittest.TestCase):
         while not holds():
             self.assertLess(time.monotonic(), until, f"waited for {what}")
             time.sleep(0.01)
+
+    def has_already(self, tip):
+        """The server has a chain, as though the feeder had brought it; the node stands at its tip."""
+        for item in pieces(self.chains.frames(tip)):
+            self.server.answer(item)
+        self.node.move(tip)
+        self.assertEqual(self.server.tip, tip)
 
     def reaches(self, tip):
         """The node has this tip now; the server gets there."""

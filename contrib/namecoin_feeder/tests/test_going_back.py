@@ -21,8 +21,7 @@ class Waiting(Case):
     def setUp(self):
         super().setUp()
         self.top = self.chains.grow(self.chains.first, HEIGHT)
-        self.node.move(self.top)
-        self.feed()
+        self.has_already(self.top)
         self.asked = 0
 
     def looks(self, run):

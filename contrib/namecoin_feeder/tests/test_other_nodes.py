@@ -14,8 +14,7 @@ class OtherNodes(Case):
     def setUp(self):
         super().setUp()
         self.top = self.chains.grow(self.chains.first, 10)
-        self.node.move(self.top)
-        self.feed()
+        self.has_already(self.top)
 
     def stays(self, why, *more, status=5):
         """The feeder ends by its patience, or with another status; the server has all of its blocks. What was told."""
