@@ -48,6 +48,11 @@ pub enum Turned {
 }
 
 impl Bridge {
+    /// The height of the newest block, or of the base.
+    pub(crate) fn height(&self) -> u32 {
+        self.store.chain().tip().height
+    }
+
     /// Opens the files: the bridge stands for the run state that they stand for. It writes nothing and cuts nothing, and syncs
     /// each of the three files.
     pub fn open<D: Disk>(alloc: Global, disk: &mut D) -> Result<Bridge, OpenFault>

@@ -34,11 +34,13 @@ fn serve_by<D: Disk, P: Port, L: Ledger>(
 ) -> Status
     ensures { Serves D.tells D.seen disk.new (serve_seen (P.seen port.old) (D.seen disk.old)) (serve_seen (P.seen port.new) (D.seen disk.new)) plan result }
 {
-    let mut turned = match Bridge::open(alloc, disk) {
-        Ok(bridge) => Turned::On(bridge),
+    let bridge = match Bridge::open(alloc, disk) {
+        Ok(bridge) => bridge,
         Err(fault) => return unopened(fault),
     };
-    match port.bind(plan.udp, plan.feed) {
+    let tip = bridge.height();
+    let mut turned = Turned::On(bridge);
+    match port.bind(plan.udp, plan.feed, tip) {
         Ok(()) => {
             let ending = attend(alloc, &mut turned, disk, buffers, port, plan.turns, steps);
             let_go(turned);

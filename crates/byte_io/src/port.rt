@@ -36,13 +36,14 @@ pub enum Polled {
 pub trait Port {
     ghost seen: { Self → PortSeen };
 
-    /// Binds the port to the number of its UDP port and to that of its feed.
+    /// Binds the port to the number of its UDP port and to that of its feed. The height of the tip is there for people to be
+    /// told, and nothing goes by it.
     ///
     /// `Failed` comes only where the count of faults rose in this call.
-    fn bind(&mut self, udp: u16, feed: u16) -> Result<(), Failed>
+    fn bind(&mut self, udp: u16, feed: u16, tip: u32) -> Result<(), Failed>
         ensures { Binds (seen self.old) (seen self.new) udp feed result };
 
-    /// Waits a short while, and brings one datagram, one piece of the feed, its end, or nothing.
+    /// Waits a while, and brings one datagram, one piece of the feed, its end, or nothing.
     fn poll(&mut self, buf: &mut [u8]) -> Polled
         requires bound { IsBound (seen self.old) }
         requires room { length buf.old ≡ POLL_ROOM }
@@ -56,14 +57,15 @@ pub trait Port {
         requires { IsBound (seen self.old) }
         ensures { Sends (seen self.old) (seen self.new) (replied client bytes.now) result };
 
-    /// Sends bytes to the feed, whole.
+    /// Sends bytes to the feed: at Ok they are sent, or kept to be sent, whole and in order, also where the feed is closed or the
+    /// port let go meanwhile.
     ///
     /// `Failed` comes only where the count of faults rose in this call.
     fn feed_reply(&mut self, bytes: &[u8]) -> Result<(), Failed>
         requires { IsBound (seen self.old) }
         ensures { Sends (seen self.old) (seen self.new) (fed_back bytes.now) result };
 
-    /// Drops the feed's connection, if there is one.
+    /// Lets go of the feed's connection, if there is one; what was kept for it is still sent.
     fn close_feed(&mut self)
         requires { IsBound (seen self.old) }
         ensures { Notes (seen self.old) (seen self.new) (closed ∷ []) };

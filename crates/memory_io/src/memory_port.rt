@@ -125,7 +125,7 @@ impl MemoryPort {
 impl Port for MemoryPort {
     ghost seen = { memory_seen };
 
-    fn bind(&mut self, udp: u16, feed: u16) -> Result<(), Failed>
+    fn bind(&mut self, udp: u16, feed: u16, _tip: u32) -> Result<(), Failed>
         ensures binds { Binds (memory_seen self.old) (memory_seen self.new) udp feed result }
         ensures listed { is_err result ≡ is_next_listed self.old.counts }
         ensures after { self.new ≡ record {

@@ -177,9 +177,9 @@ fn binds_after(rt: &impl Abort, port: &mut MemoryPort, failures: usize) -> Resul
     ensures { OnOk result (IsBound (memory_seen port.new)) }
 {
     for _ in 0..failures {
-        assert!(rt; port.bind(53, 54).is_err());
+        assert!(rt; port.bind(53, 54, 0).is_err());
     }
-    Ok(port.bind(53, 54)?)
+    Ok(port.bind(53, 54, 0)?)
 }
 
 /// The next poll answers this, with these bytes at the front of the buffer.

@@ -24,6 +24,7 @@ pub(crate) enum Cause {
     Listening {
         udp: u16,
         feed: u16,
+        tip: u32,
     },
     /// The feed's connection is another user's.
     Stranger {
@@ -42,9 +43,9 @@ impl fmt::Display for Cause {
                 what,
                 error,
             } => write!(f, "port {number} ({what}): {error}"),
-            Cause::Listening { udp, feed } => write!(
+            Cause::Listening { udp, feed, tip } => write!(
                 f,
-                "queries are taken at 127.0.0.1 port {udp} (UDP), and a feed at 127.0.0.1 port {feed} (TCP)"
+                "queries are taken at 127.0.0.1 port {udp} (UDP), and a feed at 127.0.0.1 port {feed} (TCP); the tip is at height {tip}"
             ),
             Cause::Stranger { user, own } => write!(
                 f,

@@ -71,10 +71,10 @@ impl<'a> Port for SocketPort<'a> {
 
     ghost seen = { socket_seen };
 
-    fn bind(&mut self, udp: u16, feed: u16) -> Result<(), Failed> {
+    fn bind(&mut self, udp: u16, feed: u16, tip: u32) -> Result<(), Failed> {
         match Sockets::bind(self.rt, self.people, udp, feed) {
             Ok(sockets) => {
-                self.people.tell(Cause::Listening { udp, feed });
+                self.people.tell(Cause::Listening { udp, feed, tip });
                 self.bound = Some(Bound { udp, feed, sockets });
                 Ok(())
             }
