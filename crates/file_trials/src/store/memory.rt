@@ -15,7 +15,6 @@ use name_store::{CreateFault, OpenFault, Outcome, Store};
 use nmc_base::{Hash32, Steps};
 use std::alloc::Global;
 use std::marker::Brand;
-use std::process::Abort;
 use std::sync::ledger::{Blank, Ledger};
 
 /// Connects the first block to a store that is on the disk, and to the one that is handed back for want of memory.
