@@ -192,6 +192,8 @@ fn values_are_counted(rt: HostRuntime) -> Result<(), Fail> {
     }
     let again = room.named(rt.alloc(), &all, &[0, 7])?;
     let refused = room.named(rt.alloc(), &all, b"d/one more");
-    assert!(rt; again.is_some() && refused == Err(Exhausted::Values) && room.values_read() == MOST_VALUES);
+    assert!(rt;
+        again.is_some() && refused == Err(Exhausted::Values) && room.values_read() == MOST_VALUES
+    );
     Ok(())
 }

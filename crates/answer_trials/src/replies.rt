@@ -60,7 +60,15 @@ fn reply_to(alloc: Global, served: &'static [Row], message: &[u8], buffer: &mut 
     };
     let zone = Zone { host, serial: 40 };
     let mut values = 0;
-    match answer(alloc, &Index { rows: served }, &zone, message, 512, buffer, &mut values) {
+    match answer(
+        alloc,
+        &Index { rows: served },
+        &zone,
+        message,
+        512,
+        buffer,
+        &mut values,
+    ) {
         Answered::Dropped => 0,
         Answered::Text(size) => size,
     }

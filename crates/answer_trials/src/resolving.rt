@@ -151,7 +151,12 @@ fn read_case(line: &str) -> Result<Case<'_>, Fail> {
 }
 
 /// The answer to a case's question, as text.
-fn answer_shown(alloc: Global, index: &Index<'_>, zone: &Zone, of: Case<'_>) -> Result<String, Fail> {
+fn answer_shown(
+    alloc: Global,
+    index: &Index<'_>,
+    zone: &Zone,
+    of: Case<'_>,
+) -> Result<String, Fail> {
     let wire = wire(alloc, of.name)?;
     let sections = resolved(alloc, index, zone, wire.as_slice(), of.kind, of.class)?;
     shown(alloc, &sections)
