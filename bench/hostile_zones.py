@@ -16,13 +16,12 @@ WIDE, WHOLE = 1000, 6000
 
 
 class Row(typing.NamedTuple):
-    """A question about names that are made for it; the RCODE that it gets, and whether it spends all values that may be read."""
+    """A question about names that are made for it, and the RCODE that it gets."""
 
     told: str
     names: dict
     name: str
     code: int
-    is_spent: bool = False
 
 
 def text_of(value):
@@ -31,8 +30,8 @@ def text_of(value):
 
 def padded(value):
     """The value with as many small members more as there is room for."""
-    found, number = dict(value), 0
-    while len(text_of({**found, f"k{number:x}": []})) <= LONGEST_VALUE:
+    found, number, room = dict(value), 0, LONGEST_VALUE - len(text_of(value))
+    while (room := room - len(f',"k{number:x}":[]')) >= 0:
         found[f"k{number:x}"] = []
         number += 1
     return found
@@ -129,7 +128,7 @@ def web(count):
 def wide():
     """Many names that import one another, and more than may be read for one message."""
     yield Row(f"{WIDE} names", web(WIDE), below(MOST_LABELS), 0)
-    yield Row(f"{WHOLE} names", web(WHOLE), below(MOST_LABELS), 2, True)
+    yield Row(f"{WHOLE} names", web(WHOLE), below(MOST_LABELS), 2)
 
 
 def rows():

@@ -19,7 +19,7 @@ use crate::zone::Zone;
 use dns_message::rcode;
 use domain_text::Name;
 use ifa_value::Key;
-use import_expand::{Room, Exhausted, Names};
+use import_expand::{Exhausted, Names, Room};
 use nmc_base::NoMemory;
 use std::alloc::Global;
 
@@ -97,7 +97,13 @@ fn is_asked(kind: u16, key: Key) -> bool
 }
 
 /// The records of these items that match a QTYPE.
-fn matching(alloc: Global, node: &Node<'_>, kind: u16, keys: &[Key], room: &Room) -> Result<Resources, NoMemory>
+fn matching(
+    alloc: Global,
+    node: &Node<'_>,
+    kind: u16,
+    keys: &[Key],
+    room: &Room,
+) -> Result<Resources, NoMemory>
     ensures { IfOk result (λ v. (n : NodeOf) → ShowsNode room.now node.now n → v.items ≡ matching_of n kind keys.now) }
 {
     let mut found = Resources::new(alloc);
@@ -110,7 +116,12 @@ fn matching(alloc: Global, node: &Node<'_>, kind: u16, keys: &[Key], room: &Room
 }
 
 /// The records of a node that match a QTYPE.
-fn matching_any(alloc: Global, node: &Node<'_>, kind: u16, room: &Room) -> Result<Resources, NoMemory>
+fn matching_any(
+    alloc: Global,
+    node: &Node<'_>,
+    kind: u16,
+    room: &Room,
+) -> Result<Resources, NoMemory>
     ensures { IfOk result (λ v. (n : NodeOf) → ShowsNode room.now node.now n → v.items ≡ matching_of n kind record_items) }
 {
     let keys = [
@@ -140,7 +151,13 @@ fn by_cname(alloc: Global, kind: u16, own: &Name, target: Name) -> Result<Asked,
 }
 
 /// What the node of a name answers that is no cut.
-fn in_zone(alloc: Global, zone: &Zone, node: &Node<'_>, kind: u16, room: &Room) -> Result<Asked, NoMemory>
+fn in_zone(
+    alloc: Global,
+    zone: &Zone,
+    node: &Node<'_>,
+    kind: u16,
+    room: &Room,
+) -> Result<Asked, NoMemory>
     ensures { IfOk result (λ a. (n : NodeOf) → ShowsNode room.now node.now n → seen_asked a ≡ in_zone_of zone.now n kind) }
 {
     match node.target(alloc, Key::Alias, room)? {
@@ -156,7 +173,13 @@ fn in_zone(alloc: Global, zone: &Zone, node: &Node<'_>, kind: u16, room: &Room) 
 }
 
 /// What a cut at the name itself answers: DS stands above the cut.
-fn at_cut(alloc: Global, zone: &Zone, node: &Node<'_>, kind: u16, room: &Room) -> Result<Sections, NoMemory>
+fn at_cut(
+    alloc: Global,
+    zone: &Zone,
+    node: &Node<'_>,
+    kind: u16,
+    room: &Room,
+) -> Result<Sections, NoMemory>
     ensures { IfOk result (λ s. (n : NodeOf) → ShowsNode room.now node.now n → seen_sections s ≡ at_cut_of zone.now n kind) }
 {
     if kind == rr_type::DS {
@@ -169,7 +192,13 @@ fn at_cut(alloc: Global, zone: &Zone, node: &Node<'_>, kind: u16, room: &Room) -
 }
 
 /// What the node of a name answers.
-fn at_name(alloc: Global, zone: &Zone, node: &Node<'_>, kind: u16, room: &Room) -> Result<Asked, NoMemory>
+fn at_name(
+    alloc: Global,
+    zone: &Zone,
+    node: &Node<'_>,
+    kind: u16,
+    room: &Room,
+) -> Result<Asked, NoMemory>
     ensures { IfOk result (λ a. (n : NodeOf) → ShowsNode room.now node.now n → seen_asked a ≡ at_name_of zone.now n kind) }
 {
     if node.is_cut(alloc, room)? {

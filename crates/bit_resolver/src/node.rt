@@ -61,7 +61,12 @@ impl<'a> Node<'a> {
     }
 
     /// The name that `alias` or `translate` gives. None exactly where there is none, or it is skipped at the node.
-    pub(crate) fn target(&self, alloc: Global, key: Key, room: &Room) -> Result<Option<Name>, NoMemory>
+    pub(crate) fn target(
+        &self,
+        alloc: Global,
+        key: Key,
+        room: &Room,
+    ) -> Result<Option<Name>, NoMemory>
         ensures { IfOk result (λ o. (n : NodeOf) → ShowsNode room.now self.now n → o ≡ target_at key n) }
     {
         match room.first_with(self.of, key) {
@@ -136,7 +141,12 @@ impl<'a> Node<'a> {
     }
 
     /// The records of an item.
-    pub(crate) fn records(&self, alloc: Global, key: Key, room: &Room) -> Result<Resources, NoMemory>
+    pub(crate) fn records(
+        &self,
+        alloc: Global,
+        key: Key,
+        room: &Room,
+    ) -> Result<Resources, NoMemory>
         ensures { IfOk result (λ v. (n : NodeOf) → ShowsNode room.now self.now n → v.items ≡ records_at key n) }
     {
         let mut found = Resources::new(alloc);

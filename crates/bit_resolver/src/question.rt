@@ -20,12 +20,17 @@ use crate::rr_type;
 use crate::zone::Zone;
 use dns_message::{Question, rcode};
 use domain_text::Name;
-use import_expand::{Room, Exhausted, Names};
+use import_expand::{Exhausted, Names, Room};
 use nmc_base::NoMemory;
 use std::alloc::Global;
 
 /// The number of the object of the name `d/` and this label. None exactly where the label is no domain label, or the name isn't served.
-fn value<N: Names>(alloc: Global, names: &N, x: &[u8], room: &mut Room) -> Result<Option<usize>, Exhausted>
+fn value<N: Names>(
+    alloc: Global,
+    names: &N,
+    x: &[u8],
+    room: &mut Room,
+) -> Result<Option<usize>, Exhausted>
     requires name { IsWireLabel x.now }
     requires sound { IsSound (N.served names.now) room.old }
     ensures found { IfOk result (λ o. Finds (objects_in room.new) o (value_of (N.served names.now) x.now)) }

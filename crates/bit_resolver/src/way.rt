@@ -14,7 +14,7 @@ use crate::node::Node;
 use crate::place::Below;
 use domain_text::Name;
 use ifa_value::Key;
-use import_expand::{Room, Exhausted, Names};
+use import_expand::{Exhausted, Names, Room};
 use std::alloc::Global;
 
 /// How the way down to a name ends: at its node; without one; at a cut on the way; or at a node on the way that is moved,

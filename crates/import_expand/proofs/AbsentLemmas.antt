@@ -17,7 +17,7 @@ pub one_more : (b c later : Book) (label numbers : List ℕ) (n at : ℕ) (r : O
     → ((live : Live) (o : Members) → IsSound live c → IsAt (objects c) at o → Finds (objects later) r (entry_of label o)) → HaveNone b label numbers n → HaveNone b label numbers (n + 1)
 one_more b c later label numbers n at r k e none found have =
     λ live sound. below_more _ _ (have live sound)
-      (λ o here. finds_is_none (objects later) (entry_of label o) (rw none at (found live o (k.sound live sound) (k.grows at o (rw e at here)))))
+    (λ o here. finds_is_none (objects later) (entry_of label o) (rw none at (found live o (k.sound live sound) (k.grows at o (rw e at here)))))
 
 get_or_front : (xs ys : List ℕ) (k : ℕ) → k < length xs → get_or (xs ++ ys) k 0 ≡ get_or xs k 0
 get_or_front [] ys k h = absurd (omega arith)
@@ -32,9 +32,9 @@ pub pushed : (b c later : Book) (label asked more : List ℕ) (at : ℕ) (r : Op
     → ((live : Live) (o : Members) → IsSound live c → IsAt (objects c) at o → Finds (objects later) r (entry_of label o)) → HaveNone b label asked (length asked) → HaveNone b label more (length more)
 pushed b c later label asked more at r e k none found have =
     rw e (λ live sound i within. let w : i < length asked + 1 = rw (length-append asked (at ∷ [])) at within in
-      below_more (λ (i : ℕ). (o : Members) → IsAt (objects b) (get_or (asked ++ at ∷ []) i 0) o → entry_of label o ≡ None) (length asked)
-        (λ j l o here. have live sound j l o (rw (get_or_front asked (at ∷ []) j l) at here))
-        (λ o here. let h : IsAt (objects b) at o = rw (get_or_end asked at) at here in finds_is_none (objects later) (entry_of label o) (rw none at (found live o (k.sound live sound) (k.grows at o h)))) i w)
+    below_more (λ (i : ℕ). (o : Members) → IsAt (objects b) (get_or (asked ++ at ∷ []) i 0) o → entry_of label o ≡ None) (length asked)
+    (λ j l o here. have live sound j l o (rw (get_or_front asked (at ∷ []) j l) at here))
+    (λ o here. let h : IsAt (objects b) at o = rw (get_or_end asked at) at here in finds_is_none (objects later) (entry_of label o) (rw none at (found live o (k.sound live sound) (k.grows at o h)))) i w)
 
 -- a source that was asked before
 pub asked_before : (b : Book) (label numbers asked : List ℕ) (n j : ℕ) → j < length asked → get_or asked j 0 ≡ get_or numbers n 0 → HaveNone b label asked (length asked) → HaveNone b label numbers n → HaveNone b label numbers (n + 1)

@@ -76,8 +76,12 @@ grown r later s e = λ k numbers h. rw (nodes_joined r.nodes.items later.nodes.i
 pub put_keeps : (r later : Room) (s : Sources) → later.nodes.items ≡ r.nodes.items ++ s ∷ [] → later.book ≡ r.book → later.children.items ≡ r.children.items → later.tops.items ≡ r.tops.items → (ns : List Members) → Shows (objects_in r) s.numbers.items ns → Keeps r later
 put_keeps r later s n b c t ns shown =
     let g : Grows (objects_in r) (objects_in later) = λ i o h. rw b h in
-    record { grows = g; nodes = grown r later s n; sound = λ live sound. same_memory live r later g (grown r later s n) (rw b sound.book)
-        (rw n (All-push (IsShown (objects_in later)) _ _ (All-weaker (IsShown (objects_in r)) (IsShown (objects_in later)) (shown_later _ _ g) _ sound.nodes) (record { of = ns; shown = rw b shown }))) c t sound }
+    record {
+      grows = g;
+      nodes = grown r later s n;
+      sound = λ live sound. same_memory live r later g (grown r later s n) (rw b sound.book)
+          (rw n (All-push (IsShown (objects_in later)) _ _ (All-weaker (IsShown (objects_in r)) (IsShown (objects_in later)) (shown_later _ _ g) _ sound.nodes) (record { of = ns; shown = rw b shown }))) c t sound;
+    }
 
 pub put_at : (r later : Room) (s : Sources) (k : ℕ) (ns : List Members) → later.nodes.items ≡ r.nodes.items ++ s ∷ [] → later.book ≡ r.book → k ≡ length r.nodes.items → Shows (objects_in r) s.numbers.items ns → IsNode later k ns
 put_at r later s k ns n b e shown = record {
@@ -166,7 +170,7 @@ child_known live r c k label ns sound within e same node =
     let is : IsChild live (objects_in r) (nodes_in r) c = subst (IsChild live (objects_in r) (nodes_in r)) (sym e) (All-get_or (IsChild live (objects_in r) (nodes_in r)) r.children.items k c within sound.children) in
     let one : is.of ≡ ns = node_one (objects_in r) (nodes_in r) c.of is.of ns is.is_of node in
     subst (λ (x : List Members). IsNodeAt (objects_in r) (nodes_in r) c.at (child_of live x label)) one
-      (subst (λ (x : List ℕ). IsNodeAt (objects_in r) (nodes_in r) c.at (child_of live is.of x)) same is.is)
+    (subst (λ (x : List ℕ). IsNodeAt (objects_in r) (nodes_in r) c.at (child_of live is.of x)) same is.is)
 
 -- the objects of a node that there is
 pub record NodeOf (r : Room) (k : ℕ) : Type 0 where

@@ -76,7 +76,12 @@ impl Room {
     }
 
     /// The number of the object of a name, which is read where it wasn't before. None exactly where the name isn't served.
-    pub fn named<N: Names>(&mut self, alloc: Global, names: &N, name: &[u8]) -> Result<Option<usize>, Exhausted>
+    pub fn named<N: Names>(
+        &mut self,
+        alloc: Global,
+        names: &N,
+        name: &[u8],
+    ) -> Result<Option<usize>, Exhausted>
         requires sound { IsSound (N.served names.now) self.old }
         ensures found { IfOk result (λ r. Finds (objects_in self.new) r (option_map object_of (N.served names.now name.now))) }
         ensures later { OnOk result (Later (N.served names.now) self.old self.new) }
@@ -218,7 +223,13 @@ impl Room {
     }
 
     /// Remembers a child, where the node above it has many sources.
-    fn keep_child(&mut self, alloc: Global, of: usize, label: &[u8], at: usize) -> Result<(), NoMemory>
+    fn keep_child(
+        &mut self,
+        alloc: Global,
+        of: usize,
+        label: &[u8],
+        at: usize,
+    ) -> Result<(), NoMemory>
         ensures later { OnOk result ((live : Live) (ns : List Members) → IsNode self.old of ns → IsNode self.old at (child_of live ns label.now) → IsSound live self.old → Later live self.old self.new) }
         ensures values { values_read self.new ≡ values_read self.old }
     {
@@ -229,7 +240,12 @@ impl Room {
         let next = self.children.len();
         let label = Bytes::copy_of(alloc, label)?;
         self.newest.resize(self.nodes.len(), usize::MAX)?;
-        self.children.push(Child { of, label, at, older })?;
+        self.children.push(Child {
+            of,
+            label,
+            at,
+            older,
+        })?;
         if let Some(newest) = self.newest.get_mut(of) {
             *newest = next;
         }
@@ -244,7 +260,12 @@ impl Room {
     {
         match self.nodes.get(of) {
             Some(sources) => {
-                let is_absent = are_absent(alloc, sources.numbers.as_slice(), label, &mut self.book)?;
+                let is_absent = are_absent(
+                    alloc,
+                    sources.numbers.as_slice(),
+                    label,
+                    &mut self.book,
+                )?;
                 Ok(is_absent)
             }
             None => Ok(false),
@@ -252,7 +273,13 @@ impl Room {
     }
 
     /// The number of a node's child, which is found by its sources where it wasn't before.
-    fn child_under<N: Names>(&mut self, alloc: Global, names: &N, of: usize, label: &[u8]) -> Result<usize, Exhausted>
+    fn child_under<N: Names>(
+        &mut self,
+        alloc: Global,
+        names: &N,
+        of: usize,
+        label: &[u8],
+    ) -> Result<usize, Exhausted>
         requires sound { IsSound (N.served names.now) self.old }
         ensures found { IfOk result (λ k. (ns : List Members) → IsNode self.old of ns → IsNode self.new k (child_of (N.served names.now) ns label.now)) }
         ensures later { OnOk result (Later (N.served names.now) self.old self.new) }
@@ -265,7 +292,13 @@ impl Room {
                 let Some(sources) = self.nodes.get(of) else {
                     return Ok(of);
                 };
-                let found = child(alloc, names, sources.numbers.as_slice(), label, &mut self.book)?;
+                let found = child(
+                    alloc,
+                    names,
+                    sources.numbers.as_slice(),
+                    label,
+                    &mut self.book,
+                )?;
                 let at = self.put_below(of, found)?;
                 self.keep_child(alloc, of, label, at)?;
                 Ok(at)
@@ -275,7 +308,13 @@ impl Room {
 
     /// The number of a node's child under a label: its sources are those of the entries under the label, or, where no source has
     /// one, under `*`.
-    pub fn child<N: Names>(&mut self, alloc: Global, names: &N, of: usize, label: &[u8]) -> Result<usize, Exhausted>
+    pub fn child<N: Names>(
+        &mut self,
+        alloc: Global,
+        names: &N,
+        of: usize,
+        label: &[u8],
+    ) -> Result<usize, Exhausted>
         requires sound { IsSound (N.served names.now) self.old }
         ensures found { IfOk result (λ k. (ns : List Members) → IsNode self.old of ns → IsNode self.new k (child_of (N.served names.now) ns label.now)) }
         ensures later { OnOk result (Later (N.served names.now) self.old self.new) }

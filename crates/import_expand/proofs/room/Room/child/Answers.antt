@@ -13,8 +13,8 @@ returns-then-branch-clause-found g c ns node =
     let live = g.N.Names.served c.args.names.now in
     let l = keeps_later live c.args.self.now c.is_absent.new.self c.in_ok-is_absent.ensures.keeps c.requires.sound in
     subst (λ (x : List Members). IsNodeAt (objects_in c.child_under-then-branch.new.self) (nodes_in c.child_under-then-branch.new.self) c.in_ok-at-2.at x)
-      (child_of_any live ns c.args.label.now (c.in_ok-is_absent.ensures.absent c.if-branch.true live ns c.requires.sound node))
-      (c.in_ok-at-2.ensures.found ns (node_after live c.args.self.now c.is_absent.new.self c.args.of ns l node))
+    (child_of_any live ns c.args.label.now (c.in_ok-is_absent.ensures.absent c.if-branch.true live ns c.requires.sound node))
+    (c.in_ok-at-2.ensures.found ns (node_after live c.args.self.now c.is_absent.new.self c.args.of ns l node))
 
 pub returns-then-branch-clause-later : goal.returns-then-branch-clause-later
 returns-then-branch-clause-later g c =

@@ -15,8 +15,8 @@ returns-in_ok-keep_child-in-None-clause-found g c ns node =
     let w = found_at a.nodes.items c.deref.result.now c.args.of s c.deref.ensures.value c.in-Some-get.ensures.lookup.0 c.in-Some-get.ensures.lookup.1 in
     let shown = c.in_ok-found-in-None.ensures.found ns (shows_by (objects_in a) s.numbers.items c.as_slice.result.now ns (sym c.as_slice.ensures.value) (node_shown a c.args.of (numbers_of s) ns (node_numbers a.nodes.items c.args.of s w.0 w.1) node)) in
     (child_new live a b c.put_below.new.self c.keep_child.new.self c.args.of c.in_ok-at-in-None.at c.args.label.now c.in_ok-found-in-None.found.items ns node
-      (book_later live a b c.in_ok-found-in-None.ensures.later refl refl refl c.requires.sound) shown
-      (c.in_ok-at-in-None.ensures.keeps (child_of live ns c.args.label.now) shown, c.in_ok-at-in-None.ensures.at (child_of live ns c.args.label.now) shown) c.in_ok-keep_child-in-None.ensures.later).node
+    (book_later live a b c.in_ok-found-in-None.ensures.later refl refl refl c.requires.sound) shown
+    (c.in_ok-at-in-None.ensures.keeps (child_of live ns c.args.label.now) shown, c.in_ok-at-in-None.ensures.at (child_of live ns c.args.label.now) shown) c.in_ok-keep_child-in-None.ensures.later).node
 
 pub returns-in_ok-keep_child-in-None-clause-later : goal.returns-in_ok-keep_child-in-None-clause-later
 returns-in_ok-keep_child-in-None-clause-later g c =
@@ -28,5 +28,5 @@ returns-in_ok-keep_child-in-None-clause-later g c =
     let e = node_exists live a c.args.of s c.requires.sound w.0 w.1 in
     let shown = c.in_ok-found-in-None.ensures.found e.of (shows_by (objects_in a) s.numbers.items c.as_slice.result.now e.of (sym c.as_slice.ensures.value) (node_shown a c.args.of (numbers_of s) e.of (node_numbers a.nodes.items c.args.of s w.0 w.1) e.is)) in
     (child_new live a b c.put_below.new.self c.keep_child.new.self c.args.of c.in_ok-at-in-None.at c.args.label.now c.in_ok-found-in-None.found.items e.of e.is
-      (book_later live a b c.in_ok-found-in-None.ensures.later refl refl refl c.requires.sound) shown
-      (c.in_ok-at-in-None.ensures.keeps (child_of live e.of c.args.label.now) shown, c.in_ok-at-in-None.ensures.at (child_of live e.of c.args.label.now) shown) c.in_ok-keep_child-in-None.ensures.later).later
+    (book_later live a b c.in_ok-found-in-None.ensures.later refl refl refl c.requires.sound) shown
+    (c.in_ok-at-in-None.ensures.keeps (child_of live e.of c.args.label.now) shown, c.in_ok-at-in-None.ensures.at (child_of live e.of c.args.label.now) shown) c.in_ok-keep_child-in-None.ensures.later).later

@@ -14,7 +14,7 @@ returns-in_ok-keep_top-in-None-clause-found g c o here =
     let b : Room = record a { book = c.sources.new.book } in
     let shown = c.in_ok-found-in-None.ensures.found o here in
     (top_new live a b c.put.new.self c.keep_top.new.self c.args.of c.in_ok-at-in-None.at o here (book_later live a b c.in_ok-found-in-None.ensures.later refl refl refl c.requires.sound)
-      (c.in_ok-at-in-None.ensures.keeps (sources_of live 0 o) shown, c.in_ok-at-in-None.ensures.at (sources_of live 0 o) shown) c.in_ok-keep_top-in-None.ensures.later).node
+    (c.in_ok-at-in-None.ensures.keeps (sources_of live 0 o) shown, c.in_ok-at-in-None.ensures.at (sources_of live 0 o) shown) c.in_ok-keep_top-in-None.ensures.later).node
 
 pub returns-in_ok-keep_top-in-None-clause-later : goal.returns-in_ok-keep_top-in-None-clause-later
 returns-in_ok-keep_top-in-None-clause-later g c =
@@ -25,4 +25,4 @@ returns-in_ok-keep_top-in-None-clause-later g c =
     let here = slice_get-get_or (objects_in a) c.args.of no_members (omega arith) in
     let shown = c.in_ok-found-in-None.ensures.found o here in
     (top_new live a b c.put.new.self c.keep_top.new.self c.args.of c.in_ok-at-in-None.at o here (book_later live a b c.in_ok-found-in-None.ensures.later refl refl refl c.requires.sound)
-      (c.in_ok-at-in-None.ensures.keeps (sources_of live 0 o) shown, c.in_ok-at-in-None.ensures.at (sources_of live 0 o) shown) c.in_ok-keep_top-in-None.ensures.later).later
+    (c.in_ok-at-in-None.ensures.keeps (sources_of live 0 o) shown, c.in_ok-at-in-None.ensures.at (sources_of live 0 o) shown) c.in_ok-keep_top-in-None.ensures.later).later
