@@ -1,5 +1,5 @@
 -- What a room remembers, where it grows.
-use Rattle.std.proofs.Common.{◌≡◌, ℕ, zero, suc, ◌+◌, ◌<◌, ◌≤◌, List, [], ◌∷◌, ◌++◌, length, map, slice_get, get_or, Option, Some, None, Bool, true, nat_lt, All, refl, sym, ap, subst, ◌∙◌, arith}
+use Rattle.std.proofs.Common.{◌≡◌, ℕ, zero, suc, ◌<◌, List, [], ◌∷◌, ◌++◌, length, map, slice_get, get_or, Some, None, true, nat_lt, All, refl, sym, ap, subst, ◌∙◌, arith}
 use Rattle.std.proofs.lemmas.List.{map-append}
 use Rattle.std.proofs.lemmas.List.Elements.{All-push, All-weaker, All-get_or, All-from_recursion}
 use borrow.Author.Tests.{ltb-true}
@@ -9,7 +9,6 @@ use Rattle.import_expand.specs.Sources.{Live, sources_of, child_of}
 use Rattle.import_expand.specs.Books as books
 use Rattle.import_expand.specs.Books.{objects, IsAt, Shows, Grows}
 use Rattle.import_expand.specs.Rooms.{objects_in, nodes_in, numbers_of, IsNodeAt, IsNode, GrowsBy, IsShown, IsChild, IsTop, IsSound, Keeps, Later}
-use Rattle.import_expand.specs.declared.book.Book.{Book}
 use Rattle.import_expand.specs.declared.room.Room.{Room}
 use Rattle.import_expand.specs.declared.room.Sources.{Sources}
 use Rattle.import_expand.specs.declared.room.Child.{Child}

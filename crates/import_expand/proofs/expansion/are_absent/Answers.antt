@@ -1,5 +1,4 @@
 use Rattle.std.proofs.Common.{◌≡◌, ℕ, ◌<◌, List, length, arith, refl, subst, ◌∙◌, get_or}
-use Rattle.import_expand.specs.Books.{objects}
 use Rattle.import_expand.proofs.BookLemmas.{keeps_both}
 use Rattle.import_expand.proofs.AbsentLemmas.{one_more, pushed, asked_before, all_none}
 use Rattle.import_expand.proofs.expansion.are_absent.Goals as goal

@@ -1,4 +1,4 @@
-use Rattle.std.proofs.Common.{◌≡◌, ℕ, ◌<◌, length, get_or}
+use Rattle.std.proofs.Common.{◌≡◌, length}
 use Rattle.import_expand.specs.Books.{values_read, Keeps}
 use Rattle.import_expand.proofs.AbsentLemmas.{HaveNone}
 use Rattle.import_expand.proofs.expansion.are_absent.Given as goal

@@ -1,4 +1,4 @@
-use Rattle.std.proofs.Common.{refl, sym, ap, subst, List, ℕ}
+use Rattle.std.proofs.Common.{refl, sym, subst, List, ℕ}
 use Rattle.import_expand.specs.Sources.{child_of}
 use Rattle.import_expand.specs.Rooms.{objects_in, nodes_in, IsNodeAt}
 use Rattle.import_expand.proofs.RoomLemmas.{child_keeps}

@@ -1,4 +1,3 @@
-use Rattle.std.proofs.Common.{◌≡◌}
 use Rattle.import_expand.proofs.room.Room.known_child.Given as goal
 
 abbrev pub invariant-loop-child : goal.invariant-loop-child
