@@ -88,7 +88,7 @@ def forms():
     yield Row("selectors of 100 labels", {"d/b": long, "d/x": beside}, far, 0)
     fits = [["d/c", below(60, top="a")]]
     deep = {"import": fits * 4, "map": {"*": {"import": fits * 2}}}
-    yield Row("selectors of 61 labels that fit", {"d/b": deep, "d/c": nested(62), "d/x": beside}, far, 0)
+    yield Row("selectors of 61 labels that fit", {"d/b": deep, "d/c": nested(62), "d/x": beside}, far, 3)
     labels = below(25, "a.b.c.d")
     alias = ring(seven(), alias=labels)
     yield Row("labels that differ", {"d/b": alias, "d/x": alias}, labels, 0)
