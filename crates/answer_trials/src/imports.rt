@@ -2,7 +2,7 @@ ghost use Rattle.std.specs.Prelude.{Some, None, nat_eq, ◌≤◌, if◌then◌e
 ghost use Rattle.std.specs.Cmp.Lexicographic.{pointwise};
 
 use ifa_value::{Element, IfaObject, Key};
-use import_expand::{Exhausted, MOST_VALUES, Names, Room};
+use import_expand::{Names, Room};
 use std::alloc::Global;
 use std::cell::Cell;
 use std::process::Abort;
@@ -162,38 +162,4 @@ fn children(rt: HostRuntime) -> Result<(), Fail> {
     child_gives(&rt, rt.alloc(), &all, b"B", (2, 5, 8))?;
     let one = names(PARENT, b"{\"map\":{\"d\":{\"ip\":\"0.0.0.7\"}}}");
     child_gives(&rt, rt.alloc(), &one, b"d", (1, 7, 0))
-}
-
-/// A node with many sources has the same child where it is asked for again, also under another label that no source has.
-#[test]
-fn children_of_many(rt: HostRuntime) -> Result<(), Fail> {
-    let many = names(
-        b"{\"map\":{\"*\":{\"import\":\"d/a\",\"ip\":\"0.0.0.4\"}},\"import\":[[\"d/a\"],[\"d/a\"],[\"d/a\"]]}",
-        b"{}",
-    );
-    let mut room = Room::new(rt.alloc());
-    let object = room.named(rt.alloc(), &many, b"d/a")?.ok_or("not served")?;
-    let top = room.top(rt.alloc(), &many, object)?;
-    let first = room.child(rt.alloc(), &many, top, b"x")?;
-    let second = room.child(rt.alloc(), &many, top, b"y")?;
-    let found = seen(rt.alloc(), &room, second)?;
-    assert!(rt; first == second && found == (256, 4, 0) && many.asked.get() == 1);
-    Ok(())
-}
-
-/// The names that 4,097 values are asked of: the last is refused, and so is no other.
-#[test]
-fn values_are_counted(rt: HostRuntime) -> Result<(), Fail> {
-    let all = names(b"{}", b"{}");
-    let mut room = Room::new(rt.alloc());
-    for number in 0..MOST_VALUES {
-        let name = number.to_be_bytes();
-        assert!(rt; room.named(rt.alloc(), &all, &name)?.is_some());
-    }
-    let again = room.named(rt.alloc(), &all, &[0, 7])?;
-    let refused = room.named(rt.alloc(), &all, b"d/one more");
-    assert!(rt;
-        again.is_some() && refused == Err(Exhausted::Values) && room.values_read() == MOST_VALUES
-    );
-    Ok(())
 }
