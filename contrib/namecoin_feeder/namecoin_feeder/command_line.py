@@ -1,7 +1,9 @@
 """The words, what is made of them, and the exit status."""
 import argparse
+import contextlib
 import os
 import pathlib
+import signal
 import sys
 import urllib.parse
 
@@ -21,6 +23,8 @@ COOKIE = "~/.namecoin/regtest/.cookie"
 PASSWORD = "NAMECOIN_RPC_PASSWORD"
 SHORTEST_PAUSE, LONGEST_PAUSE = 0.5, 60.0
 INTERRUPTED = 130
+# Seconds until an interrupt comes again.
+AGAIN = 0.2
 
 EPILOG = """\
 exit statuses:
@@ -164,11 +168,30 @@ def run(given, progress):
         progress.end()
 
 
+def interrupt(*_):
+    signal.setitimer(signal.ITIMER_REAL, AGAIN)
+    raise KeyboardInterrupt
+
+
+@contextlib.contextmanager
+def held_interrupts():
+    """Within it an interrupt comes again until it has ended what is within: Python drops what is raised where an object is let go of."""
+    if signal.getsignal(signal.SIGINT) is signal.default_int_handler:
+        signal.signal(signal.SIGALRM, interrupt)
+        signal.signal(signal.SIGINT, interrupt)
+    try:
+        yield
+    finally:
+        signal.signal(signal.SIGALRM, signal.SIG_IGN)
+        signal.setitimer(signal.ITIMER_REAL, 0)
+
+
 def main(arguments=None):
     given = words().parse_args(arguments)
     progress = Progress(sys.stderr)
     try:
-        run(given, progress)
+        with held_interrupts():
+            run(given, progress)
     except Stop as stop:
         progress.say(str(stop))
         return int(stop.status)

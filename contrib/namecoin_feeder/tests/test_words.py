@@ -81,6 +81,20 @@ class Ends(Case):
         self.feed()
         self.assert_same()
 
+    def test_interrupt_again(self):
+        """An interrupt that comes where an object is let go of, which Python drops, comes again."""
+        lines = (
+            "import os, signal, time",
+            "from namecoin_feeder.command_line import held_interrupts",
+            "class Held:",
+            "    def __del__(self): os.kill(os.getpid(), signal.SIGINT)",
+            "with held_interrupts():",
+            "    Held()",
+            "    time.sleep(60)",
+        )
+        run = subprocess.run([sys.executable, "-c", "\n".join(lines)], cwd=FEEDER, stderr=subprocess.PIPE, text=True, timeout=30)
+        self.assertIn("KeyboardInterrupt", run.stderr.splitlines()[-1])
+
     def test_terminal(self):
         """On a terminal the line is written over; the last one stays."""
         self.node.move(self.chains.grow(self.chains.first, 200))
