@@ -67,6 +67,11 @@ class Words(unittest.TestCase):
 
 
 class Ends(Case):
+    def setUp(self):
+        super().setUp()
+        # What a shell starts in the background is deaf to interrupts, and so is all that it starts.
+        signal.signal(signal.SIGINT, signal.default_int_handler)
+
     def test_terminated(self):
         """Ended by a signal; started again, it goes on."""
         self.node.move(self.chains.grow(self.chains.first, 400))
