@@ -37,6 +37,7 @@ FitsNamedCoin (Named name height) = (height < 2 ^ 32) × FitsName name
 
 pub record FitsItem (item : Item) : Type 0 where
   pub height : item.height < 2 ^ 32
+  pub registered : item.registered < 2 ^ 32
   pub at : FitsPoint item.at
   pub value : length item.value ≤ LONGEST_VALUE
 
