@@ -1,7 +1,7 @@
 -- Functions with another value at one key, and what is read of a table once its entry at one key changed.
-use Rattle.std.proofs.Common.{◌≡◌, ℕ, nat_eq, Bool, true, false, cond, List, [], ◌∷◌, Option, Some, refl, sym, ap, ◌∙◌}
+use Rattle.std.proofs.Common.{◌≡◌, ℕ, Bool, true, false, cond, List, [], ◌∷◌, Option, Some, refl, sym, ap, ◌∙◌}
 use Rattle.std.proofs.Math.Path.{fun_ext}
-use Rattle.std.proofs.lemmas.Bool.{eq-eqb, cond-true}
+use Rattle.std.proofs.lemmas.Bool.{cond-true}
 use Rattle.std.proofs.lemmas.Slice.Eq.{bytes_eq-Decides}
 use Rattle.std.specs.Bool.{Decides}
 use Rattle.std.specs.Map.{lookup, set_value}
@@ -54,7 +54,7 @@ pub bytes_eq-self : (a : List ℕ) → bytes_eq a a ≡ true
 bytes_eq-self a = (bytes_eq-Decides a a).1 refl
 
 -- what a changed function gives at the key that it was changed at
-pub at_changed : {K V : Type 0} (same : K → K → Bool) (self : (a : K) → same a a ≡ true) (f before : K → V) (key : K) (value : V)
+at_changed : {K V : Type 0} (same : K → K → Bool) (self : (a : K) → same a a ≡ true) (f before : K → V) (key : K) (value : V)
     → f ≡ changed same before key value → f key ≡ value
 at_changed {K = K} {V = V} same self f before key value is =
     ap (λ (g : K → V). g key) is ∙ cond-true (same key key) value (before key) (self key)
@@ -66,10 +66,6 @@ same_point-at_changed f before point value is = at_changed same_point same_point
 pub bytes_eq-at_changed : {V : Type 0} (f before : List ℕ → V) (name : List ℕ) (value : V)
     → f ≡ changed bytes_eq before name value → f name ≡ value
 bytes_eq-at_changed f before name value is = at_changed bytes_eq bytes_eq-self f before name value is
-
-pub nat_eq-at_changed : {V : Type 0} (f before : ℕ → V) (height : ℕ) (value : V)
-    → f ≡ changed nat_eq before height value → f height ≡ value
-nat_eq-at_changed f before height value is = at_changed nat_eq (λ h. eq-eqb h h refl) f before height value is
 
 module _ {K : Type 0} (same : K → K → Bool) (equal : (a b : K) → same a b ≡ true → a ≡ b) where
   -- a change to the value that is there changes nothing

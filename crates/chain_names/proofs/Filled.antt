@@ -17,15 +17,6 @@ module _ {K : Type 0} {same : K → K → Bool} (decides : (a b : K) → Decides
       → FilledBut touched (changed same places k (held k)) held
   filled-unplaced touched places held k filled q = unplaced_at touched places held k q (same k q) refl (filled q)
 
-  placed_at : (touched places held : K → Bool) (k q : K) (b : Bool) → FilledBut touched places held
-      → cond b true (places q) ≡ true → cond b true (touched q) ≡ false → held q ≡ true
-  placed_at touched places held k q true filled here free = absurd (true_is_not_false free)
-  placed_at touched places held k q false filled here free = filled q here free
-
-  -- a place is made
-  pub filled-placed : (touched places held : K → Bool) (k : K) → FilledBut touched places held → FilledBut (changed same touched k true) (changed same places k true) held
-  filled-placed touched places held k filled q = placed_at touched places held k q (same k q) filled
-
   taken_at : (touched places held : K → Bool) (k q : K) (b : Bool) → FilledBut touched places held
       → places q ≡ true → cond b true (touched q) ≡ false → cond b false (held q) ≡ true
   taken_at touched places held k q true filled here free = absurd (true_is_not_false free)
@@ -34,14 +25,6 @@ module _ {K : Type 0} {same : K → K → Bool} (decides : (a b : K) → Decides
   -- a place is emptied
   pub filled-taken : (touched places held : K → Bool) (k : K) → FilledBut touched places held → FilledBut (changed same touched k true) places (changed same held k false)
   filled-taken touched places held k filled q = taken_at touched places held k q (same k q) filled
-
-  put_at : (touched places held : K → Bool) (k q : K) (b : Bool) → FilledBut touched places held → places q ≡ true → touched q ≡ false → cond b true (held q) ≡ true
-  put_at touched places held k q true filled here free = refl
-  put_at touched places held k q false filled here free = filled q here free
-
-  -- a place is filled
-  pub filled-put : (touched places held : K → Bool) (k : K) → FilledBut touched places held → FilledBut touched places (changed same held k true)
-  filled-put touched places held k filled q = put_at touched places held k q (same k q) filled
 
 -- more may be touched
 pub filled-weaker : {K : Type 0} (touched more places held : K → Bool) → ((k : K) → more k ≡ false → touched k ≡ false) → FilledBut touched places held → FilledBut more places held

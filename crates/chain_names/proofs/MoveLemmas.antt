@@ -20,11 +20,9 @@ use Rattle.chain_names.proofs.Changed.{changed_at, bytes_eq-self}
 use Rattle.chain_names.proofs.LogLemmas.{fresh_stands}
 use Rattle.chain_names.proofs.Points.{same_point-Decides, same_point-true, same_point-self}
 use Rattle.chain_names.proofs.Shown.{true_is_not_false}
-use Rattle.chain_names.proofs.HistoryLemmas.{entry_of-more}
-use Rattle.chain_names.specs.State.{IsUpTo, FitsItem, IsRising, IsStandingCoin}
+use Rattle.chain_names.proofs.HistoryLemmas.{each_history, entry_of-more, last_item, own_history, rising-more}
+use Rattle.chain_names.specs.State.{IsUpTo, FitsItem, IsRising, IsStandingCoin, Stands}
 use Rattle.chain_names.proofs.PointLemmas.{apart}
-use Rattle.chain_names.proofs.RestoredHistoryLemmas.{each_history, last_item, own_history, rising-more}
-use Rattle.chain_names.proofs.StandLemmas.{Stands}
 
 -- ---- a commitment
 

@@ -83,7 +83,7 @@ elsewhere_here : (coins : OutPoint → Option Coin) (held : HeldCoin) (helds : L
 elsewhere_here coins held helds point later true none = absurd (true_is_not_false none)
 elsewhere_here coins held helds point later false none = later none
 
-restored-elsewhere : (coins : OutPoint → Option Coin) (helds : List HeldCoin) (point : OutPoint) → list_any (is_held_at point) helds ≡ false
+pub restored-elsewhere : (coins : OutPoint → Option Coin) (helds : List HeldCoin) (point : OutPoint) → list_any (is_held_at point) helds ≡ false
     → restored helds coins point ≡ coins point
 restored-elsewhere coins [] point none = refl
 restored-elsewhere coins (held ∷ helds) point none =

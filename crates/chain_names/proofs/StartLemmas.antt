@@ -23,13 +23,12 @@ use Rattle.chain_names.specs.Verdict.{made_at}
 use Rattle.chain_names.proofs.Changed.{changed_at, changed_mapped}
 use Rattle.chain_names.proofs.Points.{same_point-Decides, same_point-comm}
 use Rattle.chain_names.proofs.Shown.{true_is_not_false}
-use Rattle.chain_names.proofs.HistoryLemmas.{entry_of-more}
-use Rattle.chain_names.specs.State.{IsUpTo, FitsItem, IsRising, IsStandingCoin, HasFewNames, IsState}
+use Rattle.chain_names.proofs.HistoryLemmas.{each_history, entry_of-more, last_item, own_history}
+use Rattle.chain_names.specs.State.{IsUpTo, FitsItem, IsRising, IsStandingCoin, HasFewNames, IsState, Stands}
 use Rattle.chain_names.specs.Sound.{BeginsRegistration, IsSound}
 use Rattle.chain_names.proofs.PointLemmas.{apart}
-use Rattle.chain_names.proofs.StandLemmas.{Stands, standing_state}
+use Rattle.chain_names.proofs.StandLemmas.{standing_state}
 use Rattle.chain_names.proofs.MoveLemmas.{commitment_stands}
-use Rattle.chain_names.proofs.RestoredHistoryLemmas.{each_history, last_item, own_history}
 use Rattle.chain_names.proofs.UndoneBlockLemmas.{live_left}
 use Rattle.chain_names.proofs.CountLemmas.{named_left}
 
