@@ -3,9 +3,11 @@ ghost use Rattle.std.specs.List.{IsDistinct};
 ghost use Rattle.std.specs.Map.{keys_of, lookup};
 ghost use Rattle.std.specs.Option.{is_some, option_copied};
 ghost use Rattle.indexmap.specs.IndexSet.{insert_key};
+ghost use Rattle.chain_names.specs.Measured.{IsMeasuredCoin, AreCoinsMeasured};
 ghost use Rattle.chain_names.specs.Points.{same_point, changed};
 ghost use Rattle.chain_names.specs.Tables.{coins_in, coin_places, AreCoinsFilled};
 
+use crate::widths::read_widths;
 use chain_names::Coin;
 use indexmap::IndexMap;
 use nmc_base::{NoMemory, OutPoint, Steps};
@@ -24,9 +26,14 @@ pub struct Coins {
 impl Model for Coins {
     ghost use Rattle.chain_names.specs.Tables.{CoinSlots};
 
+    ghost use Rattle.chain_names.specs.Tables.{coins_in};
+    ghost use Rattle.chain_names.specs.Measured.{AreCoinsMeasured};
+
     ghost Value = { CoinSlots };
 
     ghost view = { λ c. c.places.entries };
+
+    ghost invariant = { λ c. AreCoinsMeasured (coins_in c.places.entries) };
 }
 
 impl Coins {
@@ -37,6 +44,13 @@ impl Coins {
         Ok(Coins {
             places: IndexMap::new(alloc),
         })
+    }
+
+    /// Each coin and its outpoint are as wide as their fields.
+    pub fn widths(&self)
+        ensures { AreCoinsMeasured (coins_in self.now) }
+    {
+        let _places = &self.places;
     }
 
     /// The coin at the outpoint.
@@ -90,6 +104,7 @@ impl Coins {
         ensures cost { steps.new ≡ steps.old + 1 }
     {
         steps.tick();
+        read_widths(*at, &coin);
         match self.places.insert(*at, Some(coin)) {
             Ok(before) => drop(before),
             Err(_) => unreachable!(),
@@ -114,6 +129,7 @@ impl Coins {
         requires filled { AreCoinsFilled self.now }
         ensures item { MatchOption result (length self.now ≤ i) (λ p. slice_get self.now i ≡ Some (p.0.now, Some p.1.now)) }
         ensures held { IfSome result (λ p. coins_in self.now p.0.now ≡ Some p.1.now) }
+        ensures measured { IfSome result (λ p. IsMeasuredCoin p.0.now p.1.now) }
         ensures distinct { IsDistinct same_point (keys_of self.now) }
         ensures cost { steps.new ≡ steps.old + 1 }
     {
