@@ -1,14 +1,16 @@
 ghost use Rattle.std.specs.Prelude.{◌≡◌, ◌+◌, ◌-◌, ◌≤◌, ◌++◌, ◌∷◌, [], ℕ, List, true, false, if◌then◌else◌, slice_get, IfOk, IfSome, OnOk, OnErr};
-ghost use Rattle.std.specs.List.{IsDistinct};
+ghost use Rattle.std.specs.List.{AllByRecursion, IsDistinct};
 ghost use Rattle.std.specs.Map.{keys_of};
 ghost use Rattle.std.specs.Option.{is_some, option_copied};
 ghost use Rattle.std.specs.Str.{bytes_eq};
 ghost use Rattle.indexmap.specs.IndexSet.{insert_key};
 ghost use Rattle.chain_names.specs.Changes.{without_entry};
 ghost use Rattle.chain_names.specs.Coins.{entry_of};
+ghost use Rattle.chain_names.specs.Measured.{IsMeasuredItem, AreItemsMeasured};
 ghost use Rattle.chain_names.specs.Points.{changed};
 ghost use Rattle.chain_names.specs.Tables.{names_in, name_places, room_in};
 
+use crate::widths::read_widths;
 use chain_names::Item;
 use indexmap::IndexMap;
 use nmc_base::{NoMemory, RoomyList, Steps};
@@ -26,12 +28,15 @@ pub struct Table {
 }
 
 impl Model for Table {
-    ghost use Rattle.chain_names.specs.Tables.{NameSlots};
+    ghost use Rattle.chain_names.specs.Measured.{AreItemsMeasured};
+    ghost use Rattle.chain_names.specs.Tables.{NameSlots, names_in};
     ghost use Rattle.name_table.specs.ByBytes.{by_bytes};
 
     ghost Value = { NameSlots };
 
     ghost view = { λ t. by_bytes t.places.entries };
+
+    ghost invariant = { λ t. AreItemsMeasured (names_in (by_bytes t.places.entries)) };
 }
 
 impl Table {
@@ -42,6 +47,13 @@ impl Table {
         Ok(Table {
             places: IndexMap::new(alloc),
         })
+    }
+
+    /// Each item of each history is as wide as its fields.
+    pub fn widths(&self)
+        ensures { AreItemsMeasured (names_in self.now) }
+    {
+        let _places = &self.places;
     }
 
     /// The name's entry: the last value that it was given. A name with no value is absent.
@@ -56,6 +68,7 @@ impl Table {
     /// The values that the name was given, the oldest first.
     pub fn history<L: Ledger>(&self, name: &[u8], steps: &mut Steps<L>) -> &[Item]
         ensures items { result.now ≡ names_in self.now name.now }
+        ensures measured { AllByRecursion IsMeasuredItem result.now }
         ensures cost { steps.new ≡ steps.old + 1 }
     {
         steps.tick();
@@ -113,6 +126,7 @@ impl Table {
         ensures cost { steps.new ≡ steps.old + 1 }
     {
         steps.tick();
+        read_widths(&item);
         match self.places.get_mut(name) {
             Some(history) => history.push(item),
             None => unreachable!(),
@@ -149,7 +163,8 @@ impl Table {
     }
 
     fn held(&self, name: &[u8]) -> &[Item]
-        ensures { result.now ≡ names_in self.now name.now }
+        ensures items { result.now ≡ names_in self.now name.now }
+        ensures measured { AllByRecursion IsMeasuredItem result.now }
     {
         match self.places.get(name) {
             Some(history) => history.as_slice(),
