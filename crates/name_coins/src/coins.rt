@@ -15,7 +15,7 @@ use std::alloc::Global;
 use std::marker::Model;
 use std::sync::ledger::Ledger;
 
-/// The coins, by outpoint. A coin is put only where its outpoint has a place, which takes memory before.
+/// The coins, by outpoint. A coin is put only where its outpoint has a place, so that this can't fail.
 ///
 /// Contracts see each outpoint that has a place, in the order of the places, and its coin where the place is filled.
 #[derive(Drop)]
@@ -95,7 +95,7 @@ impl Coins {
         }
     }
 
-    /// Puts the coin in the outpoint's place, over one that is there. It takes no memory.
+    /// Puts the coin in the outpoint's place, over one that is there.
     pub fn put<L: Ledger>(&mut self, at: &OutPoint, coin: Coin, steps: &mut Steps<L>)
         requires placed { coin_places self.old at.now ≡ true }
         ensures coins { coins_in self.new ≡ changed same_point (coins_in self.old) at.now (Some coin) }
@@ -124,7 +124,7 @@ impl Coins {
         place.take()
     }
 
-    /// The i-th of the places, counted from 0, and its coin: a walk meets each place once. The order is open.
+    /// The i-th of the places, counted from 0, and its coin, or None exactly past the end: a walk meets each place once.
     pub fn item<L: Ledger>(&self, i: usize, steps: &mut Steps<L>) -> Option<(&OutPoint, &Coin)>
         requires filled { AreCoinsFilled self.now }
         ensures item { MatchOption result (length self.now ≤ i) (λ p. slice_get self.now i ≡ Some (p.0.now, Some p.1.now)) }

@@ -18,8 +18,8 @@ use std::alloc::Global;
 use std::marker::Model;
 use std::sync::ledger::Ledger;
 
-/// The histories of names, the oldest value first. A value is pushed only where its name has room for it, which takes memory
-/// before.
+/// The histories of names, the oldest value first. A value is pushed only where its name has room for it, so that this can't
+/// fail.
 ///
 /// Contracts see each name that has a place, in the order of the places, its history, and for how many values more it has room.
 #[derive(Drop)]
@@ -115,7 +115,7 @@ impl Table {
         }
     }
 
-    /// Gives the name a value more, which takes one of the places in its room, and no memory.
+    /// Gives the name a value more, which takes one of the places in its room.
     pub fn push<L: Ledger>(&mut self, name: &[u8], item: Item, steps: &mut Steps<L>)
         requires placed { name_places self.old name.now ≡ true }
         requires room { 1 ≤ room_in self.old name.now }
@@ -148,7 +148,6 @@ impl Table {
     }
 
     /// The i-th of the names that have a place, counted from 0, or None exactly past the end: a walk meets each name once.
-    /// The order is open.
     pub fn name_at<L: Ledger>(&self, i: usize, steps: &mut Steps<L>) -> Option<&[u8]>
         ensures name { option_copied result ≡ slice_get (keys_of self.now) i }
         ensures placed { IfSome result (λ name. name_places self.now name.now ≡ true) }

@@ -167,8 +167,8 @@ impl Tables {
         }
     }
 
-    /// Moves a name from an outpoint to another one, in a block of this height, and gives it a value. All memory is taken
-    /// first: where it runs out, nothing is done but that places for the new outpoint may stay.
+    /// Moves a name from an outpoint to another one, in a block of this height, and gives it a value. Where memory
+    /// runs out, nothing is done but that places for the new outpoint may stay.
     pub fn shift<L: Ledger>(
         &mut self,
         alloc: Global,
