@@ -24,9 +24,9 @@ def empty_folder(where=None):
 
 
 @contextlib.contextmanager
-def made_folder(where=None, height=0):
-    """A new folder with the files of a new store, whose base has this height."""
-    words = [*INIT[:2], str(height), *INIT[3:]]
+def made_folder(where=None, height=0, profile=INIT[1]):
+    """A new folder with the files of a new store, whose base has this height and this profile."""
+    words = [INIT[0], profile, str(height), *INIT[3:]]
     with empty_folder(where) as folder:
         how = {"stdin": subprocess.DEVNULL, "stdout": subprocess.PIPE, "stderr": subprocess.PIPE}
         run = subprocess.run([PROGRAM, *words], cwd=folder, timeout=60, **how)

@@ -12,13 +12,31 @@ from common import BASE_HASH, reply
 from blocks import CONNECT, FIRST, NAME_VERSION, NEW, UPDATE, block_hash, merkle_root, outpoint
 from digests import double_sha256, hash160
 
-EXPIRY_DEPTH = 30
-LEAST_AMOUNT = 1_000_000
 BLOCKS_OF_WAITING = 12
 HIGHEST = 2_000_000_000
 LEAST_OF_FORM = {0xFD: (2, 0xFD), 0xFE: (4, 0x10000), 0xFF: (8, 0x100000000)}
 OPERATIONS = {NEW: 1, FIRST: 3, UPDATE: 2}
 DROPS = (0x75, 0x6D, 0x61)
+
+
+class Profile(typing.NamedTuple):
+    """The rules of a network: for how many blocks a name stands at a height, and the least amount of an output that holds one."""
+
+    depth: typing.Callable
+    least_amount: int
+
+    def expired(self, made, height):
+        return made + self.depth(height) <= height
+
+
+def main_depth(height):
+    if height < 24_000:
+        return 12_000
+    return height - 12_000 if height < 48_000 else 36_000
+
+
+EXPIRY_DEPTH = 30
+PROFILES = {"regtest": Profile(lambda height: EXPIRY_DEPTH, 1_000_000), "main": Profile(main_depth, 0)}
 
 
 class Fault(Exception):
@@ -146,16 +164,12 @@ def operation_of(script):
     return [script[:1], *pushes]
 
 
-def expired(made, height):
-    return made + EXPIRY_DEPTH <= height
-
-
-def coin(log, at, height):
+def coin(profile, log, at, height):
     """The event that made the live coin at an outpoint; None where there is none."""
     for event in reversed(log):
         if event.at == at:
             made = event.operation is not None
-            return event if made and (event.operation[0] == NEW or not expired(event.height, height)) else None
+            return event if made and (event.operation[0] == NEW or not profile.expired(event.height, height)) else None
     return None
 
 
@@ -174,9 +188,9 @@ def events_of(transaction, height):
     return spent + [Event(outpoint(transaction.txid, i), op, height) for i, op in operations if op]
 
 
-def tests_of(log, transaction, height):
+def tests_of(profile, log, transaction, height):
     """The refusals in their order, each with whether it holds."""
-    coins = [found for found in (coin(log, at, height) for at in transaction.inputs) if found]
+    coins = [found for found in (coin(profile, log, at, height) for at in transaction.inputs) if found]
     names = [(i, amount, op) for i, (amount, op) in enumerate((a, operation_of(s)) for a, s in transaction.outputs) if op]
     versioned = transaction.version == NAME_VERSION
     yield 10, len(coins) >= 2
@@ -187,7 +201,7 @@ def tests_of(log, transaction, height):
     if not names:
         return
     index, amount, (kind, *parts) = names[0]
-    yield 15, amount < LEAST_AMOUNT
+    yield 15, amount < profile.least_amount
     if kind == NEW:
         yield 16, coins
         yield 17, len(parts[0]) != 20
@@ -206,16 +220,16 @@ def tests_of(log, transaction, height):
             yield 24, coins[0].height + BLOCKS_OF_WAITING > height
             yield 25, len(parts[1]) > 20
             yield 26, hash160(parts[1] + name) != spent[1]
-            yield 27, taken and not expired(taken.height, height)
-    yield 28, coin(log, outpoint(transaction.txid, index), height)
+            yield 27, taken and not profile.expired(taken.height, height)
+    yield 28, coin(profile, log, outpoint(transaction.txid, index), height)
 
 
-def refusal_by_rules(log, transactions, height):
+def refusal_by_rules(profile, log, transactions, height):
     """The code of the first rule that a transaction behind the coinbase breaks, with its index; and the longer log."""
     for index, transaction in enumerate(transactions):
         if index == 0:
             continue
-        for code, holds in tests_of(log, transaction, height):
+        for code, holds in tests_of(profile, log, transaction, height):
             if holds:
                 return (code, index), log
         log = log + events_of(transaction, height)
@@ -227,11 +241,20 @@ def digits(text):
     return text.hex() or "-"
 
 
-class Model:
-    """The chain of the blocks that survive, each its hash and what it adds to the log, the newest last, on a base of this height."""
+class Value(typing.NamedTuple):
+    """A value that a name was given: the height of its block, the height at which the registration began that it belongs to."""
 
-    def __init__(self, base=0):
-        self.base, self.blocks = base, []
+    height: int
+    registered: int
+    value: bytes
+
+
+class Model:
+    """The chain of the blocks that survive, on a base of this height: of each its hash and how long the log was below it, the newest
+    last; and their log."""
+
+    def __init__(self, base=0, profile="regtest"):
+        self.base, self.profile, self.blocks, self.log = base, PROFILES[profile], [], []
 
     @property
     def height(self):
@@ -241,31 +264,29 @@ class Model:
     def tip(self):
         return self.blocks[-1][0] if self.blocks else BASE_HASH
 
-    @property
-    def log(self):
-        return [event for _, events in self.blocks for event in events]
-
     def given(self):
-        """Of each name in order: the values that it was given, each behind its height, the oldest first."""
+        """Of each name in order: the values that it was given, the oldest first."""
         given = {}
         for event in self.log:
             if event.operation and event.operation[0] != NEW:
-                given.setdefault(event.operation[1], []).append((event.height, event.operation[-1]))
+                values = given.setdefault(event.operation[1], [])
+                goes_on = event.operation[0] == UPDATE and values
+                values.append(Value(event.height, values[-1].registered if goes_on else event.height, event.operation[-1]))
         return dict(sorted(given.items()))
 
     def served(self, name):
         """The value that is served for the name; None where there is none."""
-        made, value = self.given().get(name, [(None, None)])[-1]
-        return value if made is not None and not expired(made, self.height) else None
+        values = self.given().get(name, [])
+        return values[-1].value if values and not self.profile.expired(values[-1].height, self.height) else None
 
     def report(self):
         """The lines of `dump`."""
         lines = [f"tip {self.height} {self.tip[::-1].hex()}"]
         for name, values in self.given().items():
-            height, value = values[-1]
+            height, _, value = values[-1]
             state = "lapsed" if self.served(name) is None else "served"
             lines.append(f"name {digits(name)} {height} {state} {digits(value)}")
-            lines += [f"  at {height} {digits(value)}" for height, value in values]
+            lines += [f"  at {height} since {registered} {digits(value)}" for height, registered, value in values]
         return "".join(line + "\n" for line in lines).encode()
 
     def accepted(self):
@@ -283,11 +304,11 @@ class Model:
         root = merkle_root([transaction.txid for transaction in transactions])
         if block[36:68] != root:
             return reply(3, root)
-        before = self.log
-        refused, log = refusal_by_rules(before, transactions, self.height + 1)
+        refused, log = refusal_by_rules(self.profile, self.log, transactions, self.height + 1)
         if refused:
             return reply(refused[0], struct.pack("<I", refused[1]))
-        self.blocks.append((block_hash(block), log[len(before) :]))
+        self.blocks.append((block_hash(block), len(self.log)))
+        self.log = log
         return self.accepted()
 
     def disconnect(self, named):
@@ -295,7 +316,8 @@ class Model:
             return reply(7)
         if named != self.tip:
             return reply(6, self.tip)
-        self.blocks.pop()
+        _, length = self.blocks.pop()
+        self.log = self.log[:length]
         return self.accepted()
 
     def answer(self, frame):

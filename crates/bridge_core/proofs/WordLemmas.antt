@@ -56,11 +56,13 @@ plain_number word n plain parses =
 
 -- ---- five words
 
--- what stands at the places of a height, a hash and a host
+-- what stands at the places of a profile, a height, a hash and a host
 pub record HasFields (words : List (List ℕ)) : Type 0 where
+  pub profile : List ℕ
   pub height : List ℕ
   pub hash : List ℕ
   pub host : List ℕ
+  pub profile_at : profile ≡ get_or words 1 profile
   pub height_at : height ≡ get_or words 2 height
   pub hash_at : hash ≡ get_or words 3 hash
   pub host_at : host ≡ get_or words 4 host
@@ -73,17 +75,18 @@ init_of (Some made) = Some (Init made.0 made.1)
 
 -- the command whose fields they are is the one that is asked for
 pub asked_by : (words : List (List ℕ)) (has : HasFields words) (found : Option (Base × List ℕ))
-    → ((base : Base) (name : List ℕ) → AreFields has.height has.hash has.host base name → found ≡ Some (base, name))
+    → ((base : Base) (name : List ℕ) → AreFields has.profile has.height has.hash has.host base name → found ≡ Some (base, name))
     → (asked : Command) → Asks words asked → init_of found ≡ Some asked
 asked_by words has found one Replay is = absurd (omega (arith, has.long, ap length is))
 asked_by words has found one Dump is = absurd (omega (arith, has.long, ap length is))
 asked_by words has found one (Serve plan) is = absurd (omega (arith, has.long, ap length is.words_are))
 asked_by words has found one (Init base name) is = ap init_of (
+    let profile : has.profile ≡ is.profile = has.profile_at ∙ ap (λ (w : List (List ℕ)). get_or w 1 has.profile) is.words_are in
     let height : has.height ≡ is.height = has.height_at ∙ ap (λ (w : List (List ℕ)). get_or w 2 has.height) is.words_are in
     let hash : has.hash ≡ is.hash = has.hash_at ∙ ap (λ (w : List (List ℕ)). get_or w 3 has.hash) is.words_are in
     let host : has.host ≡ is.host = has.host_at ∙ ap (λ (w : List (List ℕ)). get_or w 4 has.host) is.words_are in
     one base name (record {
-      profile_is = is.fields.profile_is;
+      profile_is = profile ∙ is.fields.profile_is;
       height_is = subst (λ (t : List ℕ). IsHeight t base.height) (sym height) is.fields.height_is;
       hash_is = subst (λ (t : List ℕ). IsHash t base.hash.0) (sym hash) is.fields.hash_is;
       host_is = subst (λ (t : List ℕ). IsHostOf t name) (sym host) is.fields.host_is;

@@ -4,7 +4,8 @@ use Rattle.std.specs.Fmt.{decimal}
 use Rattle.hex.specs.Hex.{decode_sized}
 use Rattle.nmc_base.specs.Heights.{highest}
 use Rattle.nmc_base.specs.declared.chain_ends.Base.{Base}
-use Rattle.nmc_base.specs.declared.chain_ends.Profile.TheVariants.{Regtest}
+use Rattle.nmc_base.specs.declared.chain_ends.Profile.{Profile}
+use Rattle.nmc_base.specs.declared.chain_ends.Profile.TheVariants.{Regtest, Main}
 use Rattle.name_store.specs.Host.{IsHostOf}
 use Rattle.bridge_core.specs.declared.words.Command.{Command}
 use Rattle.bridge_core.specs.declared.words.Command.TheVariants.{Replay, Dump, Init, Serve}
@@ -39,20 +40,26 @@ pub record IsHash (text hash : List ℕ) : Type 0 where
   pub spelled : decode_sized text 32 ≡ Ok bytes
   pub hash_is : hash ≡ reverse bytes
 
--- the texts of a base's height and hash and of its host, which has this name
-pub record AreFields (height hash host : List ℕ) (base : Base) (name : List ℕ) : Type 0 where
-  pub profile_is : base.profile ≡ Regtest
+-- the word of a profile
+abbrev pub profile_word : Profile → List ℕ
+profile_word Regtest = codes "regtest"
+profile_word Main = codes "main"
+
+-- the texts of a base's profile, height and hash and of its host, which has this name
+pub record AreFields (profile height hash host : List ℕ) (base : Base) (name : List ℕ) : Type 0 where
+  pub profile_is : profile ≡ profile_word base.profile
   pub height_is : IsHeight height base.height
   pub hash_is : IsHash hash base.hash.0
   pub host_is : IsHostOf host name
 
--- the words `init`, `regtest`, a height, a hash, and a host
+-- the words `init`, a profile, a height, a hash, and a host
 pub record AsksForFiles (words : List (List ℕ)) (base : Base) (name : List ℕ) : Type 0 where
+  pub profile : List ℕ
   pub height : List ℕ
   pub hash : List ℕ
   pub host : List ℕ
-  pub words_are : words ≡ codes "init" ∷ (codes "regtest" ∷ (height ∷ (hash ∷ (host ∷ []))))
-  pub fields : AreFields height hash host base name
+  pub words_are : words ≡ codes "init" ∷ (profile ∷ (height ∷ (hash ∷ (host ∷ []))))
+  pub fields : AreFields profile height hash host base name
 
 -- the texts of the numbers of two ports, and of the turns
 pub record AreNumbers (udp feed turns : List ℕ) (plan : Plan) : Type 0 where

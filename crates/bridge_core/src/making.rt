@@ -1,6 +1,5 @@
 ghost use Rattle.std.specs.Prelude.{◌≡◌, ◌≤◌, List, ℕ};
 ghost use Rattle.nmc_base.specs.declared.limits.TheConstants.{HIGHEST_HEIGHT};
-ghost use Rattle.nmc_base.specs.declared.chain_ends.Profile.TheVariants.{Regtest};
 ghost use Rattle.name_store.specs.Host.{IsHostOf};
 ghost use Rattle.bridge_core.specs.Making.{Inits, status_of_making};
 
@@ -24,7 +23,6 @@ fn status_of(made: Result<(), CreateFault>) -> Status
 /// Makes the files of a base and its host. It takes no memory.
 pub(crate) fn init<D: Disk>(disk: &mut D, base: &Base, host: &Name) -> Status
     requires low { base.now.height ≤ HIGHEST_HEIGHT }
-    requires network { base.now.profile ≡ Regtest }
     requires host { (text : List ℕ) × IsHostOf text host.now }
     ensures { (text : List ℕ) → IsHostOf text host.now → Inits D.tells base.now text (D.seen disk.old) (D.seen disk.new) result }
 {

@@ -1,7 +1,8 @@
 ghost use Rattle.std.specs.Prelude.{◌≡◌, ◌↔◌, List, ℕ, Some, IsTrue, IfSome, codes};
 ghost use Rattle.nmc_base.specs.declared.chain_ends.Base.{Base};
 ghost use Rattle.name_store.specs.Host.{IsHostOf};
-ghost use Rattle.bridge_core.specs.Words.{Asks, AreFields, AreNumbers, IsHash};
+ghost use Rattle.nmc_base.specs.declared.chain_ends.Profile.{Profile};
+ghost use Rattle.bridge_core.specs.Words.{Asks, AreFields, AreNumbers, IsHash, profile_word};
 
 use crate::numbers::{read_height, read_port, read_turns};
 use domain_text::{Name, absolute_name};
@@ -66,16 +67,48 @@ fn read_host(word: &[u8]) -> Option<Name>
     }
 }
 
-/// The base of these texts, and the name of its host.
-fn read_fields(height: &[u8], hash: &[u8], host: &[u8]) -> Option<(Base, Name)>
-    ensures found { IfSome result (λ made. AreFields height.now hash.now host.now made.0 made.1) }
-    ensures one { (base : Base) (name : List ℕ) → AreFields height.now hash.now host.now base name → result ≡ Some (base, name) }
+fn is_regtest(word: &[u8]) -> bool
+    ensures { IsTrue result ↔ (word.now ≡ codes "regtest") }
 {
+    word == b"regtest".as_slice()
+}
+
+fn is_main(word: &[u8]) -> bool
+    ensures { IsTrue result ↔ (word.now ≡ codes "main") }
+{
+    word == b"main".as_slice()
+}
+
+/// The profile whose word this is.
+fn read_profile(word: &[u8]) -> Option<Profile>
+    ensures found { IfSome result (λ profile. word.now ≡ profile_word profile) }
+    ensures one { (profile : Profile) → word.now ≡ profile_word profile → result ≡ Some profile }
+{
+    if is_regtest(word) {
+        Some(Profile::Regtest)
+    } else if is_main(word) {
+        Some(Profile::Main)
+    } else {
+        None
+    }
+}
+
+/// The base of these texts, and the name of its host.
+fn read_fields(
+    profile: &[u8],
+    height: &[u8],
+    hash: &[u8],
+    host: &[u8],
+) -> Option<(Base, Name)>
+    ensures found { IfSome result (λ made. AreFields profile.now height.now hash.now host.now made.0 made.1) }
+    ensures one { (base : Base) (name : List ℕ) → AreFields profile.now height.now hash.now host.now base name → result ≡ Some (base, name) }
+{
+    let profile = read_profile(profile)?;
     let height = read_height(height)?;
     let hash = read_hash(hash)?;
     let host = read_host(host)?;
     let base = Base {
-        profile: Profile::Regtest,
+        profile,
         height,
         hash,
     };
@@ -111,12 +144,6 @@ fn is_init(word: &[u8]) -> bool
     word == b"init".as_slice()
 }
 
-fn is_regtest(word: &[u8]) -> bool
-    ensures { IsTrue result ↔ (word.now ≡ codes "regtest") }
-{
-    word == b"regtest".as_slice()
-}
-
 fn is_serve(word: &[u8]) -> bool
     ensures { IsTrue result ↔ (word.now ≡ codes "serve") }
 {
@@ -135,9 +162,9 @@ pub(crate) fn read_words(words: &Words) -> Option<Command>
             let plan = read_plan(udp.as_slice(), feed.as_slice(), turns.as_slice())?;
             Some(Command::Serve(plan))
         }
-        [form, profile, height, hash, host]
-            if is_init(form.as_slice()) && is_regtest(profile.as_slice()) => {
-            let (base, name) = read_fields(height.as_slice(), hash.as_slice(), host.as_slice())?;
+        [form, profile, height, hash, host] if is_init(form.as_slice()) => {
+            let (profile, height) = (profile.as_slice(), height.as_slice());
+            let (base, name) = read_fields(profile, height, hash.as_slice(), host.as_slice())?;
             Some(Command::Init(base, name))
         }
         _ => None,

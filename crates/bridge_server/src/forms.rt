@@ -6,7 +6,7 @@ use system_io::People;
 /// What each command is called with.
 const FORMS: [&str; 6] = [
     "the commands:",
-    "  init regtest HEIGHT HASH HOST    makes the files of a chain's base in this folder",
+    "  init PROFILE HEIGHT HASH HOST    makes the files of a chain's base in this folder",
     "  serve UDP_PORT FEED_PORT TURNS   answers queries, and takes blocks from a feed",
     "  replay                           takes blocks from standard input, and replies on standard output",
     "  dump                             writes what each name has to standard output",
@@ -74,7 +74,7 @@ fn wrong_for_init<'w>(command: &'w [u8], words: &'w [Bytes]) -> Option<Complaint
     let [profile, height, hash, host] = words else {
         return Some(Complaint {
             word: command,
-            text: "takes four words: init regtest HEIGHT HASH HOST",
+            text: "takes four words: init PROFILE HEIGHT HASH HOST",
         });
     };
     let (profile, height) = (profile.as_slice(), height.as_slice());
@@ -82,8 +82,8 @@ fn wrong_for_init<'w>(command: &'w [u8], words: &'w [Bytes]) -> Option<Complaint
     first_wrong(&[
         (
             profile,
-            profile == b"regtest".as_slice(),
-            "isn't a profile: regtest is the only one",
+            matches!(profile, b"regtest" | b"main"),
+            "isn't a profile: regtest or main",
         ),
         (
             height,

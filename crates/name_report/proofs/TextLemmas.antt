@@ -32,7 +32,7 @@ pub entry_line-pieces : (name : List ℕ) (entry : Item) (served : Bool)
     → entry_line name entry served ≡ codes "name " ++ bytes_text name ++ (codes " " ++ decimal entry.height ++ (state_text served ++ bytes_text entry.value ++ codes "\n"))
 entry_line-pieces name entry served = simp append_assoc
 
-pub item_line-pieces : (item : Item) → item_line item ≡ codes "  at " ++ decimal item.height ++ (codes " " ++ bytes_text item.value ++ codes "\n")
+pub item_line-pieces : (item : Item) → item_line item ≡ codes "  at " ++ decimal item.height ++ (codes " since " ++ decimal item.registered ++ (codes " " ++ bytes_text item.value ++ codes "\n"))
 item_line-pieces item = simp append_assoc
 
 -- ---- bytes, some or none

@@ -9,7 +9,7 @@ use Rattle.name_store.specs.declared.faults.OpenFault.{OpenFault}
 use Rattle.name_store.specs.declared.faults.OpenFault.TheVariants.{Uninitialised, Damaged, DiskFault, NoMemory}
 use Rattle.name_store.specs.declared.header.Header.{Header}
 use Rattle.name_store.specs.Host.{IsHostText, IsHostOf}
-use Rattle.name_store.specs.Header.{magic_at, profile_at, height_at, hash_at, host_length_at, host_at, selections_at, base_at, HasHost, HasFields, IsInitialised, IsShut}
+use Rattle.name_store.specs.Header.{IsProfile, profile_of, magic_at, profile_at, height_at, hash_at, host_length_at, host_at, selections_at, base_at, HasHost, HasFields, IsInitialised, IsShut}
 use Rattle.name_store.specs.Damage.{HasBadField, bad_magic, bad_profile, bad_height, bad_host}
 use Rattle.name_store.specs.Reading.{HeaderAnswer, IsHeaderOf, HasBadGate}
 
@@ -73,7 +73,7 @@ module _ (file : List ℕ) (byte : slice_index file 46 < 256) where
   fields_up : HasFields front → HasFields file
   fields_up has = record {
     magic_is = sym magic_same ∙ has.magic_is;
-    profile_is = sym profile_same ∙ has.profile_is;
+    profile_is = subst IsProfile profile_same has.profile_is;
     low = omega (arith, height_same, has.low);
     host = host_up has.host;
   }
@@ -96,16 +96,16 @@ module _ (file : List ℕ) (byte : slice_index file 46 < 256) where
 
   header_up : (header : Header) → IsHeaderOf front header → IsHeaderOf file header
   header_up header is = record {
-    base_is = is.base_is ∙ (λ i. record { profile = (base_at front).profile; height = height_same i; hash = record { 0 = hash_same i } });
+    base_is = is.base_is ∙ (λ i. record { profile = profile_of (profile_same i); height = height_same i; hash = record { 0 = hash_same i } });
     height_is = ap (to_le_bytes w32) (sym height_same) ∙ is.height_is ∙ piece file 10 4 room 293 refl (omega arith);
     host_is = subst (λ (text : List ℕ). IsHostOf text header.host) host_same is.host_is;
   }
 
   bad_field_up : (at : ℕ) → HasBadField front at → HasBadField file at
   bad_field_up at (bad_magic place bad) = bad_magic place (λ e. bad (magic_same ∙ e))
-  bad_field_up at (bad_profile place m bad) = bad_profile place (sym magic_same ∙ m) (λ e. bad (profile_same ∙ e))
-  bad_field_up at (bad_height place m p bad) = bad_height place (sym magic_same ∙ m) (sym profile_same ∙ p) (omega (arith, height_same, bad))
-  bad_field_up at (bad_host place m p h bad) = bad_host place (sym magic_same ∙ m) (sym profile_same ∙ p) (omega (arith, height_same, h)) (λ has. bad (host_down has))
+  bad_field_up at (bad_profile place m bad) = bad_profile place (sym magic_same ∙ m) (λ is. bad (subst IsProfile (sym profile_same) is))
+  bad_field_up at (bad_height place m p bad) = bad_height place (sym magic_same ∙ m) (subst IsProfile profile_same p) (omega (arith, height_same, bad))
+  bad_field_up at (bad_host place m p h bad) = bad_host place (sym magic_same ∙ m) (subst IsProfile profile_same p) (omega (arith, height_same, h)) (λ has. bad (host_down has))
 
   bad_gate_up : (at : ℕ) → HasBadGate front at → HasBadGate file at
   bad_gate_up at bad =

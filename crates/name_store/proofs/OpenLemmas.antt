@@ -23,7 +23,7 @@ use Rattle.name_store.specs.declared.faults.OpenFault.TheVariants as faults
 use Rattle.name_store.specs.Damage as damage
 use Rattle.name_store.specs.Damage.{HasNoImage}
 use Rattle.std.proofs.Common.{Err}
-use Rattle.name_store.specs.Header.{IsBegun, HasHeader, magic, header_text, base_at, host_at, hash_at, host_length_at, height_at, selections_at}
+use Rattle.name_store.specs.Header.{IsBegun, HasHeader, magic, profile_byte, header_text, base_at, host_at, hash_at, host_length_at, height_at, selections_at}
 use Rattle.name_store.specs.Host.{IsHostOf}
 use Rattle.name_store.specs.Commands.{IsAllowed, AreAllowed, record_of, records_of, gate_behind}
 use Rattle.name_store.specs.Stands.{Bytes, IsRunState, Stands}
@@ -71,12 +71,12 @@ module _ (file : List ℕ) (has : HasHeader file) (height_is : to_le_bytes w32 (
   long : 50 ≤ length file
   long = has.initialised.long
 
-  before_height : take 10 file ≡ 1 ∷ (magic ++ 1 ∷ [])
+  before_height : take 10 file ≡ 1 ∷ (magic ++ profile_byte (base_at file).profile ∷ [])
   before_height =
       let gate : take 1 file ≡ 1 ∷ [] = ap (take 1) (drop-cons file 0 0 (omega (arith, long))) ∙ ap (λ (n : ℕ). n ∷ []) has.initialised.is_open in
       one_more file 9 (omega (arith, long)) ∙ (λ i. (take-add 1 8 file ∙ (λ j. gate j ++ has.fields.magic_is j)) i ++ has.fields.profile_is i ∷ [])
 
-  before_host : take 47 file ≡ (((1 ∷ (magic ++ 1 ∷ [])) ++ to_le_bytes w32 (height_at file)) ++ hash_at file) ++ host_length_at file ∷ []
+  before_host : take 47 file ≡ (((1 ∷ (magic ++ profile_byte (base_at file).profile ∷ [])) ++ to_le_bytes w32 (height_at file)) ++ hash_at file) ++ host_length_at file ∷ []
   before_host = one_more file 46 (omega (arith, long)) ∙ (λ i. (take-add 14 32 file ∙ (λ j. (take-add 10 4 file ∙ (λ k. before_height k ++ (sym height_is) k)) j ++ hash_at file)) i ++ host_length_at file ∷ [])
 
   host_size : length (host_at file) ≡ host_length_at file
@@ -84,7 +84,7 @@ module _ (file : List ℕ) (has : HasHeader file) (height_is : to_le_bytes w32 (
 
   spelled : take (selections_at file) file ≡ header_text (base_at file) (host_at file)
   spelled =
-      let front = 1 ∷ (magic ++ 1 ∷ []) in
+      let front = 1 ∷ (magic ++ profile_byte (base_at file).profile ∷ []) in
       let n = host_length_at file in
       take-add 47 n file ∙ ap (λ (l : List ℕ). l ++ host_at file) before_host
       ∙ ap (λ (l : List ℕ). front ++ (to_le_bytes w32 (height_at file) ++ l)) (append_assoc (hash_at file) (n ∷ []) (host_at file))
@@ -101,7 +101,6 @@ module _ (file : List ℕ) (has : HasHeader file) (height_is : to_le_bytes w32 (
 
   pub header_begun : IsBegun (base_at file) (host_at file)
   header_begun = record {
-    network = refl;
     low = has.fields.low;
     hash = omega (arith, length-take 32 (drop 14 file), length-drop 14 file, long);
     is_host = has.fields.host.is_host;

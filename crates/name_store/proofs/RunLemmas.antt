@@ -8,6 +8,8 @@ use Rattle.std.proofs.lemmas.Nat.{from_le_bytes-to_le_bytes_4}
 use Rattle.std.proofs.lemmas.Bool.{and_parts}
 use Rattle.std.proofs.lemmas.List.{take-take, drop-take, get_or-take, get_or_at, take_at, drop_at, take_all}
 use Rattle.nmc_base.specs.declared.chain_ends.Base.{Base}
+use Rattle.nmc_base.specs.declared.chain_ends.Profile.{Profile}
+use Rattle.nmc_base.specs.declared.chain_ends.Profile.TheVariants.{Regtest, Main}
 use Rattle.domain_text.specs.declared.host.Form.TheVariants.{Absolute, AtTop, AtOwn}
 use Rattle.domain_text.specs.Label.{is_label, is_label_byte}
 use Rattle.domain_text.specs.Host.{HostText, IsHost, absolute, empty, at_sign, below_top, below_own}
@@ -17,7 +19,7 @@ use Rattle.gate_journal.proofs.RecordLemmas.{area_unique}
 use Rattle.chain_commands.specs.Event.{Command, Connect, Disconnect}
 use Rattle.chain_commands.specs.RunState.{RunState}
 use Rattle.name_store.specs.Host.{IsHostText}
-use Rattle.name_store.specs.Header.{IsBegun, HasHeader, HasFields, magic, header_text, profile_byte, magic_at, profile_at, base_at, host_at, hash_at, host_length_at, height_at, selections_at}
+use Rattle.name_store.specs.Header.{IsBegun, HasHeader, HasFields, magic, header_text, profile_byte, profile_of, magic_at, profile_at, base_at, host_at, hash_at, host_length_at, height_at, selections_at}
 use Rattle.name_store.specs.Commands.{record_of, records_of}
 use Rattle.name_store.specs.Stands.{Bytes, Stands}
 
@@ -57,6 +59,11 @@ host_long text is = host_form_long text (record { form = Absolute; labels = is.h
 
 -- ---- the fields of a file that begins with a header
 
+-- each profile is read back from its byte
+profile_again : (profile : Profile) → profile_of (profile_byte profile) ≡ profile
+profile_again Regtest = refl
+profile_again Main = refl
+
 module _ (base : Base) (host file : List ℕ) (closed : ClosedAfter (header_text base host) file) (begun : IsBegun base host) where
   abbrev text : List ℕ
   text = header_text base host
@@ -74,8 +81,11 @@ module _ (base : Base) (host file : List ℕ) (closed : ClosedAfter (header_text
   magic_is : magic_at file ≡ magic
   magic_is = piece 1 8 (46 + length host) (omega (arith, size)) (omega arith)
 
-  profile_is : profile_at file ≡ 1
-  profile_is = byte 9 (omega arith) ∙ ap profile_byte begun.network
+  profile_is : profile_at file ≡ profile_byte base.profile
+  profile_is = byte 9 (omega arith)
+
+  profile_told : profile_of (profile_at file) ≡ base.profile
+  profile_told = ap profile_of profile_is ∙ profile_again base.profile
 
   height_is : height_at file ≡ base.height
   height_is = ap (from_le_bytes w32) (piece 10 4 (37 + length host) (omega (arith, size)) (omega arith)) ∙ from_le_bytes-to_le_bytes_4 base.height (omega (arith, begun.low))
@@ -95,7 +105,7 @@ module _ (base : Base) (host file : List ℕ) (closed : ClosedAfter (header_text
 
   -- its base is the one of its fields
   pub base_told : base_at file ≡ base
-  base_told = λ i. record { profile = sym begun.network i; height = height_is i; hash = record { 0 = hash_is i } }
+  base_told = λ i. record { profile = profile_told i; height = height_is i; hash = record { 0 = hash_is i } }
 
   pub host_told : host_at file ≡ host
   host_told = host_is
@@ -103,7 +113,7 @@ module _ (base : Base) (host file : List ℕ) (closed : ClosedAfter (header_text
   fields : HasFields file
   fields = record {
     magic_is = magic_is;
-    profile_is = profile_is;
+    profile_is = profile_is ∙ ap profile_byte (sym profile_told);
     low = omega (arith, height_is, begun.low);
     host = record {
       inside = omega (arith, host_length_is, size, closed.inside);

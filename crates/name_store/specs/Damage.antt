@@ -7,16 +7,16 @@ use Rattle.gate_journal.specs.Records.{image_front}
 use Rattle.chain_commands.specs.Chain.{Chain}
 use Rattle.chain_commands.specs.Event.{Command}
 use Rattle.chain_commands.specs.RunState.{on_base, longest_area}
-use Rattle.name_store.specs.Header.{magic, magic_at, profile_at, height_at, HasHost, HasFields, IsInitialised, HasHeader, IsShut, selections_at, base_at}
+use Rattle.name_store.specs.Header.{IsProfile, magic, magic_at, profile_at, height_at, HasHost, HasFields, IsInitialised, HasHeader, IsShut, selections_at, base_at}
 use Rattle.name_store.specs.Commands.{AreRead, IsNext, gate_behind}
 use Rattle.name_store.specs.Stands.{Bytes}
 
 -- The first field of the header that is none, by its place.
 pub data HasBadField (file : List ℕ) (at : ℕ) : Type 0 where
   bad_magic : at ≡ 1 → magic_at file ≢ magic → HasBadField file at
-  bad_profile : at ≡ 9 → magic_at file ≡ magic → profile_at file ≢ 1 → HasBadField file at
-  bad_height : at ≡ 10 → magic_at file ≡ magic → profile_at file ≡ 1 → highest < height_at file → HasBadField file at
-  bad_host : at ≡ 47 → magic_at file ≡ magic → profile_at file ≡ 1 → height_at file ≤ highest → ¬ (HasHost file) → HasBadField file at
+  bad_profile : at ≡ 9 → magic_at file ≡ magic → ¬ (IsProfile (profile_at file)) → HasBadField file at
+  bad_height : at ≡ 10 → magic_at file ≡ magic → IsProfile (profile_at file) → highest < height_at file → HasBadField file at
+  bad_host : at ≡ 47 → magic_at file ≡ magic → IsProfile (profile_at file) → height_at file ≤ highest → ¬ (HasHost file) → HasBadField file at
 
 -- an empty image, and a gate behind it: images come with saves, which are not read yet
 pub record HasNoImage (area : List ℕ) : Type 0 where

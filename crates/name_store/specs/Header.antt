@@ -6,7 +6,7 @@
 --     +------+---------------------+---------+--------------+-----------+---------------+------+------+
 --
 -- The gate behind it is the first of the selections.
-use Rattle.std.specs.Prelude.{◌≡◌, ℕ, ◌+◌, ◌<◌, ◌≤◌, List, [], ◌∷◌, ◌++◌, length, take, drop, slice_index, codes}
+use Rattle.std.specs.Prelude.{◌≡◌, ◌==◌, if◌then◌else◌, ℕ, ◌+◌, ◌<◌, ◌≤◌, List, [], ◌∷◌, ◌++◌, length, take, drop, slice_index, codes}
 use Rattle.std.specs.Int.{w32, to_le_bytes, from_le_bytes}
 use Rattle.nmc_base.specs.Heights.{highest}
 use Rattle.nmc_base.specs.declared.chain_ends.Base.{Base}
@@ -22,6 +22,13 @@ abbrev pub profile_byte : Profile → ℕ
 profile_byte Regtest = 1
 profile_byte Main = 2
 
+-- the profile of a byte, where the byte is one's
+abbrev pub profile_of : ℕ → Profile
+profile_of byte = if byte == 2 then Main else Regtest
+
+abbrev pub IsProfile : ℕ → Type 0
+IsProfile byte = byte ≡ profile_byte (profile_of byte)
+
 -- what stands between the header's gate and the first gate of the selections
 abbrev pub header_fields : Base → List ℕ → List ℕ
 header_fields base host = magic ++ (profile_byte base.profile ∷ (to_le_bytes w32 base.height ++ (base.hash.0 ++ (length host ∷ host))))
@@ -30,9 +37,8 @@ header_fields base host = magic ++ (profile_byte base.profile ∷ (to_le_bytes w
 abbrev pub header_text : Base → List ℕ → List ℕ
 header_text base host = 1 ∷ header_fields base host
 
--- A base and a host that a header may have: of the two networks, that of tests alone is followed so far.
+-- a base and a host that a header may have
 pub record IsBegun (base : Base) (host : List ℕ) : Type 0 where
-  pub network : base.profile ≡ Regtest
   pub low : base.height ≤ highest
   pub hash : length base.hash.0 ≡ 32
   pub is_host : IsHostText host
@@ -62,7 +68,7 @@ abbrev pub selections_at : List ℕ → ℕ
 selections_at file = 47 + host_length_at file
 
 abbrev pub base_at : List ℕ → Base
-base_at file = record { profile = Regtest; height = height_at file; hash = record { 0 = hash_at file } }
+base_at file = record { profile = profile_of (profile_at file); height = height_at file; hash = record { 0 = hash_at file } }
 
 -- the host lies inside the file, and is one
 pub record HasHost (file : List ℕ) : Type 0 where
@@ -72,7 +78,7 @@ pub record HasHost (file : List ℕ) : Type 0 where
 -- each field is one that a header may have
 pub record HasFields (file : List ℕ) : Type 0 where
   pub magic_is : magic_at file ≡ magic
-  pub profile_is : profile_at file ≡ 1
+  pub profile_is : IsProfile (profile_at file)
   pub low : height_at file ≤ highest
   pub host : HasHost file
 

@@ -6,7 +6,7 @@ ghost use Rattle.disk_model.specs.Changes.{Unchanged};
 ghost use Rattle.disk_model.specs.DiskSeen.{EndsWith, bytes_in};
 ghost use Rattle.name_store.specs.Host.{IsHostOf};
 ghost use Rattle.name_store.specs.Header as headers;
-ghost use Rattle.name_store.specs.Header.{IsInitialised, IsShut, HasFields, HasHost};
+ghost use Rattle.name_store.specs.Header.{IsInitialised, IsProfile, IsShut, HasFields, HasHost};
 ghost use Rattle.name_store.specs.Damage.{HasBadField};
 ghost use Rattle.name_store.specs.Reading.{HeaderAnswer, IsHeaderOf, IsBegunBy};
 
@@ -29,9 +29,6 @@ const LONGEST_HEADER: usize = 303;
 /// A gate that is open.
 const OPEN: u8 = 1;
 
-/// The byte of the network of tests. No other is followed so far.
-const REGTEST: u8 = 1;
-
 /// What a header tells.
 #[derive(Drop)]
 pub struct Header {
@@ -51,6 +48,17 @@ fn has_magic(bytes: &[u8]) -> bool
     ensures { IsTrue result ↔ (headers.magic_at bytes.now ≡ headers.magic) }
 {
     &bytes[1..9] == MAGIC.as_slice()
+}
+
+/// The profile of the byte, None exactly where the byte is none's.
+fn read_profile(byte: u8) -> Option<Profile>
+    ensures { MatchOption result (¬ (IsProfile byte)) (λ profile. IsProfile byte × (profile ≡ headers.profile_of byte)) }
+{
+    match byte {
+        1 => Some(Profile::Regtest),
+        2 => Some(Profile::Main),
+        _ => None,
+    }
 }
 
 fn height(bytes: &[u8]) -> u32
@@ -100,9 +108,9 @@ fn read_fields(bytes: &[u8]) -> Result<Header, u64>
     if !has_magic(bytes) {
         return Err(1);
     }
-    if bytes[9] != REGTEST {
+    let Some(profile) = read_profile(bytes[9]) else {
         return Err(9);
-    }
+    };
     let height = height(bytes);
     if height > HIGHEST_HEIGHT {
         return Err(10);
@@ -110,7 +118,7 @@ fn read_fields(bytes: &[u8]) -> Result<Header, u64>
     match host(bytes) {
         Some(host) => {
             let base = Base {
-                profile: Profile::Regtest,
+                profile,
                 height,
                 hash: hash(bytes),
             };

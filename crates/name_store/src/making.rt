@@ -3,7 +3,6 @@ ghost use Rattle.disk_model.specs.Moments.{EachMoment};
 ghost use Rattle.disk_model.specs.Changes.{LeavesFrom};
 ghost use Rattle.disk_model.specs.DiskSeen.{EndsWith, file_in, bytes_in};
 ghost use Rattle.nmc_base.specs.declared.limits.TheConstants.{HIGHEST_HEIGHT};
-ghost use Rattle.nmc_base.specs.declared.chain_ends.Profile.TheVariants.{Regtest};
 ghost use Rattle.name_store.specs.Host.{IsHostOf};
 ghost use Rattle.name_store.specs.Making.{CreateAnswer, OnlyReads, IsEmpty, EachIsBegun};
 ghost use Rattle.name_store.specs.Stands.{EachStands, begun_on};
@@ -36,9 +35,9 @@ pub fn create<D: Disk>(disk: &mut D, base: &Base, host: &Name) -> Result<(), Cre
     requires host { (text : List ℕ) × IsHostOf text host.now }
     ensures answer { IsTrue D.tells → CreateAnswer (bytes_in (D.seen disk.old)) result }
     ensures spared { IsErrOf result CreateFault.Initialised → OnlyReads D.tells (D.seen disk.old) (D.seen disk.new) }
-    ensures made { IsTrue D.tells → base.now.profile ≡ Regtest → (text : List ℕ) → IsHostOf text host.now
+    ensures made { IsTrue D.tells → (text : List ℕ) → IsHostOf text host.now
         → OnOk result (EachStands (D.seen disk.new).moments.now (begun_on base.now text)) }
-    ensures from_empty { IsTrue D.tells → base.now.profile ≡ Regtest → (text : List ℕ) → IsHostOf text host.now → IsEmpty (file_in (D.seen disk.old) 0)
+    ensures from_empty { IsTrue D.tells → (text : List ℕ) → IsHostOf text host.now → IsEmpty (file_in (D.seen disk.old) 0)
         → EachMoment (EachIsBegun (begun_on base.now text)) (D.seen disk.old).moments (D.seen disk.new).moments }
     ensures others { IsTrue D.tells → EachMoment (LeavesFrom 2 (D.seen disk.old).moments.now) (D.seen disk.old).moments (D.seen disk.new).moments }
     ensures ends { EndsWith CreateFault.DiskFault (D.seen disk.old) (D.seen disk.new) result }

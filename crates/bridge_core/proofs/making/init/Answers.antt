@@ -14,8 +14,8 @@ returns g c = λ text is.
     subst (λ (s : Status). Inits tells base text old new s) (sym c.status_of.ensures) (inits tells base text old new c.create-made.result (record {
       answer = by.answer;
       spared = by.spared;
-      made = λ told. by.made told c.requires.network text is;
-      from_empty = λ told empty. by.from_empty told c.requires.network text is empty;
+      made = λ told. by.made told text is;
+      from_empty = λ told empty. by.from_empty told text is empty;
       others = by.others;
       ends = by.ends;
     }))

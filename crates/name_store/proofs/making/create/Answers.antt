@@ -8,19 +8,19 @@ use Rattle.name_store.proofs.MakingLemmas.{looked_begun, area_begun, gate_begun,
 use Rattle.name_store.proofs.making.create.Goals as goal
 
 pub returns-in_err-is_initialised-clause-from_empty : goal.returns-in_err-is_initialised-clause-from_empty
-returns-in_err-is_initialised-clause-from_empty g c = λ tells network text is_host empty.
+returns-in_err-is_initialised-clause-from_empty g c = λ tells text is_host empty.
     let d0 = (g.D.Disk.seen c.args.disk.now).moments in
     looked_begun (begun_on c.args.base.now text) d0 (g.D.Disk.seen c.is_initialised.new.disk).moments empty (c.is_initialised.ensures.unchanged tells)
 
 pub returns-in_err-make_area-clause-from_empty : goal.returns-in_err-make_area-clause-from_empty
-returns-in_err-make_area-clause-from_empty g c = λ tells network text is_host empty.
+returns-in_err-make_area-clause-from_empty g c = λ tells text is_host empty.
     let d0 = (g.D.Disk.seen c.args.disk.now).moments in
     let d1 = (g.D.Disk.seen c.is_initialised.new.disk).moments in
     let d2 = (g.D.Disk.seen c.make_area.new.disk).moments in
     area_begun (begun_on c.args.base.now text) d0 d1 empty (c.is_initialised.ensures.unchanged tells) d2 (c.make_area.ensures.any_moment tells)
 
 pub returns-in_err-make_gate-clause-from_empty : goal.returns-in_err-make_gate-clause-from_empty
-returns-in_err-make_gate-clause-from_empty g c = λ tells network text is_host empty.
+returns-in_err-make_gate-clause-from_empty g c = λ tells text is_host empty.
     let d0 = (g.D.Disk.seen c.args.disk.now).moments in
     let d1 = (g.D.Disk.seen c.is_initialised.new.disk).moments in
     let d2 = (g.D.Disk.seen c.make_area.new.disk).moments in
@@ -28,7 +28,7 @@ returns-in_err-make_gate-clause-from_empty g c = λ tells network text is_host e
     gate_begun (begun_on c.args.base.now text) d0 d1 empty (c.is_initialised.ensures.unchanged tells) d2 (c.make_area.ensures.any_moment tells) d3 (c.make_gate.ensures.any_moment tells)
 
 pub returns-in_err-make_fields-clause-from_empty : goal.returns-in_err-make_fields-clause-from_empty
-returns-in_err-make_fields-clause-from_empty g c = λ tells network text is_host empty.
+returns-in_err-make_fields-clause-from_empty g c = λ tells text is_host empty.
     let d0 = (g.D.Disk.seen c.args.disk.now).moments in
     let d1 = (g.D.Disk.seen c.is_initialised.new.disk).moments in
     let d2 = (g.D.Disk.seen c.make_area.new.disk).moments in
@@ -38,14 +38,14 @@ returns-in_err-make_fields-clause-from_empty g c = λ tells network text is_host
     d4 (c.in_ok-make_gate.ensures.made tells) (c.make_fields.ensures.any_moment tells)
 
 pub returns-in_err-open_gate-clause-from_empty : goal.returns-in_err-open_gate-clause-from_empty
-returns-in_err-open_gate-clause-from_empty g c = λ tells network text is_host empty.
+returns-in_err-open_gate-clause-from_empty g c = λ tells text is_host empty.
     let d0 = (g.D.Disk.seen c.args.disk.now).moments in
     let d1 = (g.D.Disk.seen c.is_initialised.new.disk).moments in
     let d2 = (g.D.Disk.seen c.make_area.new.disk).moments in
     let d3 = (g.D.Disk.seen c.make_gate.new.disk).moments in
     let d4 = (g.D.Disk.seen c.make_fields.new.disk).moments in
     let d5 = (g.D.Disk.seen c.open_gate.new.disk).moments in
-    let begun : IsBegun c.args.base.now text = record { network = network; low = c.requires.low; hash = c.whole-base.ensures.hash; is_host = record { name = c.args.host.now; host = is_host } } in
+    let begun : IsBegun c.args.base.now text = record { low = c.requires.low; hash = c.whole-base.ensures.hash; is_host = record { name = c.args.host.now; host = is_host } } in
     let spelled = c.as_slice.ensures.value ∙ c.of-text.ensures text is_host in
     let closed = subst (λ (b : Base). HasSettled (closed_header b text) (d4.now 0)) c.whole-base.ensures.value
     (subst (λ (t : List ℕ). HasSettled (closed_header c.whole-base.result t) (d4.now 0)) spelled (c.in_ok-make_fields.ensures.made tells)) in
@@ -55,14 +55,14 @@ returns-in_err-open_gate-clause-from_empty g c = λ tells network text is_host e
     (c.open_gate.ensures.any_moment tells)
 
 pub returns-clause-from_empty : goal.returns-clause-from_empty
-returns-clause-from_empty g c = λ tells network text is_host empty.
+returns-clause-from_empty g c = λ tells text is_host empty.
     let d0 = (g.D.Disk.seen c.args.disk.now).moments in
     let d1 = (g.D.Disk.seen c.is_initialised.new.disk).moments in
     let d2 = (g.D.Disk.seen c.make_area.new.disk).moments in
     let d3 = (g.D.Disk.seen c.make_gate.new.disk).moments in
     let d4 = (g.D.Disk.seen c.make_fields.new.disk).moments in
     let d5 = (g.D.Disk.seen c.open_gate.new.disk).moments in
-    let begun : IsBegun c.args.base.now text = record { network = network; low = c.requires.low; hash = c.whole-base.ensures.hash; is_host = record { name = c.args.host.now; host = is_host } } in
+    let begun : IsBegun c.args.base.now text = record { low = c.requires.low; hash = c.whole-base.ensures.hash; is_host = record { name = c.args.host.now; host = is_host } } in
     let spelled = c.as_slice.ensures.value ∙ c.of-text.ensures text is_host in
     let closed = subst (λ (b : Base). HasSettled (closed_header b text) (d4.now 0)) c.whole-base.ensures.value
     (subst (λ (t : List ℕ). HasSettled (closed_header c.whole-base.result t) (d4.now 0)) spelled (c.in_ok-make_fields.ensures.made tells)) in
@@ -72,12 +72,12 @@ returns-clause-from_empty g c = λ tells network text is_host empty.
     (c.open_gate.ensures.any_moment tells)
 
 pub returns-clause-made : goal.returns-clause-made
-returns-clause-made g c = λ tells network text is_host.
+returns-clause-made g c = λ tells text is_host.
     let d2 = (g.D.Disk.seen c.make_area.new.disk).moments in
     let d3 = (g.D.Disk.seen c.make_gate.new.disk).moments in
     let d4 = (g.D.Disk.seen c.make_fields.new.disk).moments in
     let d5 = (g.D.Disk.seen c.open_gate.new.disk).moments in
-    let begun : IsBegun c.args.base.now text = record { network = network; low = c.requires.low; hash = c.whole-base.ensures.hash; is_host = record { name = c.args.host.now; host = is_host } } in
+    let begun : IsBegun c.args.base.now text = record { low = c.requires.low; hash = c.whole-base.ensures.hash; is_host = record { name = c.args.host.now; host = is_host } } in
     let spelled = c.as_slice.ensures.value ∙ c.of-text.ensures text is_host in
     let closed = subst (λ (b : Base). HasSettled (closed_header b text) (d4.now 0)) c.whole-base.ensures.value
     (subst (λ (t : List ℕ). HasSettled (closed_header c.whole-base.result t) (d4.now 0)) spelled (c.in_ok-make_fields.ensures.made tells)) in
