@@ -10,7 +10,7 @@ const FORMS: [&str; 6] = [
     "  serve UDP_PORT FEED_PORT TURNS   answers queries, and takes blocks from a feed",
     "  replay                           takes blocks from standard input, and replies on standard output",
     "  dump                             writes what each name has to standard output",
-    "the manual jaqhumpi(1) says more",
+    "the manual jaqhumpi(8) says more",
 ];
 
 /// No name of a base's host has more bytes on the wire.
@@ -59,9 +59,29 @@ fn is_host(word: &[u8]) -> bool {
     }
 }
 
+/// A word in its place: whether it may stand there, and what is to be said of it where it may not.
+#[derive(Clone, Copy)]
+struct Place<'w> {
+    word: &'w [u8],
+    is_well: bool,
+    text: &'static str,
+}
+
+fn stands<'w>(word: &'w [u8], is_well: bool, text: &'static str) -> Place<'w> {
+    Place {
+        word,
+        is_well,
+        text,
+    }
+}
+
 /// The first of these words that isn't what stands in its place.
-fn first_wrong<'w>(places: &[(&'w [u8], bool, &'static str)]) -> Option<Complaint<'w>> {
-    for (word, is_well, text) in places {
+fn first_wrong<'w>(places: &[Place<'w>]) -> Option<Complaint<'w>> {
+    for Place {
+        word,
+        is_well,
+        text,
+    } in places {
         if !*is_well {
             return Some(Complaint { word, text });
         }
@@ -80,22 +100,22 @@ fn wrong_for_init<'w>(command: &'w [u8], words: &'w [Bytes]) -> Option<Complaint
     let (profile, height) = (profile.as_slice(), height.as_slice());
     let (hash, host) = (hash.as_slice(), host.as_slice());
     first_wrong(&[
-        (
+        stands(
             profile,
             matches!(profile, b"regtest" | b"main"),
             "isn't a profile: regtest or main",
         ),
-        (
+        stands(
             height,
             is_number(height, 0, HIGHEST_HEIGHT),
             "isn't a height: a number from 0 to 2000000000, without a leading zero",
         ),
-        (
+        stands(
             hash,
             is_hash(hash),
             "isn't a block's hash: 64 hexadecimal digits",
         ),
-        (
+        stands(
             host,
             is_host(host),
             "isn't a host: a domain name with a dot at its end, of at most 244 bytes in a message",
@@ -114,9 +134,9 @@ fn wrong_for_serve<'w>(command: &'w [u8], words: &'w [Bytes]) -> Option<Complain
     let (udp, feed, turns) = (udp.as_slice(), feed.as_slice(), turns.as_slice());
     let port = "isn't a port: a number from 1 to 65535, without a leading zero";
     first_wrong(&[
-        (udp, is_port(udp), port),
-        (feed, is_port(feed), port),
-        (
+        stands(udp, is_port(udp), port),
+        stands(feed, is_port(feed), port),
+        stands(
             turns,
             is_number(turns, 1, MOST_TURNS),
             "isn't a number of turns: from 1 to 1000000000, without a leading zero",

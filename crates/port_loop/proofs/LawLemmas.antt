@@ -5,7 +5,7 @@ use Rattle.byte_io.specs.Port.{Note, polled, replied, fed_back, closed, Got, dat
 use Rattle.feed_frames.specs.Frames.{Frame, IsPartialFrame, bad, partial}
 use Rattle.feed_frames.specs.Replies.{Reply}
 use Rattle.feed_frames.proofs.SplittingLemmas.{splitting, one_splitting, bad_or_partial}
-use Rattle.port_loop.specs.Polls.{Parts, Closing, the_feed, Brings, from_client, from_feed, at_bad_frame, at_end, at_nothing, at_fault}
+use Rattle.port_loop.specs.Polls.{Parts, with_feed, Closing, the_feed, Brings, from_client, from_feed, at_bad_frame, at_end, at_nothing, at_fault}
 use Rattle.port_loop.specs.Sends.{to_client, sends_of, Replied, none, one, closings}
 use Rattle.port_loop.specs.Transcript.{DealsWith, DealsWithAll, none_yet, one_more}
 use Rattle.port_loop.specs.Laws.{BringsSame, IsInItsPlace, polls_in}
@@ -70,9 +70,6 @@ closing_is_none : (shut : List Closing) → polls_in (closings shut) ≡ 0
 closing_is_none [] = refl
 closing_is_none (the_feed ∷ shut) = closing_is_none shut
 
-abbrev parts : List ℕ → Parts
-parts feed = record { feed = feed }
-
 module _ {kinds : ℕ} where
   -- ---- one reading of a poll
 
@@ -81,7 +78,7 @@ module _ {kinds : ℕ} where
   one_reading part _ _ _ _ _ _ _ (from_client client message) (from_client _ _) = record { frames_are = refl; after_is = refl; shut_are = refl }
   one_reading part _ _ _ _ _ _ _ (from_feed bytes frames rest s p) (from_feed _ others behind t q) =
       let same = one_splitting kinds (part.feed ++ bytes) (splitting kinds frames rest s (partial p)) (splitting kinds others behind t (partial q)) in
-      record { frames_are = same.frames; after_is = ap (λ (q : List ℕ). parts q) same.rest; shut_are = refl }
+      record { frames_are = same.frames; after_is = ap (λ (q : List ℕ). with_feed q part) same.rest; shut_are = refl }
   one_reading part _ _ _ _ _ _ _ (from_feed bytes frames rest s p) (at_bad_frame _ others behind t b) =
       let same = one_splitting kinds (part.feed ++ bytes) (splitting kinds frames rest s (partial p)) (splitting kinds others behind t (bad b)) in
       absurd (bad_or_partial kinds behind b (subst (IsPartialFrame kinds) same.rest p))

@@ -15,6 +15,10 @@ pub record Parts : Type 0 where
 abbrev pub no_parts : Parts
 no_parts = record { feed = [] }
 
+-- the same, with these of the feed
+abbrev pub with_feed : List ℕ → Parts → Parts
+with_feed rest part = record { feed = rest }
+
 -- what is closed for a bad frame
 pub data Closing : Type 0 where
   the_feed : Closing
@@ -24,10 +28,10 @@ pub data Closing : Type 0 where
 pub data Brings (kinds : ℕ) (part : Parts) : Got → List Frame → Parts → List Closing → Type 0 where
   from_client : (client : ℕ) (message : List ℕ) → Brings kinds part (datagram client message) (query_of message ∷ []) part []
   from_feed : (bytes : List ℕ) (frames : List Frame) (rest : List ℕ) → Splits kinds (part.feed ++ bytes) frames rest → IsPartialFrame kinds rest
-      → Brings kinds part (piece bytes) frames (record { feed = rest }) []
+      → Brings kinds part (piece bytes) frames (with_feed rest part) []
   at_bad_frame : (bytes : List ℕ) (frames : List Frame) (rest : List ℕ) → Splits kinds (part.feed ++ bytes) frames rest → IsBadFrame kinds rest
-      → Brings kinds part (piece bytes) frames no_parts (the_feed ∷ [])
-  at_end : Brings kinds part feed_end [] no_parts []
+      → Brings kinds part (piece bytes) frames (with_feed [] part) (the_feed ∷ [])
+  at_end : Brings kinds part feed_end [] (with_feed [] part) []
   at_nothing : Brings kinds part nothing [] part []
   at_fault : Brings kinds part fault [] part []
 

@@ -12,4 +12,4 @@ numbers_of (Some bound) = Some (bound.udp, bound.feed)
 
 -- it tells nothing of what came and went
 abbrev pub socket_seen : SocketPort → PortSeen
-socket_seen p = record { bound = numbers_of p.bound; notes = None; faults = counted p.faults }
+socket_seen p = record { bound = numbers_of p.bound; notes = None; faults = counted p.tally.faults }

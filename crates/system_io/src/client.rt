@@ -6,7 +6,7 @@ use std::net::{Ipv4Addr, SocketAddrV4};
 
 /// A peer of the UDP socket, as the number that a port names it by: the bytes of its address, and behind them those of its
 /// port.
-#[derive(Clone, Copy, PartialEq, Eq, Debug)]
+#[derive(Clone, Copy)]
 pub(crate) struct Client(pub(crate) u64);
 
 impl Client {

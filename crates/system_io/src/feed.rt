@@ -1,4 +1,4 @@
-ghost use Rattle.std.specs.Prelude.{◌≡◌, ◌≤◌, length, IfOk};
+ghost use Rattle.std.specs.Prelude.{◌≡◌, ◌≤◌, ◌⊎◌, length, IfOk};
 ghost use Rattle.system_io.specs.Arrival.{IsWithin};
 
 use crate::clock::SECOND;
@@ -136,10 +136,28 @@ impl<'a> Feed<'a> {
     }
 
     /// Frees the place of a connection whose end was read, or whose last replies are still to be sent.
-    fn close_ended(&mut self, now: u64) {
+    fn end(&mut self, now: u64) -> Polled
+        ensures { result ≡ Polled.FeedEnd }
+    {
         match &self.place {
             Place::Ended(Some(_)) => self.close(now),
             _ => self.place = Place::Free,
+        }
+        Polled::FeedEnd
+    }
+
+    /// What comes of a read that failed: nothing, where there is nothing to be read yet and the connection keeps its place.
+    fn end_unless_waiting(&mut self, now: u64, error: io::Error) -> Polled
+        ensures { (result ≡ Polled.FeedEnd) ⊎ (result ≡ Polled.Nothing) }
+    {
+        if error.kind() != ErrorKind::WouldBlock {
+            self.place = Place::Free;
+            return Polled::FeedEnd;
+        }
+        if self.make_room(now) {
+            Polled::FeedEnd
+        } else {
+            Polled::Nothing
         }
     }
 
@@ -166,17 +184,11 @@ impl<'a> Feed<'a> {
     {
         self.let_leave(now);
         self.receive(now)?;
-        match self.read(buffer, now) {
-            Ok(0) => self.close_ended(now),
-            Ok(len) => return Ok(Polled::Feed { len }),
-            Err(error) if error.kind() == ErrorKind::WouldBlock => {
-                if !self.make_room(now) {
-                    return Ok(Polled::Nothing);
-                }
-            }
-            Err(_) => self.place = Place::Free,
-        }
-        Ok(Polled::FeedEnd)
+        Ok(match self.read(buffer, now) {
+            Ok(0) => self.end(now),
+            Ok(len) => Polled::Feed { len },
+            Err(error) => self.end_unless_waiting(now, error),
+        })
     }
 
     /// Sends a reply, or keeps it to be sent. Where neither can be done, the connection has ended: no reply is left out in

@@ -17,6 +17,7 @@ mod reader_source;
 mod search;
 mod socket_port;
 mod sockets;
+mod tally;
 mod unsent;
 mod writer_sink;
 

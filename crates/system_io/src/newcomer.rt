@@ -16,7 +16,7 @@ pub(crate) struct Newcomer {
 }
 
 /// Whether a connection is taken.
-#[derive(Clone, Copy, PartialEq, Eq, Debug)]
+#[derive(Clone, Copy)]
 pub(crate) enum Verdict {
     /// It isn't known yet.
     Open,

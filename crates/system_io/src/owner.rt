@@ -25,7 +25,7 @@ pub(crate) struct Ends {
 }
 
 /// Who holds a socket: the user that made it, and the number of the socket, which no other has.
-#[derive(Clone, Copy, PartialEq, Eq, Debug)]
+#[derive(Clone, Copy, PartialEq)]
 pub(crate) struct Holder {
     pub(crate) user: u32,
     pub(crate) inode: u64,

@@ -3,6 +3,7 @@ ghost use Rattle.std.specs.Io.{ReadsAtMost};
 ghost use Rattle.std.specs.Io.KnownBytes.{ReadConsumes};
 
 use crate::people::People;
+use crate::tally::Tally;
 use byte_io::{Failed, Source};
 use std::io::{self, ErrorKind, Read};
 
@@ -12,22 +13,20 @@ use std::io::{self, ErrorKind, Read};
 pub struct ReaderSource<'a, R> {
     reader: R,
     people: &'a People<'a>,
-    faults: u64,
-    failed: bool,
+    tally: Tally,
 }
 
 impl<'a, R> ReaderSource<'a, R> {
     /// No read was made yet. People know the reader as standard input.
     pub fn new(reader: R, people: &'a People<'a>) -> Self
         ensures reader { result.reader ≡ reader }
-        ensures faults { result.faults ≡ 0 }
-        ensures failed { result.failed ≡ false }
+        ensures faults { result.tally.faults ≡ 0 }
+        ensures failed { result.tally.failed ≡ false }
     {
         ReaderSource {
             reader,
             people,
-            faults: 0,
-            failed: false,
+            tally: Tally::new(),
         }
     }
 }
@@ -49,18 +48,17 @@ fn read_whole<R: Read>(reader: &mut R, buf: &mut [u8]) -> io::Result<usize>
 impl<'a, R: Read> Source for ReaderSource<'a, R> {
     ghost use Rattle.fault_counts.specs.Counts.{counted};
 
-    ghost seen = { λ s. record { left = R.remaining s.reader; faults = counted s.faults; failed = s.failed } };
+    ghost seen = { λ s. record { left = R.remaining s.reader; faults = counted s.tally.faults; failed = s.tally.failed } };
 
     fn read(&mut self, buf: &mut [u8]) -> Result<usize, Failed> {
         let answer = read_whole(&mut self.reader, buf);
         match self.people.heard("standard input", "read", answer) {
             Ok(count) => {
-                self.failed = false;
+                self.tally.note_done();
                 Ok(count)
             }
             Err(_) => {
-                self.failed = true;
-                self.faults = self.faults.saturating_add(1);
+                self.tally.note_failed();
                 Err(Failed)
             }
         }

@@ -30,7 +30,7 @@ impl Tables {
 }
 
 /// What a search has found so far.
-#[derive(Clone, Copy, PartialEq, Eq, Debug)]
+#[derive(Clone, Copy)]
 pub(crate) enum Found {
     /// It isn't through yet.
     Nothing,

@@ -1,12 +1,9 @@
-ghost use Rattle.fault_counts.specs.Counts.{counted};
-ghost use Rattle.fault_counts.specs.Faults.{HasCause};
-
 use crate::cause::Cause;
 use crate::client::Client;
 use crate::people::People;
 use crate::sockets::Sockets;
+use crate::tally::Tally;
 use byte_io::{Failed, Polled, Port};
-use std::io;
 
 /// The sockets, and the numbers that they are bound to.
 #[derive(Drop)]
@@ -26,7 +23,7 @@ pub struct SocketPort<'a> {
     rt: &'a HostRuntime,
     people: &'a People<'a>,
     bound: Option<Bound<'a>>,
-    faults: u64,
+    tally: Tally,
 }
 
 impl<'a> SocketPort<'a> {
@@ -36,7 +33,7 @@ impl<'a> SocketPort<'a> {
             rt,
             people,
             bound: None,
-            faults: 0,
+            tally: Tally::new(),
         }
     }
 
@@ -53,54 +50,33 @@ impl<'a> SocketPort<'a> {
     }
 }
 
-/// Counts a call that failed.
-fn count(faults: &mut u64, answer: io::Result<()>) -> Result<(), Failed>
-    ensures { HasCause (counted faults.old) (counted faults.new) result }
-{
-    match answer {
-        Ok(()) => Ok(()),
-        Err(_) => {
-            *faults = faults.saturating_add(1);
-            Err(Failed)
-        }
-    }
-}
-
 impl<'a> Port for SocketPort<'a> {
     ghost use Rattle.system_io.specs.SocketPort.{socket_seen};
 
     ghost seen = { socket_seen };
 
     fn bind(&mut self, udp: u16, feed: u16, tip: u32) -> Result<(), Failed> {
-        match Sockets::bind(self.rt, self.people, udp, feed) {
-            Ok(sockets) => {
-                self.people.tell(Cause::Listening { udp, feed, tip });
-                self.bound = Some(Bound { udp, feed, sockets });
-                Ok(())
-            }
-            Err(_) => {
-                self.faults = self.faults.saturating_add(1);
-                Err(Failed)
-            }
-        }
+        let answer = Sockets::bind(self.rt, self.people, udp, feed);
+        let sockets = self.tally.count(answer, Failed)?;
+        self.people.tell(Cause::Listening { udp, feed, tip });
+        self.bound = Some(Bound { udp, feed, sockets });
+        Ok(())
     }
 
     fn poll(&mut self, buf: &mut [u8]) -> Polled {
-        let polled = match &mut self.bound {
-            Some(bound) => bound.sockets.poll(buf).unwrap_or(Polled::Failed),
+        let answer = match &mut self.bound {
+            Some(bound) => bound.sockets.poll(buf),
             None => unreachable!(),
         };
-        if polled == Polled::Failed {
-            self.faults = self.faults.saturating_add(1);
-        }
-        polled
+        let answer = self.tally.count(answer, Failed);
+        answer.unwrap_or(Polled::Failed)
     }
 
     fn reply(&mut self, client: u64, bytes: &[u8]) -> Result<(), Failed> {
         match &mut self.bound {
             Some(bound) => {
                 let answer = bound.sockets.reply(Client(client), bytes);
-                count(&mut self.faults, answer)
+                self.tally.count(answer, Failed)
             }
             None => unreachable!(),
         }
@@ -110,7 +86,7 @@ impl<'a> Port for SocketPort<'a> {
         match &mut self.bound {
             Some(bound) => {
                 let answer = bound.sockets.feed_reply(bytes);
-                count(&mut self.faults, answer)
+                self.tally.count(answer, Failed)
             }
             None => unreachable!(),
         }

@@ -84,6 +84,29 @@ fn heard<T>(
     bound
 }
 
+/// A datagram of so many bytes from this address.
+fn query_of(from: SocketAddr, len: usize) -> io::Result<Polled>
+    ensures { IfOk result (λ polled. IsWithin polled len) }
+{
+    match from {
+        SocketAddr::V4(from) => {
+            let Client(client) = Client::at(from);
+            Ok(Polled::Query { client, len })
+        }
+        SocketAddr::V6(_) => Err(ErrorKind::Unsupported.into()),
+    }
+}
+
+/// Where a call on a socket would have to wait, nothing has come.
+fn nothing_yet(error: io::Error) -> io::Result<Polled>
+    ensures { IfOk result (λ polled. polled ≡ Polled.Nothing) }
+{
+    match error.kind() {
+        ErrorKind::WouldBlock => Ok(Polled::Nothing),
+        _ => Err(error),
+    }
+}
+
 impl<'a> Sockets<'a> {
     pub(crate) fn bind(
         rt: &'a HostRuntime,
@@ -107,12 +130,29 @@ impl<'a> Sockets<'a> {
         ensures within { IfOk result (λ polled. IsWithin polled (length buffer.new)) }
         ensures room { length buffer.new ≡ length buffer.old }
     {
-        if self.is_asked && self.lively == 0 && now(self.rt) < self.look_at {
-            let query = self.receive(buffer)?;
-            if query != Polled::Nothing {
-                return Ok(query);
-            }
+        match self.poll_datagram(buffer) {
+            Ok(Polled::Nothing) => self.poll_both(buffer),
+            answer => answer,
         }
+    }
+
+    /// A datagram alone, if queries come and the feed needn't be looked at yet.
+    fn poll_datagram(&self, buffer: &mut [u8]) -> io::Result<Polled>
+        ensures within { IfOk result (λ polled. IsWithin polled (length buffer.new)) }
+        ensures room { length buffer.new ≡ length buffer.old }
+    {
+        if self.is_asked && self.lively == 0 && now(self.rt) < self.look_at {
+            self.receive(buffer)
+        } else {
+            Ok(Polled::Nothing)
+        }
+    }
+
+    /// Waits for both sides, and takes from one of them.
+    fn poll_both(&mut self, buffer: &mut [u8]) -> io::Result<Polled>
+        ensures within { IfOk result (λ polled. IsWithin polled (length buffer.new)) }
+        ensures room { length buffer.new ≡ length buffer.old }
+    {
         for _ in 0..u64::MAX {
             let ready = self.wait();
             let polled = self.take(ready, buffer)?;
@@ -183,19 +223,24 @@ impl<'a> Sockets<'a> {
         ensures within { IfOk result (λ polled. IsWithin polled (length buffer.new)) }
         ensures room { length buffer.new ≡ length buffer.old }
     {
+        match self.receive_once(buffer) {
+            Ok((len, from)) => query_of(from, len),
+            Err(error) => nothing_yet(error),
+        }
+    }
+
+    /// Receives once, but for calls that a signal interrupted.
+    fn receive_once(&self, buffer: &mut [u8]) -> io::Result<(usize, SocketAddr)>
+        ensures within { IfOk result (λ came. came.0 ≤ length buffer.new) }
+        ensures room { length buffer.new ≡ length buffer.old }
+    {
         for _ in 0..u64::MAX {
             match self.udp.recv_from(buffer) {
-                Ok((len, SocketAddr::V4(from))) => {
-                    let Client(client) = Client::at(from);
-                    return Ok(Polled::Query { client, len });
-                }
-                Ok(_) => return Err(ErrorKind::Unsupported.into()),
                 Err(error) if error.kind() == ErrorKind::Interrupted => {}
-                Err(error) if error.kind() == ErrorKind::WouldBlock => break,
-                Err(error) => return Err(error),
+                answer => return answer,
             }
         }
-        Ok(Polled::Nothing)
+        Err(ErrorKind::WouldBlock.into())
     }
 
     pub(crate) fn reply(&self, client: Client, bytes: &[u8]) -> io::Result<()> {

@@ -3,6 +3,7 @@ ghost use Rattle.std.specs.Io.{WritesAtMost};
 ghost use Rattle.std.specs.Io.KnownBytes.{WriteAppends};
 
 use crate::people::People;
+use crate::tally::Tally;
 use byte_io::{Failed, Sink};
 use std::io::{self, ErrorKind, Write};
 
@@ -12,8 +13,8 @@ use std::io::{self, ErrorKind, Write};
 pub struct WriterSink<'a, W> {
     writer: W,
     people: &'a People<'a>,
-    faults: u64,
-    failed: bool,
+    tally: Tally,
+    // the last write took nothing of what isn't empty, and so many did
     stalled: bool,
     stalls: u64,
 }
@@ -22,16 +23,15 @@ impl<'a, W> WriterSink<'a, W> {
     /// No write was made yet. People know the writer as standard output.
     pub fn new(writer: W, people: &'a People<'a>) -> Self
         ensures writer { result.writer ≡ writer }
-        ensures faults { result.faults ≡ 0 }
-        ensures failed { result.failed ≡ false }
+        ensures faults { result.tally.faults ≡ 0 }
+        ensures failed { result.tally.failed ≡ false }
         ensures stalled { result.stalled ≡ false }
         ensures stalls { result.stalls ≡ 0 }
     {
         WriterSink {
             writer,
             people,
-            faults: 0,
-            failed: false,
+            tally: Tally::new(),
             stalled: false,
             stalls: 0,
         }
@@ -65,13 +65,13 @@ fn heard(people: &People<'_>, answer: io::Result<usize>) -> io::Result<usize>
 impl<'a, W: Write> Sink for WriterSink<'a, W> {
     ghost use Rattle.fault_counts.specs.Counts.{counted};
 
-    ghost seen = { λ s. record { taken = W.contents s.writer; faults = counted s.faults; failed = s.failed; stalled = s.stalled; stalls = s.stalls } };
+    ghost seen = { λ s. record { taken = W.contents s.writer; faults = counted s.tally.faults; failed = s.tally.failed; stalled = s.stalled; stalls = s.stalls } };
 
     fn write(&mut self, piece: &[u8]) -> Result<usize, Failed> {
         let answer = write_whole(&mut self.writer, piece);
         match heard(self.people, answer) {
             Ok(count) => {
-                self.failed = false;
+                self.tally.note_done();
                 self.stalled = count == 0 && !piece.is_empty();
                 if self.stalled {
                     self.stalls = self.stalls.saturating_add(1);
@@ -79,9 +79,8 @@ impl<'a, W: Write> Sink for WriterSink<'a, W> {
                 Ok(count)
             }
             Err(_) => {
-                self.failed = true;
+                self.tally.note_failed();
                 self.stalled = false;
-                self.faults = self.faults.saturating_add(1);
                 Err(Failed)
             }
         }
