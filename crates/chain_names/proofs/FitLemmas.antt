@@ -33,7 +33,7 @@ use Rattle.chain_names.proofs.RestoreLemmas.{due_restored}
 
 -- ---- lists of operations
 
-pub fits-append : (tip : ℕ) (ops more : List UndoOp) (maps : Maps) → FitsOps tip ops (back_ops more maps) → FitsOps tip more maps → FitsOps tip (ops ++ more) maps
+fits-append : (tip : ℕ) (ops more : List UndoOp) (maps : Maps) → FitsOps tip ops (back_ops more maps) → FitsOps tip more maps → FitsOps tip (ops ++ more) maps
 fits-append tip [] more maps first rest = rest
 fits-append tip (op ∷ ops) more maps first rest =
     (fits-append tip ops more maps first.0 rest, subst (FitsOp tip op) (sym (back_ops-append ops more maps)) first.1)
@@ -88,7 +88,7 @@ verdict_fits profile height maps t (updates name value place spent) means stands
 
 -- ---- the transactions of a block
 
-pub all_fit : (profile : Profile) (height index : ℕ) (ts : List Transaction) (maps : Maps) → Stands profile height height maps → first_refused profile height index ts maps ≡ None
+all_fit : (profile : Profile) (height index : ℕ) (ts : List Transaction) (maps : Maps) → Stands profile height height maps → first_refused profile height index ts maps ≡ None
     → FitsOps height (undo_ops profile height ts maps) (after_all profile height ts maps)
 all_fit profile height index [] maps stands accepted = tt
 all_fit profile height index (t ∷ ts) maps stands accepted =

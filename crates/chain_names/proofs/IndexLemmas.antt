@@ -53,10 +53,10 @@ module _ (profile : Profile) (start : Log) (base : ℕ) (block : List ℕ) (bloc
   due_by : (expired : List HeldCoin) → IsDueByLog expired ≡ IsDueByMaps expired
   due_by expired = λ i. IsDue (whole_now i).coins (whole_next i).coins expired
 
-  pub log_due : (expired : List HeldCoin) → IsDueByLog expired → IsDueByMaps expired
+  log_due : (expired : List HeldCoin) → IsDueByLog expired → IsDueByMaps expired
   log_due expired due = subst (λ (A : Type 0). A) (due_by expired) due
 
-  pub due_log : (expired : List HeldCoin) → IsDueByMaps expired → IsDueByLog expired
+  due_log : (expired : List HeldCoin) → IsDueByMaps expired → IsDueByLog expired
   due_log expired due = subst (λ (A : Type 0). A) (sym (due_by expired)) due
 
   -- a record by the maps is the one by the log
@@ -111,7 +111,7 @@ module _ (profile : Profile) (start : Log) (base : ℕ) (block : List ℕ) (bloc
       })
       (undo_by_log profile start base block blocks accepted.unrefused u undo)
 
-  pub block_on_top : IsSound profile base (base + length (block ∷ blocks)) (index_maps profile start base (block ∷ blocks)) (u ∷ us)
+  block_on_top : IsSound profile base (base + length (block ∷ blocks)) (index_maps profile start base (block ∷ blocks)) (u ∷ us)
   block_on_top =
       let height : next_height base blocks ≡ base + length (block ∷ blocks) = omega arith in
       subst (λ h. IsSound profile base h (index_maps profile start base (block ∷ blocks)) (u ∷ us)) height

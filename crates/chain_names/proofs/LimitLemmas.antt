@@ -58,7 +58,7 @@ verdict_limits profile height maps t (updates name value place spent) means stan
     (Named name means.made) means.input.held
     (means.fits.name_length, means.fits.name_length, entry_limits name (maps.names name) (entry_of (maps.names name)) (stands.lengths name) refl)
 
-pub all_limits : (profile : Profile) (height : ℕ) (ts : List Transaction) (maps : Maps) → Stands profile height height maps
+all_limits : (profile : Profile) (height : ℕ) (ts : List Transaction) (maps : Maps) → Stands profile height height maps
     → AllByRecursion IsWithinLimitsOp (undo_ops profile height ts maps)
 all_limits profile height [] maps stands = tt
 all_limits profile height (t ∷ ts) maps stands =

@@ -39,7 +39,7 @@ restored_at coins target [] point all rest = rest refl
 restored_at coins target (held ∷ helds) point all rest =
     restored_here coins target held helds point all.0 (restored_at coins target helds point all.1) (same_point held.at point) refl rest
 
-pub restored-target : (coins target : OutPoint → Option Coin) (helds : List HeldCoin) → AllByRecursion (IsOf target) helds
+restored-target : (coins target : OutPoint → Option Coin) (helds : List HeldCoin) → AllByRecursion (IsOf target) helds
     → ((point : OutPoint) → list_any (is_held_at point) helds ≡ false → coins point ≡ target point) → restored helds coins ≡ target
 restored-target coins target helds all rest = fun_ext (λ point. restored_at coins target helds point all (rest point))
 

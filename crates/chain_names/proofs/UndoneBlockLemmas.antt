@@ -85,7 +85,7 @@ all_stand profile height (t ∷ ts) maps stands =
 -- ---- the coins that are due are gone
 
 -- a coin that is left was there, and a name's isn't expired
-pub left_coin : (profile : Profile) (height : ℕ) (was : Option Coin) (coin : Coin) → unless_expired profile height was ≡ Some coin → was ≡ Some coin
+left_coin : (profile : Profile) (height : ℕ) (was : Option Coin) (coin : Coin) → unless_expired profile height was ≡ Some coin → was ≡ Some coin
 left_coin profile height None coin e = absurd cc
 left_coin profile height (Some (New hash made)) coin e = e
 left_coin profile height (Some (Named name made)) coin e = by (is_expired profile made height) e
