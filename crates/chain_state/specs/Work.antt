@@ -105,6 +105,7 @@ pub record GoesBack (old new : Work) (maps : Maps) (ops : List UndoOp) : Type 0 
 pub record IsNameUndo (height : ℕ) (op : UndoOp) (made spent : OutPoint) (coin : Coin) (name : List ℕ) : Type 0 where
   pub back : (maps : Maps) → back_op op maps ≡ moved_back maps made spent coin name
   pub fits : (maps : Maps) → IsUndoable height op maps → IsMadeNamed height made spent maps
+  pub allows : (maps : Maps) → IsMadeNamed height made spent maps → IsUndoable height op maps
   pub spends : (point : OutPoint) → spends point op ≡ same_point spent point
   pub spends_at : (row : ℕ) (point : OutPoint) → spends_at row point op ≡ (is_named_at row (Some coin) && same_point spent point)
 
