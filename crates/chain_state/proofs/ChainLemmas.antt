@@ -307,6 +307,7 @@ module _ (c : Indexed) (indexed : IsIndexed c) (low : c.tip.height < highest) (g
           tip = refl;
           hash = hash_is;
           before = finishes.before ∙ done_before;
+          queue = indexed.queue;
           after = after_is ∙ ap (λ l. after_block c.base.profile (suc c.tip.height) l maps) ts_are;
           ops = ops_are ∙ ap (λ l. undo_ops c.base.profile (suc c.tip.height) l maps) ts_are;
           due = subst (λ l. IsDue (after_all c.base.profile (suc c.tip.height) l maps).coins (after_block c.base.profile (suc c.tip.height) l maps).coins whole.expired.items) ts_are due_are;
@@ -353,7 +354,7 @@ begun_maps base c coins names = λ i. record { coins = coins_in (coins i); names
 pub begun_at : (base : Base) (c : Tables) → base.height ≤ highest → c.coins ≡ [] → c.names ≡ [] → c.queue ≡ []
     → (undos : Roomy Undo) → undos.items ≡ [] → IsAtBase base (index_of base (record { height = base.height; hash = base.hash }) c undos)
 begun_at base c low coins names queue undos none = record {
-  low = low;
+  begins = record { low = low; starts = record { makes = tt; few = omega arith } };
   base_is = refl;
   height = refl;
   hash = refl;

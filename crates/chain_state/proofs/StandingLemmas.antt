@@ -13,30 +13,30 @@ use Rattle.chain_names.specs.Index.{next_height, refused_in}
 use Rattle.chain_names.specs.Changes.{first_refused, after_all, after_block, undo_ops, undone}
 use Rattle.chain_names.specs.Undo.{UndoRecord}
 use Rattle.chain_names.proofs.BlockLemmas.{refused_in-maps, index_maps-next}
-use Rattle.chain_names.specs.Tables.{coins_in, queued_in, queue_of}
+use Rattle.chain_names.specs.Tables.{queue_of}
 use Rattle.nmc_base.specs.declared.limits.TheConstants.{LONGEST_BLOCK}
 use Rattle.chain_names.specs.Expired.{IsDue}
 use Rattle.chain_names.specs.UndoOf.{hash_read, IsUndoOf, AreUndos}
 use Rattle.chain_names.proofs.IndexLemmas.{undo_by_maps, index_undone}
 use Rattle.chain_state.specs.Tables.{maps_by}
-use Rattle.chain_state.specs.Chain.{Indexed, IsAtBase, SameIndex, StagedIndex, rule_refused, IsStagedOn, IsConnected, IsAbandoned, staged_undo, newest_hash}
+use Rattle.chain_state.specs.Chain.{Indexed, IsAtStart, SameIndex, StagedIndex, rule_refused, IsStagedOn, IsConnected, IsAbandoned, staged_undo, newest_hash}
 use Rattle.chain_state.specs.StageBack.{IsStagedBackOn, IsDisconnected}
 use Rattle.chain_state.specs.Standing.{hash_of, chain_maps, IsValidOn, StandsForChain}
 
 plus_none : (n : ℕ) → suc n ≡ suc (n + 0)
 plus_none n = omega arith
 
-pub base_stands : (base : Base) (c : Indexed) → IsAtBase base c → StandsForChain base [] [] c
-base_stands base c at =
-    let maps = at.maps ∙ ap (λ (n : ℕ). maps_of base.profile [] n) (plus_none base.height) in
+pub base_stands : (base : Base) (start : Log) (c : Indexed) → IsAtStart base start c → StandsForChain base start [] c
+base_stands base start c at =
+    let maps = at.maps ∙ ap (λ (n : ℕ). maps_of base.profile start n) (plus_none base.height) in
     record {
       base_is = at.base_is;
       height = omega (arith, at.height);
       hash = ap (λ (h : Hash32). h.0) at.hash;
       maps = maps;
       queue = at.queue ∙ ap (λ (m : Maps). queue_of m.coins) maps;
-      undos = subst (AreUndos base.profile [] base.height []) (sym at.undos) tt;
-      valid = record { low = at.low; starts = record { makes = tt; few = omega arith } };
+      undos = subst (AreUndos base.profile start base.height []) (sym at.undos) tt;
+      valid = at.begins;
     }
 
 -- ---- the same index
@@ -123,21 +123,16 @@ module _ (base : Base) (start : Log) (blocks : List (List ℕ)) (c : Indexed) (s
     }
 
 -- a staged block that is abandoned leaves the index from before
-pub abandoned_same : (c new : Indexed) (block : Block) (staged : StagedIndex) → queued_in c.tables.queue ≡ queue_of (coins_in c.tables.coins)
-    → IsStagedOn c block staged → IsAbandoned staged new → SameIndex new c
-abandoned_same c new block staged queue on abandoned =
+pub abandoned_same : (c new : Indexed) (block : Block) (staged : StagedIndex) → IsStagedOn c block staged → IsAbandoned staged new → SameIndex new c
+abandoned_same c new block staged on abandoned =
     let maps = abandoned.maps ∙ on.before in
     record {
       base = abandoned.base ∙ on.base;
       tip = abandoned.tip ∙ on.tip;
       maps = maps;
-      queue = abandoned.queue ∙ ap (λ (m : Maps). queue_of m.coins) maps ∙ sym queue;
+      queue = abandoned.queue ∙ ap (λ (m : Maps). queue_of m.coins) maps ∙ sym on.queue;
       undos = abandoned.undos ∙ on.undos;
     }
-
--- the queue is that of the coins
-pub own_queue : (base : Base) (start : Log) (blocks : List (List ℕ)) (c : Indexed) → StandsForChain base start blocks c → queued_in c.tables.queue ≡ queue_of (coins_in c.tables.coins)
-own_queue base start blocks c s = s.queue ∙ sym (ap (λ (m : Maps). queue_of m.coins) s.maps)
 
 -- ---- the chain without its newest block
 

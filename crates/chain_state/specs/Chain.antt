@@ -1,5 +1,5 @@
 -- The index of a chain: its base and tip, what its tables say, and what undoes its blocks.
-use Rattle.std.specs.Prelude.{◌≡◌, suc, ◌<◌, ◌≤◌, List, [], ◌∷◌, map, reverse, Option, None}
+use Rattle.std.specs.Prelude.{◌≡◌, suc, ◌<◌, List, [], ◌∷◌, map, reverse, Option, None}
 use Rattle.block_grammar.specs.Block.{Block}
 use Rattle.block_grammar.specs.Merkle.{block_root}
 use Rattle.block_grammar.specs.Header.{header_hash}
@@ -9,13 +9,13 @@ use Rattle.nmc_base.specs.declared.chain_ends.Tip.{Tip}
 use Rattle.nmc_base.specs.Roomy.{Roomy}
 use Rattle.nmc_base.specs.declared.hashes.Hash32.{Hash32}
 use Rattle.chain_names.specs.Coins.{maps_of}
-use Rattle.chain_names.specs.Log.{behind_coinbase}
+use Rattle.chain_names.specs.Log.{Log, behind_coinbase}
 use Rattle.chain_names.specs.Changes.{Refused, first_refused, after_all, after_block, undo_ops}
 use Rattle.chain_names.specs.Tables.{coins_in, queued_in, queue_of}
 use Rattle.chain_names.specs.Undo.{UndoRecord}
 use Rattle.std.specs.List.{AllByRecursion}
 use Rattle.chain_names.specs.Expired.{IsDue, IsSortedByPoint}
-use Rattle.chain_names.specs.Sound.{IsSound}
+use Rattle.chain_names.specs.Sound.{IsBeginning, IsSound}
 use Rattle.chain_names.specs.Seen.{seen_undo}
 use Rattle.chain_state.specs.declared.parts.Parts.{Parts}
 use Rattle.chain_names.specs.declared.undo.Undo.{Undo}
@@ -75,15 +75,19 @@ pub record SameIndex (a b : Indexed) : Type 0 where
   pub queue : queued_in a.tables.queue ≡ queued_in b.tables.queue
   pub undos : a.undos ≡ b.undos
 
--- the index of a base alone, without coins and names
-pub record IsAtBase (base : Base) (c : Indexed) : Type 0 where
-  pub low : base.height ≤ highest
+-- the index of a base alone, with the coins and names of its start list
+pub record IsAtStart (base : Base) (start : Log) (c : Indexed) : Type 0 where
+  pub begins : IsBeginning base.profile start base.height
   pub base_is : c.base ≡ base
   pub height : c.tip.height ≡ base.height
   pub hash : c.tip.hash ≡ base.hash
-  pub maps : maps_by c.tables ≡ maps_of base.profile [] (suc base.height)
+  pub maps : maps_by c.tables ≡ maps_of base.profile start (suc base.height)
   pub queue : queued_in c.tables.queue ≡ queue_of (coins_in c.tables.coins)
   pub undos : c.undos ≡ []
+
+-- without coins and names
+abbrev pub IsAtBase : Base → Indexed → Type 0
+IsAtBase base c = IsAtStart base [] c
 
 -- ---- a block that is staged
 
@@ -129,6 +133,7 @@ pub record IsStagedOn (c : Indexed) (block : Block) (s : StagedIndex) : Type 0 w
   pub tip : s.tip ≡ c.tip
   pub hash : s.hash.0 ≡ header_hash block.header
   pub before : maps_before_block s.whole ≡ maps_by c.tables
+  pub queue : queued_in c.tables.queue ≡ queue_of (coins_in c.tables.coins)
   pub after : maps_by s.whole.work.tables ≡ after_block c.base.profile (suc c.tip.height) (behind_coinbase block.transactions) (maps_by c.tables)
   -- what undoes it: its operations in order, and each coin that is expired in the next block, by their outpoints
   pub ops : s.whole.work.ops.items ≡ undo_ops c.base.profile (suc c.tip.height) (behind_coinbase block.transactions) (maps_by c.tables)

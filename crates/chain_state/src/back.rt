@@ -1,5 +1,5 @@
-ghost use Rattle.std.specs.Prelude.{◌≡◌, ◌+◌, ◌≤◌, ◌≢◌, []};
-ghost use Rattle.chain_state.specs.StageBack.{StagesBack, IsBackCheap, IsDisconnected, back_commit_steps};
+ghost use Rattle.std.specs.Prelude.{◌≡◌, ◌+◌, ◌*◌, ◌≤◌, ◌≢◌, []};
+ghost use Rattle.chain_state.specs.StageBack.{StagesBack, IsBackCheap, IsDisconnected, back_commit_steps, newest_work};
 ghost use Rattle.chain_state.specs.Chain.{SameIndex};
 ghost use Rattle.chain_state.specs.Chain as index;
 
@@ -141,7 +141,8 @@ impl StagedBack {
 
     /// The chain as it was, with the block. It can't fail, and takes no memory.
     pub fn abandon<L: Ledger>(self, steps: &mut Steps<L>) -> Chain
-        ensures { SameIndex result self }
+        ensures same { SameIndex result self }
+        ensures cost { steps.new ≤ steps.old + 2 * newest_work self.undos }
     {
         let StagedBack {
             base,

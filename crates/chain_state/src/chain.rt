@@ -1,8 +1,9 @@
 ghost use Rattle.std.specs.Prelude.{◌≡◌, ◌+◌, ◌≤◌, IfOk};
 ghost use Rattle.nmc_base.specs.declared.limits.TheConstants.{HIGHEST_HEIGHT};
 ghost use Rattle.name_tables.specs.Tables.{AreFilled};
-ghost use Rattle.chain_state.specs.Chain.{IsAtBase, IsIndexed, IsConnected, IsAbandoned, ArePartsOf, index_of, tables_of};
-ghost use Rattle.chain_state.specs.Stage.{commit_steps};
+ghost use Rattle.block_grammar.specs.Block.{Block};
+ghost use Rattle.chain_state.specs.Chain.{Indexed, IsAtBase, IsIndexed, SameIndex, IsStagedOn, IsConnected, IsAbandoned, ArePartsOf, index_of, tables_of};
+ghost use Rattle.chain_state.specs.Stage.{abandon_steps, commit_steps};
 
 use crate::parts::Parts;
 use crate::whole::Whole;
@@ -136,7 +137,10 @@ impl StagedChain {
 
     /// The chain as it was before the block. It can't fail, and takes no memory.
     pub fn abandon<L: Ledger>(self, steps: &mut Steps<L>) -> Chain
-        ensures { IsAbandoned self result }
+        ensures abandoned { IsAbandoned self result }
+        // It is the index that the block was staged on.
+        ensures same { (c : Indexed) (block : Block) → IsStagedOn c block self → SameIndex result c }
+        ensures cost { steps.new ≤ steps.old + abandon_steps self }
     {
         let tables = self.whole.abandon(steps);
         Chain::joined(self.base, self.tip, tables, self.undos)

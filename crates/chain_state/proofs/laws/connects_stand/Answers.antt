@@ -1,4 +1,4 @@
-use Rattle.chain_state.proofs.StandingLemmas.{connects, same_stands, abandoned_same, own_queue}
+use Rattle.chain_state.proofs.StandingLemmas.{connects, same_stands, abandoned_same}
 use Rattle.chain_state.proofs.laws.connects_stand.Goals as goal
 
 pub returns-clause-committed : goal.returns-clause-committed
@@ -6,4 +6,4 @@ returns-clause-committed c = λ base start blocks old new staged bytes block s i
 
 pub returns-clause-abandoned : goal.returns-clause-abandoned
 returns-clause-abandoned c = λ base start blocks old new staged block s on abandoned.
-    same_stands base start blocks old new s (abandoned_same old new block staged (own_queue base start blocks old s) on abandoned)
+    same_stands base start blocks old new s (abandoned_same old new block staged on abandoned)
