@@ -15,4 +15,4 @@ returns-in-Ok-clause-ok g c =
 
 pub returns-in-Ok-clause-cost : goal.returns-in-Ok-clause-cost
 returns-in-Ok-clause-cost g c =
-    omega (arith, c.in-Ok.ensures.cost, row_count c.args.profile c.args.self c.requires c.in-Some.row c.expire.new.self c.in-Ok.expired.items c.in-Ok.ensures.ok c.in-Ok.ensures.distinct)
+    omega (arith, c.in-Ok.ensures.cost, row_count c.args.self c.in-Some.row c.expire.new.self c.in-Ok.expired.items c.in-Ok.ensures.ok c.requires.work c.requires.none_empty c.in-Ok.ensures.distinct)
