@@ -98,7 +98,7 @@ module _ (g : Staging) where
 
     module _ (staged : StagedIndex) (on : IsStagedOn g.index k.block staged) where
       valid_on : IsValidOn g.chain.base g.chain.start g.chain.blocks g.bytes
-      valid_on = valid_next g.chain.base g.chain.start g.chain.blocks g.index g.stands g.bytes k.block k.is_block staged on k.short
+      valid_on = valid_next g.chain.base g.chain.start g.chain.blocks g.bytes g.index staged (record { stands = g.stands; block = k.block; is_block = k.is_block; short = k.short; on = on })
 
       abandoned_stands : (same : Indexed) → IsAbandoned staged same → StandsFor same g.chain
       abandoned_stands same abandoned =
@@ -107,7 +107,7 @@ module _ (g : Staging) where
       pub staged_for : (IsFull → ⊥) → StagesFor g.area g.most g.chain g.bytes (Staged staged)
       staged_for fits = record {
         valid = valid_staged valid_on fits;
-        commits = λ new connected. connects g.chain.base g.chain.start g.chain.blocks g.index g.stands g.bytes k.block k.is_block staged on k.short new connected;
+        commits = λ new connected. connects g.chain.base g.chain.start g.chain.blocks g.bytes g.index staged (record { stands = g.stands; block = k.block; is_block = k.is_block; short = k.short; on = on }) new connected;
         abandons = abandoned_stands;
       }
 

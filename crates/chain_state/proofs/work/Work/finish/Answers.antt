@@ -11,7 +11,7 @@ returns-in-None-clause-ok g c =
 
 pub returns-in-Ok-clause-ok : goal.returns-in-Ok-clause-ok
 returns-in-Ok-clause-ok g c =
-    finished c.args.profile c.args.self c.expire.new.self c.in-Some.row c.in-Ok.expired c.requires c.in-Some.ensures.some c.in-Ok.ensures.ok
+    finished c.args.profile c.args.self c.expire.new.self c.in-Ok.expired (record { ready = c.requires; row = c.in-Some.row; due = c.in-Some.ensures.some; gone = c.in-Ok.ensures.ok })
 
 pub returns-in-Ok-clause-cost : goal.returns-in-Ok-clause-cost
 returns-in-Ok-clause-cost g c =
