@@ -1,12 +1,13 @@
 -- The coins that are due: those of one row of the queue.
-use Rattle.std.proofs.Common.{◌≡◌, ℕ, suc, ◌+◌, ◌<◌, Bool, true, false, cond, List, [], ◌∷◌, refl, sym, ap, ◌∙◌, arith}
+use Rattle.std.proofs.Common.{◌≡◌, ℕ, suc, Bool, true, false, cond, List, [], ◌∷◌, refl, sym, ap, ◌∙◌}
 use Rattle.std.proofs.Math.Path.{fun_ext}
 use Rattle.std.specs.Prelude.{Option, Some, None, ◌==◌, ◌||◌, ◌&&◌}
 use Rattle.std.specs.List.{list_any}
 use Rattle.std.specs.Cmp.{unsigned_Decides}
 use Rattle.nmc_base.specs.declared.hashes.OutPoint.{OutPoint}
 use Rattle.nmc_base.specs.declared.chain_ends.Profile.{Profile}
-use Rattle.nmc_base.specs.Expiry.{expiry_depth, is_expired}
+use Rattle.nmc_base.specs.Expiry.{due_height, is_expired}
+use Rattle.nmc_base.proofs.DueHeights.{due_expires, expires_due}
 use Rattle.chain_names.specs.declared.coin.Coin.{Coin}
 use Rattle.chain_names.specs.declared.coin.Coin.TheVariants.{New, Named}
 use Rattle.chain_names.specs.Points.{same_point, changed}
@@ -14,7 +15,6 @@ use Rattle.chain_names.specs.Coins.{unless_expired}
 use Rattle.chain_names.specs.Tables.{is_named_at}
 use Rattle.chain_names.specs.Changes.{unless_named_at, cleared}
 use Rattle.chain_names.proofs.Points.{same_point-Decides, same_point-comm}
-use Rattle.chain_names.proofs.LogLemmas.{no_lower}
 use Rattle.chain_names.proofs.Shown.{true_is_not_false}
 
 -- ---- what is cleared
@@ -64,18 +64,6 @@ cleared-row height points coins all = fun_ext (λ q. cleared-at height points co
 
 -- ---- what is due
 
-due_named : (profile : Profile) (height row made : ℕ) (name : List ℕ) → row + expiry_depth profile (suc height) ≡ suc height
-    → is_expired profile made height ≡ false → (b : Bool) → (made == row) ≡ b → is_expired profile made (suc height) ≡ b
-due_named profile height row made name due live true is = grind (arith, due, (unsigned_Decides made row).0 is)
-due_named profile height row made name due live false is =
-    by (is_expired profile made (suc height)) refl
-  where
-    by : (e : Bool) → is_expired profile made (suc height) ≡ e → e ≡ false
-    by true expired =
-        let same : made ≡ row = grind (arith, due, live, expired, no_lower profile height) in
-        absurd (true_is_not_false (sym ((unsigned_Decides made row).1 same) ∙ is))
-    by false expired = refl
-
 live_named : (profile : Profile) (height made : ℕ) (name : List ℕ) → cond (is_expired profile made height) None (Some (Named name made)) ≡ Some (Named name made) → is_expired profile made height ≡ false
 live_named profile height made name live = by (is_expired profile made height) live
   where
@@ -83,20 +71,37 @@ live_named profile height made name live = by (is_expired profile made height) l
     by true none = absurd cc
     by false some = refl
 
--- a live coin that expires is of the row at this depth
-pub unless_expired-row : (profile : Profile) (height row : ℕ) (coin : Option Coin) → row + expiry_depth profile (suc height) ≡ suc height
+-- a live name expires exactly where it is of the row that is due
+due_named : (profile : Profile) (height row made : ℕ) → due_height profile (suc height) ≡ Some row → is_expired profile made height ≡ false
+    → (b : Bool) → (made == row) ≡ b → is_expired profile made (suc height) ≡ b
+due_named profile height row made due live true is =
+    ap (λ n. is_expired profile n (suc height)) ((unsigned_Decides made row).0 is) ∙ (due_expires profile height row due).1
+due_named profile height row made due live false is = by (is_expired profile made (suc height)) refl
+  where
+    by : (e : Bool) → is_expired profile made (suc height) ≡ e → e ≡ false
+    by true expired =
+        let both : Some made ≡ Some row = sym (expires_due profile height made live expired) ∙ due in
+        let same : made ≡ row = cc in
+        absurd (true_is_not_false (sym ((unsigned_Decides made row).1 same) ∙ is))
+    by false expired = refl
+
+-- a live coin that expires is of that row
+pub unless_expired-row : (profile : Profile) (height row : ℕ) (coin : Option Coin) → due_height profile (suc height) ≡ Some row
     → unless_expired profile height coin ≡ coin → unless_expired profile (suc height) coin ≡ unless_named_at row coin
 unless_expired-row profile height row None due live = refl
 unless_expired-row profile height row (Some (New hash made)) due live = refl
 unless_expired-row profile height row (Some (Named name made)) due live =
-    ap (λ b. cond b None (Some (Named name made))) (due_named profile height row made name due (live_named profile height made name live) (made == row) refl)
+    ap (λ b. cond b None (Some (Named name made))) (due_named profile height row made due (live_named profile height made name live) (made == row) refl)
 
--- and none expires where there is no such row
-pub unless_expired-none : (profile : Profile) (height : ℕ) (coin : Option Coin) → suc height < expiry_depth profile (suc height) → unless_expired profile (suc height) coin ≡ coin
-unless_expired-none profile height None high = refl
-unless_expired-none profile height (Some (New hash made)) high = refl
-unless_expired-none profile height (Some (Named name made)) high = ap (λ b. cond b None (Some (Named name made))) (stands (is_expired profile made (suc height)) refl)
+-- and none expires where no row is due
+pub unless_expired-none : (profile : Profile) (height : ℕ) (coin : Option Coin) → due_height profile (suc height) ≡ None
+    → unless_expired profile height coin ≡ coin → unless_expired profile (suc height) coin ≡ coin
+unless_expired-none profile height None undue live = refl
+unless_expired-none profile height (Some (New hash made)) undue live = refl
+unless_expired-none profile height (Some (Named name made)) undue live = ap (λ b. cond b None (Some (Named name made))) (stands (is_expired profile made (suc height)) refl)
   where
     stands : (e : Bool) → is_expired profile made (suc height) ≡ e → e ≡ false
-    stands true is = absurd (grind (arith, is, high))
-    stands false is = refl
+    stands true expired =
+        let bad : Some made ≡ None = sym (expires_due profile height made (live_named profile height made name live) expired) ∙ undue in
+        absurd cc
+    stands false expired = refl

@@ -1,12 +1,11 @@
 -- The record of a block can be written.
-use Rattle.std.proofs.Common.{◌≡◌, ℕ, suc, ◌+◌, ◌-◌, ◌<◌, ◌≤◌, ◌^◌, Bool, true, false, nat_lt, cond, List, [], ◌∷◌, length, refl, sym, ap, subst, ◌∙◌, arith, lt_of_le_of_lt}
+use Rattle.std.proofs.Common.{◌≡◌, ℕ, suc, ◌<◌, ◌^◌, Bool, true, false, cond, List, [], ◌∷◌, length, refl, sym, ap, subst, ◌∙◌, arith, lt_of_le_of_lt}
 use Rattle.std.specs.Prelude.{Option, Some, None}
 use Rattle.std.specs.List.{AllByRecursion, list_any}
-use Rattle.std.proofs.lemmas.Bool.Decides.{nat_tests}
 use Rattle.block_grammar.specs.Transaction.{Transaction, txid_of}
 use Rattle.nmc_base.specs.declared.hashes.OutPoint.{OutPoint}
 use Rattle.nmc_base.specs.declared.chain_ends.Profile.{Profile}
-use Rattle.nmc_base.specs.Expiry.{expiry_depth}
+use Rattle.nmc_base.specs.Expiry.{due_height}
 use Rattle.nmc_base.proofs.ListLemmas.{all-weaker, all-append}
 use Rattle.chain_names.specs.declared.coin.Coin.{Coin}
 use Rattle.chain_names.specs.declared.coin.Coin.TheVariants.{New, Named}
@@ -72,7 +71,7 @@ all_limits profile height (t ∷ ts) maps stands =
 -- ---- expired coins
 
 -- the coins of the next block
-abbrev next_coins : Profile → ℕ → Maps → OutPoint → Option Coin
+abbrev pub next_coins : Profile → ℕ → Maps → OutPoint → Option Coin
 next_coins profile height after = λ point. unless_expired profile (suc height) (after.coins point)
 
 gone_is : (profile : Profile) (height : ℕ) (after : Maps) (held : HeldCoin) → IsGone after.coins (next_coins profile height after) held
@@ -97,39 +96,60 @@ row_gone row coin c held gone = by (is_named_at row coin) refl
         let bad : Some c ≡ None = sym held ∙ kept in
         absurd cc
 
-no_more : (profile : Profile) (height : ℕ) (after : Maps) (expired : List HeldCoin) → suc height < expiry_depth profile (suc height)
+no_more : (profile : Profile) (height : ℕ) (after : Maps) (expired : List HeldCoin) → Stands profile height height after → due_height profile (suc height) ≡ None
     → AllByRecursion (IsGone after.coins (next_coins profile height after)) expired → expired ≡ []
-no_more profile height after [] high all = refl
-no_more profile height after (held ∷ expired) high all =
-    let bad : Some held.coin ≡ None = sym (unless_expired-none profile height (Some held.coin) high) ∙ gone_is profile height after held all.0 in
+no_more profile height after [] stands undue all = refl
+no_more profile height after (held ∷ expired) stands undue all =
+    let live = standing_live profile height after held.at held.coin stands all.0.now_is in
+    let bad : Some held.coin ≡ None = sym (unless_expired-none profile height (Some held.coin) undue live) ∙ gone_is profile height after held all.0 in
     absurd cc
+
+-- a coin that is gone is one of the row that is due
+gone_named : (profile : Profile) (height row : ℕ) (after : Maps) (point : OutPoint) (coin : Coin) → Stands profile height height after → due_height profile (suc height) ≡ Some row
+    → after.coins point ≡ Some coin → unless_expired profile (suc height) (after.coins point) ≡ None → is_named_at row (after.coins point) ≡ true
+gone_named profile height row after point coin stands due held gone =
+    let live = ap (unless_expired profile height) held ∙ standing_live profile height after point coin stands held ∙ sym held in
+    row_gone row (after.coins point) coin held (sym (unless_expired-row profile height row (after.coins point) due live) ∙ gone)
 
 -- they are of one height, so fewer than 2^32
 pub few_expired : (profile : Profile) (height : ℕ) (after : Maps) (expired : List HeldCoin) → Stands profile height height after
     → ((row : ℕ) → HasFewNames after.coins row) → AllByRecursion (IsGone after.coins (next_coins profile height after)) expired → IsSortedByPoint expired
     → length expired < 2 ^ 32
-few_expired profile height after expired stands few all sorted = by (nat_lt (suc height) (expiry_depth profile (suc height))) refl
+few_expired profile height after expired stands few all sorted = by (due_height profile (suc height)) refl
   where
-    by : (b : Bool) → nat_lt (suc height) (expiry_depth profile (suc height)) ≡ b → length expired < 2 ^ 32
-    by true is =
-        let high : suc height < expiry_depth profile (suc height) = grind (arith, nat_tests) in
-        subst (λ (es : List HeldCoin). length es < 2 ^ 32) (sym (no_more profile height after expired high all)) (omega arith)
-    by false is =
-        let low : expiry_depth profile (suc height) ≤ suc height = grind (arith, nat_tests) in
-        let row = suc height - expiry_depth profile (suc height) in
-        let due : row + expiry_depth profile (suc height) ≡ suc height = omega arith in
+    by : (due : Option ℕ) → due_height profile (suc height) ≡ due → length expired < 2 ^ 32
+    by None undue = subst (λ (es : List HeldCoin). length es < 2 ^ 32) (sym (no_more profile height after expired stands undue all)) (omega arith)
+    by (Some row) due =
         let listed = (few row).points in
         let each = λ (held : HeldCoin) (gone : IsGone after.coins (next_coins profile height after) held).
-        (few row).all held.at
-        (row_gone row (after.coins held.at) held.coin gone.now_is
-        (sym (unless_expired-row profile height row (after.coins held.at) due
-        (ap (unless_expired profile height) gone.now_is ∙ standing_live profile height after held.at held.coin stands gone.now_is ∙ sym gone.now_is))
-        ∙ gone.next_is)) in
+        (few row).all held.at (gone_named profile height row after held.at held.coin stands due gone.now_is gone.next_is) in
         lt_of_le_of_lt
         (sorted_few expired listed sorted
         (all-points (λ point. list_any (same_point point) listed ≡ true) expired
         (all-weaker (IsGone after.coins (next_coins profile height after)) (λ held. list_any (same_point held.at) listed ≡ true) expired each all)))
         (few row).few
+
+-- outpoints among which all are that are due
+pub record DuePoints (now next : OutPoint → Option Coin) : Type 0 where
+  pub points : List OutPoint
+  pub all : (point : OutPoint) (coin : Coin) → now point ≡ Some coin → next point ≡ None → list_any (same_point point) points ≡ true
+
+pub due_points : (profile : Profile) (height : ℕ) (after : Maps) → Stands profile height height after → ((row : ℕ) → HasFewNames after.coins row)
+    → DuePoints after.coins (next_coins profile height after)
+due_points profile height after stands few = by (due_height profile (suc height)) refl
+  where
+    by : (due : Option ℕ) → due_height profile (suc height) ≡ due → DuePoints after.coins (next_coins profile height after)
+    by None undue = record {
+      points = [];
+      all = λ point coin held gone.
+          let live = ap (unless_expired profile height) held ∙ standing_live profile height after point coin stands held ∙ sym held in
+          let bad : Some coin ≡ None = sym held ∙ sym (unless_expired-none profile height (after.coins point) undue live) ∙ gone in
+          absurd cc;
+    }
+    by (Some row) due = record {
+      points = (few row).points;
+      all = λ point coin held gone. (few row).all point (gone_named profile height row after point coin stands due held gone);
+    }
 
 pub block_limits : (profile : Profile) (height : ℕ) (ts : List Transaction) (maps : Maps) (u : UndoRecord)
     → Stands profile height height maps → Stands profile height height (after_all profile height ts maps)

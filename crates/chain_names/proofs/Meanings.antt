@@ -20,7 +20,7 @@ use Rattle.chain_names.specs.Points.{point_at, spent_by}
 use Rattle.chain_names.specs.Coins.{Maps}
 use Rattle.chain_names.specs.Verdict.{Verdict, plain, commits, opens, updates, refused, Test, NameOutput, with_held, name_inputs, name_outputs, first_of, count_tests, output_tests, spent_tests, made_tests, by_input, by_output, verdict_by, verdict}
 use Rattle.chain_names.proofs.Shown.{is_refused}
-use Rattle.chain_names.specs.Meaning.{IsPlain, HasOutput, HasInput, FitsName, Commits, Opens, Updates, Means}
+use Rattle.chain_names.specs.Meaning.{IsPlain, HasOutput, HasInput, FitsName, Means}
 
 -- ---- a table of which no test holds
 
@@ -252,19 +252,3 @@ unfolding verdict
 verdict_means profile maps height t =
     refused_says profile maps height t (verdict profile maps height t)
     (lists_say profile maps height t (name_inputs maps.coins t.inputs) (name_outputs 0 t.outputs) refl refl)
-
-pub plain_has_none : (profile : Profile) (maps : Maps) (height : ℕ) (t : Transaction)
-    → verdict profile maps height t ≡ plain → IsPlain maps t
-plain_has_none profile maps height t e = subst (Means profile maps height t) e (verdict_means profile maps height t)
-
-pub commits_fresh : (profile : Profile) (maps : Maps) (height : ℕ) (t : Transaction) (hash : List ℕ) (place : ℕ)
-    → verdict profile maps height t ≡ commits hash place → Commits profile maps t hash place
-commits_fresh profile maps height t hash place e = subst (Means profile maps height t) e (verdict_means profile maps height t)
-
-pub opens_spends : (profile : Profile) (maps : Maps) (height : ℕ) (t : Transaction) (name value : List ℕ) (place : ℕ) (spent : OutPoint)
-    → verdict profile maps height t ≡ opens name value place spent → Opens profile maps height t name value place spent
-opens_spends profile maps height t name value place spent e = subst (Means profile maps height t) e (verdict_means profile maps height t)
-
-pub updates_spends : (profile : Profile) (maps : Maps) (height : ℕ) (t : Transaction) (name value : List ℕ) (place : ℕ) (spent : OutPoint)
-    → verdict profile maps height t ≡ updates name value place spent → Updates profile maps t name value place spent
-updates_spends profile maps height t name value place spent e = subst (Means profile maps height t) e (verdict_means profile maps height t)

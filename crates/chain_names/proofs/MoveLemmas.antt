@@ -16,14 +16,14 @@ use Rattle.chain_names.specs.Coins.{Maps, entry_of}
 use Rattle.chain_names.specs.Meaning.{FitsName}
 use Rattle.chain_names.specs.Verdict.{made_at}
 use Rattle.chain_names.specs.Changes.{moved}
-use Rattle.chain_names.proofs.Changed.{changed_at, bytes_eq-true, bytes_eq-self}
+use Rattle.chain_names.proofs.Changed.{changed_at, bytes_eq-self}
 use Rattle.chain_names.proofs.LogLemmas.{fresh_stands}
 use Rattle.chain_names.proofs.Points.{same_point-Decides, same_point-true, same_point-self}
 use Rattle.chain_names.proofs.Shown.{true_is_not_false}
 use Rattle.chain_names.proofs.HistoryLemmas.{entry_of-more}
 use Rattle.chain_names.specs.State.{IsUpTo, FitsItem, IsRising, IsStandingCoin}
 use Rattle.chain_names.proofs.PointLemmas.{apart}
-use Rattle.chain_names.proofs.RestoredHistoryLemmas.{rising-more}
+use Rattle.chain_names.proofs.RestoredHistoryLemmas.{each_history, last_item, own_history, rising-more}
 use Rattle.chain_names.proofs.StandLemmas.{Stands}
 
 -- ---- a commitment
@@ -57,99 +57,93 @@ module _ (profile : Profile) (height top made : ℕ) (maps : Maps) (point : OutP
   }
 
 -- ---- a name moves
-
 -- The name's coin, where it has one, is the one that is spent, and no coin of another name is.
-module _ (profile : Profile) (height : ℕ) (maps : Maps) (spent point : OutPoint) (name value : List ℕ) (coin : Coin)
-    (stands : Stands profile height height maps) (fresh : maps.coins point ≡ None) (held : maps.coins spent ≡ Some coin) (fits : FitsName name value)
-    (only_here : (q : OutPoint) (made : ℕ) → maps.coins q ≡ Some (Named name made) → q ≡ spent)
-    (only_this : (n : List ℕ) (made : ℕ) → coin ≡ Named n made → n ≡ name) where
-  abbrev Now : Maps
-  Now = moved maps height spent point name value
+pub record Moves (profile : Profile) (maps : Maps) (spent : OutPoint) (name : List ℕ) (item : Item) : Type 0 where
+  pub coin : Coin
+  pub stands : Stands profile item.height item.height maps
+  pub fresh : maps.coins item.at ≡ None
+  pub held : maps.coins spent ≡ Some coin
+  pub fits : FitsName name item.value
+  pub only_here : (q : OutPoint) (made : ℕ) → maps.coins q ≡ Some (Named name made) → q ≡ spent
+  pub only_this : (n : List ℕ) (made : ℕ) → coin ≡ Named n made → n ≡ name
 
-  abbrev NewItem : Item
-  NewItem = record { height = height; at = point; value = value }
+module _ (profile : Profile) (maps : Maps) (spent : OutPoint) (name : List ℕ) (new : Item) (m : Moves profile maps spent name new) where
+  abbrev Now : Maps
+  Now = moved maps spent name new
 
   abbrev IsMade : OutPoint → Coin → Type 0
-  IsMade q c = (point ≡ q) × (Named name height ≡ c)
+  IsMade q c = (new.at ≡ q) × (Named name new.height ≡ c)
 
   abbrev Stays : OutPoint → Coin → Type 0
   Stays q c = (same_point spent q ≡ false) × (maps.coins q ≡ Some c)
 
-  made_or_stays : (q : OutPoint) (c : Coin) (m s : Bool) → same_point point q ≡ m → same_point spent q ≡ s
-      → cond m (Some (Named name height)) (cond s None (maps.coins q)) ≡ Some c → IsMade q c ⊎ Stays q c
+  made_or_stays : (q : OutPoint) (c : Coin) (b s : Bool) → same_point new.at q ≡ b → same_point spent q ≡ s
+      → cond b (Some (Named name new.height)) (cond s None (maps.coins q)) ≡ Some c → IsMade q c ⊎ Stays q c
   made_or_stays q c true s is _ e =
-      let same : Named name height ≡ c = cc in
-      inl (same_point-true point q is, same)
+      let same : Named name new.height ≡ c = cc in
+      inl (same_point-true new.at q is, same)
   made_or_stays q c false true _ is e = absurd cc
   made_or_stays q c false false _ is e = inr (is, e)
 
   coin_now : (q : OutPoint) (c : Coin) → Now.coins q ≡ Some c → IsMade q c ⊎ Stays q c
-  coin_now q c = made_or_stays q c (same_point point q) (same_point spent q) refl refl
+  coin_now q c = made_or_stays q c (same_point new.at q) (same_point spent q) refl refl
 
-  -- the name's history has the item more, and the others are as before
-  each_history : (P : List ℕ → List Item → Type 0) → P name (maps.names name ++ NewItem ∷ []) → ((n : List ℕ) → bytes_eq name n ≡ false → P n (maps.names n))
-      → (n : List ℕ) → P n (Now.names n)
-  each_history P new old n = by (bytes_eq name n) refl
-    where
-      by : (b : Bool) → bytes_eq name n ≡ b → P n (cond b (maps.names name ++ NewItem ∷ []) (maps.names n))
-      by true is = subst (λ m. P m (maps.names name ++ NewItem ∷ [])) (bytes_eq-true name n is) new
-      by false is = old n is
-
-  coin_low : (q : OutPoint) (c : Coin) → Now.coins q ≡ Some c → made_at c ≤ height
+  coin_low : (q : OutPoint) (c : Coin) → Now.coins q ≡ Some c → made_at c ≤ new.height
   coin_low q c e =
-      ⊎_elim (λ here. subst (λ k. made_at k ≤ height) here.1 (omega arith)) (λ there. stands.coin_heights q c there.1) (coin_now q c e)
+      ⊎_elim (λ here. subst (λ k. made_at k ≤ new.height) here.1 (omega arith)) (λ there. m.stands.coin_heights q c there.1) (coin_now q c e)
 
-  made_standing : IsStandingCoin profile height (Now.names name) height point
+  made_standing : IsStandingCoin profile new.height (Now.names name) new.height new.at
   made_standing =
-      subst (λ items. IsStandingCoin profile height items height point)
-      (sym (ap (λ b. cond b (maps.names name ++ NewItem ∷ []) (maps.names name)) (bytes_eq-self name)))
-      (record { is_last = record { value = value; last = entry_of-more (maps.names name) NewItem }; live = fresh_stands profile height })
+      subst (λ items. IsStandingCoin profile new.height items new.height new.at)
+      (sym (own_history maps.names name new))
+      (record { is_last = last_item (maps.names name) new; live = fresh_stands profile new.height })
 
-  made_coin : (q : OutPoint) (n : List ℕ) (made : ℕ) → point ≡ q → Named name height ≡ Named n made → IsStandingCoin profile height (Now.names n) made q
+  made_coin : (q : OutPoint) (n : List ℕ) (made : ℕ) → new.at ≡ q → Named name new.height ≡ Named n made → IsStandingCoin profile new.height (Now.names n) made q
   made_coin q n made at same =
       let named : name ≡ n = cc in
-      let here : height ≡ made = cc in
-      subst (λ m. IsStandingCoin profile height (Now.names m) made q) named
-      (subst (λ h. IsStandingCoin profile height (Now.names name) h q) here (subst (λ p. IsStandingCoin profile height (Now.names name) height p) at made_standing))
+      let here : new.height ≡ made = cc in
+      subst (λ k. IsStandingCoin profile new.height (Now.names k) made q) named
+      (subst (λ h. IsStandingCoin profile new.height (Now.names name) h q) here
+      (subst (λ p. IsStandingCoin profile new.height (Now.names name) new.height p) at made_standing))
 
-  other_coin : (q : OutPoint) (n : List ℕ) (made : ℕ) → same_point spent q ≡ false → maps.coins q ≡ Some (Named n made) → IsStandingCoin profile height (Now.names n) made q
+  other_coin : (q : OutPoint) (n : List ℕ) (made : ℕ) → same_point spent q ≡ false → maps.coins q ≡ Some (Named n made) → IsStandingCoin profile new.height (Now.names n) made q
   other_coin q n made other there =
-      each_history (λ m items. maps.coins q ≡ Some (Named m made) → IsStandingCoin profile height items made q)
-      (λ here. absurd (true_is_not_false (sym (ap (same_point spent) (only_here q made here) ∙ same_point-self spent) ∙ other)))
-      (λ m other_name. stands.named_coins q m made)
+      each_history maps.names name new (λ k items. maps.coins q ≡ Some (Named k made) → IsStandingCoin profile new.height items made q)
+      (λ here. absurd (true_is_not_false (sym (ap (same_point spent) (m.only_here q made here) ∙ same_point-self spent) ∙ other)))
+      (λ k other_name. m.stands.named_coins q k made)
       n there
 
   -- the coin of another name is still there
   still_there : (n : List ℕ) (item : Item) → bytes_eq name n ≡ false → maps.coins item.at ≡ Some (Named n item.height) → Now.coins item.at ≡ Some (Named n item.height)
   still_there n item other there =
-      ap (λ b. cond b (Some (Named name height)) (cond (same_point spent item.at) None (maps.coins item.at))) (apart maps.coins point item.at (Named n item.height) fresh there)
+      ap (λ b. cond b (Some (Named name new.height)) (cond (same_point spent item.at) None (maps.coins item.at))) (apart maps.coins new.at item.at (Named n item.height) m.fresh there)
       ∙ by (same_point spent item.at) refl
     where
       by : (b : Bool) → same_point spent item.at ≡ b → cond b None (maps.coins item.at) ≡ Some (Named n item.height)
       by true is =
-          let both : Some coin ≡ Some (Named n item.height) = sym held ∙ ap maps.coins (same_point-true spent item.at is) ∙ there in
-          let same : coin ≡ Named n item.height = cc in
-          absurd (true_is_not_false (sym (ap (bytes_eq name) (only_this n item.height same) ∙ bytes_eq-self name) ∙ other))
+          let both : Some m.coin ≡ Some (Named n item.height) = sym m.held ∙ ap maps.coins (same_point-true spent item.at is) ∙ there in
+          let same : m.coin ≡ Named n item.height = cc in
+          absurd (true_is_not_false (sym (ap (bytes_eq name) (m.only_this n item.height same) ∙ bytes_eq-self name) ∙ other))
       by false is = there
 
-  new_entry : (item : Item) → entry_of (maps.names name ++ NewItem ∷ []) ≡ Some item → Now.coins item.at ≡ Some (Named name item.height)
+  new_entry : (item : Item) → entry_of (maps.names name ++ new ∷ []) ≡ Some item → Now.coins item.at ≡ Some (Named name item.height)
   new_entry item entry =
-      let some : Some NewItem ≡ Some item = sym (entry_of-more (maps.names name) NewItem) ∙ entry in
-      let same : NewItem ≡ item = cc in
+      let some : Some new ≡ Some item = sym (entry_of-more (maps.names name) new) ∙ entry in
+      let same : new ≡ item = cc in
       subst (λ (i : Item). Now.coins i.at ≡ Some (Named name i.height)) same
-      (changed_at same_point-Decides (changed same_point maps.coins spent None) point (Some (Named name height)))
+      (changed_at same_point-Decides (changed same_point maps.coins spent None) new.at (Some (Named name new.height)))
 
-  pub moved_stands : Stands profile height height Now
+  pub moved_stands : Stands profile new.height new.height Now
   moved_stands = record {
     coin_heights = coin_low;
-    item_heights = each_history (λ n items. AllByRecursion (IsUpTo height) items)
-        (all-append (IsUpTo height) (maps.names name) (NewItem ∷ []) (stands.item_heights name) (omega arith, tt)) (λ n other. stands.item_heights n);
-    rising = each_history (λ n items. IsRising items) (rising-more (maps.names name) NewItem (stands.rising name) (stands.item_heights name)) (λ n other. stands.rising n);
-    lengths = each_history (λ n items. AllByRecursion (FitsItem n) items)
-        (all-append (FitsItem name) (maps.names name) (NewItem ∷ []) (stands.lengths name) (fits, tt)) (λ n other. stands.lengths n);
+    item_heights = each_history maps.names name new (λ n items. AllByRecursion (IsUpTo new.height) items)
+        (all-append (IsUpTo new.height) (maps.names name) (new ∷ []) (m.stands.item_heights name) (omega arith, tt)) (λ n other. m.stands.item_heights n);
+    rising = each_history maps.names name new (λ n items. IsRising items) (rising-more (maps.names name) new (m.stands.rising name) (m.stands.item_heights name)) (λ n other. m.stands.rising n);
+    lengths = each_history maps.names name new (λ n items. AllByRecursion (FitsItem n) items)
+        (all-append (FitsItem name) (maps.names name) (new ∷ []) (m.stands.lengths name) (m.fits, tt)) (λ n other. m.stands.lengths n);
     named_coins = λ q n made e. ⊎_elim (λ here. made_coin q n made here.0 here.1) (λ there. other_coin q n made there.0 there.1) (coin_now q (Named n made) e);
-    standing_names = each_history
-        (λ n items. (item : Item) → entry_of items ≡ Some item → is_expired profile item.height height ≡ false → Now.coins item.at ≡ Some (Named n item.height))
+    standing_names = each_history maps.names name new
+        (λ n items. (item : Item) → entry_of items ≡ Some item → is_expired profile item.height new.height ≡ false → Now.coins item.at ≡ Some (Named n item.height))
         (λ item entry live. new_entry item entry)
-        (λ n other item entry live. still_there n item other (stands.standing_names n item entry live));
+        (λ n other item entry live. still_there n item other (m.stands.standing_names n item entry live));
   }

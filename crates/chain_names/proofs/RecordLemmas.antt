@@ -1,31 +1,24 @@
 -- Each chain of accepted blocks has its undo records.
-use Rattle.std.proofs.Common.{◌≡◌, ℕ, suc, ◌+◌, ◌-◌, ◌<◌, ◌≤◌, Bool, true, false, nat_lt, List, [], ◌∷◌, refl, sym, ap, subst, ◌∙◌, arith}
+use Rattle.std.proofs.Common.{◌≡◌, ℕ, Bool, true, false, List, [], ◌∷◌, refl, sym, ap, subst, ◌∙◌}
 use Rattle.std.specs.Prelude.{Option, Some, None, ◌||◌}
 use Rattle.std.specs.List.{AllByRecursion, list_any}
-use Rattle.std.proofs.lemmas.Bool.Decides.{nat_tests}
 use Rattle.nmc_base.specs.declared.chain_ends.Profile.{Profile}
 use Rattle.nmc_base.specs.declared.hashes.OutPoint.{OutPoint}
-use Rattle.nmc_base.specs.Expiry.{expiry_depth}
 use Rattle.chain_names.specs.declared.coin.Coin.{Coin}
 use Rattle.chain_names.specs.declared.coin.HeldCoin.{HeldCoin}
 use Rattle.chain_names.specs.Points.{same_point}
-use Rattle.chain_names.specs.Coins.{Maps, unless_expired}
 use Rattle.chain_names.specs.Changes.{after_all, undo_ops}
 use Rattle.chain_names.specs.Index.{next_height, index_maps}
 use Rattle.chain_names.specs.Log.{Log, behind_coinbase, transactions_in}
 use Rattle.chain_names.specs.Undo.{UndoRecord}
-use Rattle.chain_names.proofs.DueLemmas.{unless_expired-row, unless_expired-none}
 use Rattle.chain_names.proofs.Shown.{true_is_not_false}
 use Rattle.chain_names.proofs.Points.{same_point-true}
 use Rattle.chain_names.specs.Expired.{IsSortedByPoint, IsGone}
-use Rattle.chain_names.specs.State.{HasFewNames}
 use Rattle.chain_names.specs.Sound.{IsAccepted, AreAccepted}
 use Rattle.chain_names.specs.UndoOf.{hash_in, IsUndoOf, AreUndos}
 use Rattle.chain_names.proofs.InsertLemmas.{IsListed, insert_held, insert_all, insert_sorted, insert_here, insert_there, sorted_nil}
-use Rattle.chain_names.proofs.StandLemmas.{Stands}
 use Rattle.chain_names.proofs.StateLemmas.{transactions_stand, transactions_few}
-use Rattle.chain_names.proofs.FitLemmas.{standing_live}
-use Rattle.chain_names.proofs.LimitLemmas.{row_gone}
+use Rattle.chain_names.proofs.LimitLemmas.{due_points, next_coins}
 use Rattle.chain_names.proofs.SoundLemmas.{sound_state}
 use Rattle.chain_names.proofs.IndexLemmas.{undo_by_maps, index_sound}
 use Rattle.chain_names.proofs.OutputLemmas.{accepted_few}
@@ -90,35 +83,6 @@ module _ (now next : OutPoint → Option Coin) where
 
 -- ---- a block
 
--- outpoints among which all are that are due
-record DuePoints (now next : OutPoint → Option Coin) : Type 0 where
-  points : List OutPoint
-  all : (point : OutPoint) (coin : Coin) → now point ≡ Some coin → next point ≡ None → list_any (same_point point) points ≡ true
-
-due_points : (profile : Profile) (height : ℕ) (after : Maps) → Stands profile height height after → ((row : ℕ) → HasFewNames after.coins row)
-    → DuePoints after.coins (λ point. unless_expired profile (suc height) (after.coins point))
-due_points profile height after stands few = by (nat_lt (suc height) (expiry_depth profile (suc height))) refl
-  where
-    by : (b : Bool) → nat_lt (suc height) (expiry_depth profile (suc height)) ≡ b → DuePoints after.coins (λ point. unless_expired profile (suc height) (after.coins point))
-    by true is = record {
-      points = [];
-      all = λ point coin held gone.
-          let high : suc height < expiry_depth profile (suc height) = grind (arith, nat_tests) in
-          let bad : Some coin ≡ None = sym held ∙ sym (unless_expired-none profile height (after.coins point) high) ∙ gone in
-          absurd cc;
-    }
-    by false is = record {
-      points = (few (suc height - expiry_depth profile (suc height))).points;
-      all = λ point coin held gone.
-          let low : expiry_depth profile (suc height) ≤ suc height = grind (arith, nat_tests) in
-          let row = suc height - expiry_depth profile (suc height) in
-          let due : row + expiry_depth profile (suc height) ≡ suc height = omega arith in
-          (few row).all point
-          (row_gone row (after.coins point) coin held
-          (sym (unless_expired-row profile height row (after.coins point) due
-          (ap (unless_expired profile height) held ∙ standing_live profile height after point coin stands held ∙ sym held)) ∙ gone));
-    }
-
 record HasUndo (profile : Profile) (start : Log) (base : ℕ) (block : List ℕ) (blocks : List (List ℕ)) : Type 0 where
   undo : UndoRecord
   is_undo : IsUndoOf profile start base block blocks undo
@@ -131,7 +95,7 @@ block_has_undo profile start base block blocks us accepted below undos =
     let before = index_maps profile start base blocks in
     let state = sound_state profile base _ before us (index_sound profile start base blocks us below undos) in
     let after = after_all profile height ts before in
-    let next = λ (point : OutPoint). unless_expired profile (suc height) (after.coins point) in
+    let next = next_coins profile height after in
     let listed = due_points profile height after (transactions_stand profile _ ts before state) (transactions_few profile _ ts before state (accepted_few profile start base block blocks accepted)) in
     let all = found after.coins next listed.points in
     let u : UndoRecord = record { block = record { 0 = hash_in block }; ops = undo_ops profile height ts before; expired = all.helds } in

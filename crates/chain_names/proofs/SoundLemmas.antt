@@ -37,7 +37,7 @@ block_sound profile base tip index ts maps u us sound accepted low few ops due s
         above = refl;
         state = block_state profile tip ts maps state low few;
         limits = block_limits profile (suc tip) ts maps u before stands few_rows few ops due sorted;
-        fits = block_fits profile (suc tip) index ts maps u stands accepted ops due;
+        fits = block_fits profile (suc tip) index ts maps u before accepted ops due;
       },
       subst (λ m. IsSound profile base tip m us)
           (sym (ap (λ (os : List UndoOp). undone os u.expired left) ops ∙ block_undone profile (suc tip) index ts maps u.expired accepted due))

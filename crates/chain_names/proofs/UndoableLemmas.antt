@@ -1,9 +1,9 @@
 -- A record that fits can be undone.
-use Rattle.std.proofs.Common.{◌≡◌, ℕ, suc, ◌+◌, ◌<◌, true, List, [], ◌∷◌, refl, sym, ◌∙◌}
+use Rattle.std.proofs.Common.{◌≡◌, ℕ, suc, true, List, [], ◌∷◌, refl, sym, ◌∙◌}
 use Rattle.std.specs.Prelude.{Some, None}
 use Rattle.std.specs.List.{AllByRecursion}
 use Rattle.nmc_base.specs.declared.chain_ends.Profile.{Profile}
-use Rattle.nmc_base.specs.Expiry.{expiry_depth}
+use Rattle.nmc_base.specs.Expiry.{due_height}
 use Rattle.chain_names.specs.declared.coin.Coin.TheVariants.{New}
 use Rattle.chain_names.specs.declared.coin.HeldCoin.{HeldCoin}
 use Rattle.chain_names.specs.declared.undo.UndoOp.{UndoOp}
@@ -19,7 +19,8 @@ use Rattle.chain_names.proofs.LimitLemmas.{row_gone}
 allows : (tip : ℕ) (op : UndoOp) (maps : Maps) → FitsOp tip op maps → IsUndoable tip op maps
 allows tip (undo_new made) maps fits = record { coin = New fits.hash tip; held = fits.held; unnamed = λ height. refl }
 allows tip (undo_first made spent coin name before) maps fits = record { name = fits.borne; held = fits.held; free = fits.free }
-allows tip (undo_update made spent coin name before) maps fits = record { name = fits.borne; held = fits.held; free = fits.free }
+allows tip (undo_update made spent coin name None) maps fits = absurd fits
+allows tip (undo_update made spent coin name (Some before)) maps fits = record { name = fits.borne; held = fits.held; free = fits.free }
 
 fits_allow : (tip : ℕ) (ops : List UndoOp) (maps : Maps) → FitsOps tip ops maps → AreUndoable tip ops maps
 fits_allow tip [] maps fits = tt
@@ -30,14 +31,14 @@ fit_allows profile tip u maps fits = fits_allow tip u.ops (with_restored u.expir
 
 -- ---- the row of an expired coin
 
-pub expired-row : (profile : Profile) (tip row : ℕ) (maps : Maps) (held : HeldCoin) → row + expiry_depth profile (suc tip) ≡ suc tip → IsJustExpired profile tip maps held
+pub expired-row : (profile : Profile) (tip row : ℕ) (maps : Maps) (held : HeldCoin) → due_height profile (suc tip) ≡ Some row → IsJustExpired profile tip maps held
     → is_named_at row (Some held.coin) ≡ true
 expired-row profile tip row maps held due expired =
     row_gone row (Some held.coin) held.coin refl (sym (unless_expired-row profile tip row (Some held.coin) due expired.live) ∙ expired.expired)
 
-pub expired-none : (profile : Profile) (tip : ℕ) (maps : Maps) (helds : List HeldCoin) → suc tip < expiry_depth profile (suc tip)
+pub expired-none : (profile : Profile) (tip : ℕ) (maps : Maps) (helds : List HeldCoin) → due_height profile (suc tip) ≡ None
     → AllByRecursion (IsJustExpired profile tip maps) helds → helds ≡ []
-expired-none profile tip maps [] high all = refl
-expired-none profile tip maps (held ∷ helds) high all =
-    let bad : Some held.coin ≡ None = sym (unless_expired-none profile tip (Some held.coin) high) ∙ all.0.expired in
+expired-none profile tip maps [] undue all = refl
+expired-none profile tip maps (held ∷ helds) undue all =
+    let bad : Some held.coin ≡ None = sym (unless_expired-none profile tip (Some held.coin) undue all.0.live) ∙ all.0.expired in
     absurd cc

@@ -8,7 +8,7 @@ use Rattle.nmc_base.specs.Expiry.{is_expired}
 use Rattle.chain_names.specs.declared.coin.Coin.{Coin}
 use Rattle.chain_names.specs.declared.coin.Coin.TheVariants.{New, Named}
 use Rattle.chain_names.specs.Points.{point_at}
-use Rattle.chain_names.specs.Coins.{Maps, entry_of, unless_expired}
+use Rattle.chain_names.specs.Coins.{Maps, entry_of, opened, updated, unless_expired}
 use Rattle.chain_names.specs.Meaning.{Means, Opens, Updates}
 use Rattle.chain_names.specs.Verdict.{Verdict, plain, commits, opens, updates, refused, verdict, is_taken}
 use Rattle.chain_names.specs.Changes.{after_verdict, after_transaction, after_all, without_expired}
@@ -32,9 +32,16 @@ opened_stands : (profile : Profile) (height : ℕ) (maps : Maps) (t : Transactio
     → Opens profile maps height t name value place spent → Stands profile height height maps
     → Stands profile height height (after_verdict maps height (txid_of t) (opens name value place spent))
 opened_stands profile height maps t name value place spent means stands =
-    moved_stands profile height maps spent (point_at (txid_of t) place) name value (New means.hash means.made) stands means.output.fresh means.input.held means.fits
-    (λ q made held. absurd (untaken_free profile height maps name q made stands means.untaken held))
-    (λ n made same. absurd (is_no_name n made same))
+    moved_stands profile maps spent name (opened height (point_at (txid_of t) place) value)
+    (record {
+      coin = New means.hash means.made;
+      stands = stands;
+      fresh = means.output.fresh;
+      held = means.input.held;
+      fits = means.fits;
+      only_here = λ q made held. absurd (untaken_free profile height maps name q made stands means.untaken held);
+      only_this = λ n made same. absurd (is_no_name n made same);
+    })
   where
     is_no_name : (n : List ℕ) (made : ℕ) → New means.hash means.made ≡ Named n made → ⊥
     is_no_name n made same = cc
@@ -43,9 +50,17 @@ updated_stands : (profile : Profile) (height : ℕ) (maps : Maps) (t : Transacti
     → Updates profile maps t name value place spent → Stands profile height height maps
     → Stands profile height height (after_verdict maps height (txid_of t) (updates name value place spent))
 updated_stands profile height maps t name value place spent means stands =
-    moved_stands profile height maps spent (point_at (txid_of t) place) name value (Named name means.made) stands means.output.fresh means.input.held means.fits
-    (λ q made held. one_point (maps.names name) made means.made q spent (stands.named_coins q name made held).is_last (stands.named_coins spent name means.made means.input.held).is_last)
-    (λ n made same. is_the_name n made same)
+    moved_stands profile maps spent name (updated (entry_of (maps.names name)) height (point_at (txid_of t) place) value)
+    (record {
+      coin = Named name means.made;
+      stands = stands;
+      fresh = means.output.fresh;
+      held = means.input.held;
+      fits = means.fits;
+      only_here = λ q made held.
+          one_point (maps.names name) made means.made q spent (stands.named_coins q name made held).is_last (stands.named_coins spent name means.made means.input.held).is_last;
+      only_this = λ n made same. is_the_name n made same;
+    })
   where
     is_the_name : (n : List ℕ) (made : ℕ) → Named name means.made ≡ Named n made → n ≡ name
     is_the_name n made same = cc

@@ -12,22 +12,17 @@ use Rattle.chain_names.specs.declared.undo.UndoOp.{UndoOp}
 use Rattle.chain_names.specs.declared.undo.UndoOp.TheVariants.{New as undo_new, First as undo_first, Update as undo_update}
 use Rattle.chain_names.specs.declared.refusal.RuleRefusal.{RuleRefusal}
 use Rattle.chain_names.specs.Points.{same_point, point_at, changed}
-use Rattle.chain_names.specs.Coins.{Maps, entry_of, unless_expired}
+use Rattle.chain_names.specs.Coins.{Maps, entry_of, opened, updated, with_value, unless_expired}
 use Rattle.chain_names.specs.Tables.{is_named_at}
 use Rattle.chain_names.specs.Verdict.{Verdict, plain, commits, opens, updates, refused, verdict}
 
 -- ---- one operation
 
--- the name's history with the value more that the outpoint gives it
-abbrev pub with_value : (List ℕ → List Item) → List ℕ → ℕ → OutPoint → List ℕ → List ℕ → List Item
-with_value names name height point value =
-    changed bytes_eq names name (names name ++ record { height = height; at = point; value = value } ∷ [])
-
--- a name moves from the outpoint spent to the one made
-abbrev pub moved : Maps → ℕ → OutPoint → OutPoint → List ℕ → List ℕ → Maps
-moved maps height spent point name value = record {
-  coins = changed same_point (changed same_point maps.coins spent None) point (Some (Named name height));
-  names = with_value maps.names name height point value;
+-- a name moves from the outpoint spent to that of its new value
+abbrev pub moved : Maps → OutPoint → List ℕ → Item → Maps
+moved maps spent name item = record {
+  coins = changed same_point (changed same_point maps.coins spent None) item.at (Some (Named name item.height));
+  names = with_value maps.names name item;
 }
 
 -- the maps after a transaction with this verdict
@@ -35,8 +30,8 @@ abbrev pub after_verdict : Maps → ℕ → List ℕ → Verdict → Maps
 after_verdict maps height txid plain = maps
 after_verdict maps height txid (commits hash place) =
     record { coins = changed same_point maps.coins (point_at txid place) (Some (New (record { 0 = hash }) height)); names = maps.names }
-after_verdict maps height txid (opens name value place spent) = moved maps height spent (point_at txid place) name value
-after_verdict maps height txid (updates name value place spent) = moved maps height spent (point_at txid place) name value
+after_verdict maps height txid (opens name value place spent) = moved maps spent name (opened height (point_at txid place) value)
+after_verdict maps height txid (updates name value place spent) = moved maps spent name (updated (entry_of (maps.names name)) height (point_at txid place) value)
 after_verdict maps height txid (refused refusal) = maps
 
 abbrev pub with_spent : (Coin → UndoOp) → Option Coin → List UndoOp

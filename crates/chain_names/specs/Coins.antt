@@ -32,25 +32,40 @@ unless_expired profile height (Some (Named name made)) = if is_expired profile m
 abbrev pub live_coin : Profile → Log → ℕ → OutPoint → Option Coin
 live_coin profile log height = λ point. unless_expired profile height (coin_now log point)
 
--- the histories with one value more, which an output of this height gives
+-- the last value of a history
+abbrev pub entry_of : List Item → Option Item
+entry_of [] = None
+entry_of (item ∷ []) = Some item
+entry_of (item ∷ next ∷ items) = entry_of (next ∷ items)
+
+-- the value that opens a name: its registration begins with it
+abbrev pub opened : ℕ → OutPoint → List ℕ → Item
+opened height point value = record { height = height; registered = height; at = point; value = value }
+
+-- the height at which the registration of a value began: that of the value before, if there is one
+abbrev pub registered_behind : Option Item → ℕ → ℕ
+registered_behind None height = height
+registered_behind (Some before) height = before.registered
+
+-- the value that updates a name, behind the value before
+abbrev pub updated : Option Item → ℕ → OutPoint → List ℕ → Item
+updated before height point value = record { height = height; registered = registered_behind before height; at = point; value = value }
+
+-- the histories with one value more, of this name
+abbrev pub with_value : (List ℕ → List Item) → List ℕ → Item → List ℕ → List Item
+with_value names name item = changed bytes_eq names name (names name ++ item ∷ [])
+
+-- the histories behind an output of this height
 abbrev pub with_operation : (List ℕ → List Item) → OutPoint → NameOperation → ℕ → List ℕ → List Item
 with_operation names point (name_new hash) height = names
-with_operation names point (name_firstupdate name rand value) height =
-    changed bytes_eq names name (names name ++ record { height = height; at = point; value = value } ∷ [])
-with_operation names point (name_update name value) height =
-    changed bytes_eq names name (names name ++ record { height = height; at = point; value = value } ∷ [])
+with_operation names point (name_firstupdate name rand value) height = with_value names name (opened height point value)
+with_operation names point (name_update name value) height = with_value names name (updated (entry_of (names name)) height point value)
 
 -- the history of each name: the values that it was given, the oldest first
 abbrev pub history_of : Log → List ℕ → List Item
 history_of [] = λ name. []
 history_of (Spend point ∷ log) = history_of log
 history_of (Make point operation height ∷ log) = with_operation (history_of log) point operation height
-
--- the last value of a history
-abbrev pub entry_of : List Item → Option Item
-entry_of [] = None
-entry_of (item ∷ []) = Some item
-entry_of (item ∷ next ∷ items) = entry_of (next ∷ items)
 
 -- what the rules look at: the live coins at a height, and the histories
 pub record Maps : Type 0 where

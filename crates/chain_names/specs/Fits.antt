@@ -14,7 +14,6 @@ use Rattle.chain_names.specs.Coins.{Maps, entry_of, unless_expired}
 use Rattle.chain_names.specs.Changes.{without_entry, back_ops, restored}
 use Rattle.chain_names.specs.Tables.{is_named_at}
 use Rattle.chain_names.specs.Undo.{UndoRecord}
-use Rattle.chain_names.specs.State.{IsLastItem}
 
 -- ---- expired coins
 
@@ -36,18 +35,25 @@ pub record IsMadeCommitment (tip : ℕ) (made : OutPoint) (maps : Maps) : Type 0
   pub held : maps.coins made ≡ Some (New hash tip)
 
 -- The outpoint made is a name's coin of the tip's height, whichever name it bears. The name's last item is of this height
--- and outpoint, and the one before it is the one written. The outpoint spent is no coin.
-pub record IsMadeName (tip : ℕ) (made spent : OutPoint) (name : List ℕ) (before : Option Item) (maps : Maps) : Type 0 where
+-- and outpoint and of a registration that began at this height, and the item before it is the one written. The outpoint
+-- spent is no coin.
+pub record IsMadeName (tip registered : ℕ) (made spent : OutPoint) (name : List ℕ) (before : Option Item) (maps : Maps) : Type 0 where
   pub borne : List ℕ
+  pub value : List ℕ
   pub held : maps.coins made ≡ Some (Named borne tip)
-  pub last : IsLastItem (maps.names name) tip made
+  pub last : entry_of (maps.names name) ≡ Some (record { height = tip; registered = registered; at = made; value = value })
   pub before_is : entry_of (without_entry (maps.names name)) ≡ before
   pub free : maps.coins spent ≡ None
 
+-- an update has an item before, and goes on with its registration
+abbrev pub IsMadeUpdate : ℕ → OutPoint → OutPoint → List ℕ → Option Item → Maps → Type 0
+IsMadeUpdate tip made spent name None maps = ⊥
+IsMadeUpdate tip made spent name (Some before) maps = IsMadeName tip before.registered made spent name (Some before) maps
+
 abbrev pub FitsOp : ℕ → UndoOp → Maps → Type 0
 FitsOp tip (undo_new made) maps = IsMadeCommitment tip made maps
-FitsOp tip (undo_first made spent coin name before) maps = IsMadeName tip made spent name before maps
-FitsOp tip (undo_update made spent coin name before) maps = IsMadeName tip made spent name before maps
+FitsOp tip (undo_first made spent coin name before) maps = IsMadeName tip tip made spent name before maps
+FitsOp tip (undo_update made spent coin name before) maps = IsMadeUpdate tip made spent name before maps
 
 -- from the last to the first: each is tested, and then undone
 abbrev pub FitsOps : ℕ → List UndoOp → Maps → Type 0

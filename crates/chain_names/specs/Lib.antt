@@ -11,6 +11,7 @@ pub mod Tables
 pub mod Undo
 pub mod Seen
 pub mod Writable
+pub mod Measured
 pub mod Expired
 pub mod UndoOf
 pub mod State

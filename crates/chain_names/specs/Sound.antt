@@ -1,7 +1,9 @@
 -- Sound states, and the chains that are accepted on a base.
 use Rattle.std.specs.Prelude.{◌≡◌, ℕ, suc, ◌≤◌, List, [], ◌∷◌, length, None}
+use Rattle.std.specs.List.{AllByRecursion}
 use Rattle.block_grammar.specs.Block.{Block, IsBlock}
 use Rattle.nmc_base.specs.declared.chain_ends.Profile.{Profile}
+use Rattle.chain_names.specs.declared.coin.Item.{Item}
 use Rattle.chain_names.specs.Coins.{Maps}
 use Rattle.chain_names.specs.Changes.{undone}
 use Rattle.chain_names.specs.Index.{next_height, refused_in}
@@ -14,10 +16,15 @@ use Rattle.chain_names.specs.State.{IsState}
 use Rattle.chain_names.specs.Fits.{FitsState}
 use Rattle.chain_names.specs.Limits.{IsWithinLimits}
 
--- the base alone: no coin and no item is higher than it, as the state says
+-- an item's own height is that of its registration
+abbrev pub BeginsRegistration : Item → Type 0
+BeginsRegistration item = item.registered ≡ item.height
+
+-- the base alone: no coin and no item is higher than it, as the state says, and each item begins its registration
 pub record IsBaseState (profile : Profile) (base tip : ℕ) (maps : Maps) : Type 0 where
   pub at_base : tip ≡ base
   pub state : IsState profile tip maps
+  pub registered : (name : List ℕ) → AllByRecursion BeginsRegistration (maps.names name)
 
 -- the tip's undo record fits the state, and below it is one height less
 pub record IsTipState (profile : Profile) (tip below : ℕ) (u : UndoRecord) (maps : Maps) : Type 0 where

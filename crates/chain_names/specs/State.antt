@@ -29,8 +29,9 @@ IsRising (item ∷ next ∷ items) = (item.height ≤ next.height) × IsRising (
 
 -- the last item of a history has this height and this outpoint
 pub record IsLastItem (items : List Item) (height : ℕ) (point : OutPoint) : Type 0 where
+  pub registered : ℕ
   pub value : List ℕ
-  pub last : entry_of items ≡ Some (record { height = height; at = point; value = value })
+  pub last : entry_of items ≡ Some (record { height = height; registered = registered; at = point; value = value })
 
 -- the coin of a name is that of its last item, and isn't expired at the height
 pub record IsStandingCoin (profile : Profile) (height : ℕ) (items : List Item) (made : ℕ) (point : OutPoint) : Type 0 where

@@ -70,10 +70,10 @@ is_update (name_new hash) = false
 is_update (name_firstupdate name rand value) = false
 is_update (name_update name value) = true
 
-abbrev pub hash_in : NameOperation → List ℕ
-hash_in (name_new hash) = hash
-hash_in (name_firstupdate name rand value) = []
-hash_in (name_update name value) = []
+abbrev pub commitment_in : NameOperation → List ℕ
+commitment_in (name_new hash) = hash
+commitment_in (name_firstupdate name rand value) = []
+commitment_in (name_update name value) = []
 
 abbrev pub name_in : NameOperation → List ℕ
 name_in (name_new hash) = []
@@ -135,7 +135,7 @@ count_tests version inputs outputs =
 abbrev pub operation_tests : NameOperation → List HeldCoin → List Test
 operation_tests operation inputs =
     (NewWithNameInput, is_new operation && nat_lt 0 (length inputs))
-    ∷ (NewWrongSize, is_new operation && not (length (hash_in operation) == DIGEST_LENGTH))
+    ∷ (NewWrongSize, is_new operation && not (length (commitment_in operation) == DIGEST_LENGTH))
     ∷ (UpdateWithoutInput, not (is_new operation) && (length inputs == 0))
     ∷ (NameTooLong, not (is_new operation) && nat_lt LONGEST_NAME (length (name_in operation)))
     ∷ (ValueTooLong, not (is_new operation) && nat_lt LONGEST_VALUE (length (value_in operation)))
@@ -168,7 +168,7 @@ kind_of (name_update name value) place spent = updates name value place spent
 
 -- with the name input, if there is one
 abbrev pub by_input : Profile → Maps → ℕ → List ℕ → NameOutput → List HeldCoin → Verdict
-by_input profile maps height txid output [] = first_of (made_tests maps (point_at txid output.place)) (commits (hash_in output.operation) output.place)
+by_input profile maps height txid output [] = first_of (made_tests maps (point_at txid output.place)) (commits (commitment_in output.operation) output.place)
 by_input profile maps height txid output (held ∷ more) =
     first_of (spent_tests profile maps height output.operation held.coin)
     (first_of (made_tests maps (point_at txid output.place)) (kind_of output.operation output.place held.at))

@@ -13,36 +13,37 @@ use Rattle.chain_names.specs.declared.undo.UndoOp.{UndoOp}
 use Rattle.chain_names.specs.declared.undo.UndoOp.TheVariants.{New as op_new, First, Update}
 use Rattle.chain_names.specs.Undo.{UndoRecord}
 
-pub record FitsPoint (point : OutPoint) : Type 0 where
+pub record IsWritablePoint (point : OutPoint) : Type 0 where
   pub txid : length point.txid.0 ≡ 32
   pub index : point.index < 2 ^ 32
 
-abbrev pub FitsName : List ℕ → Type 0
-FitsName name = length name ≤ LONGEST_NAME
+abbrev pub IsWritableName : List ℕ → Type 0
+IsWritableName name = length name ≤ LONGEST_NAME
 
 -- a coin that has no name longer than that
 abbrev pub HasShortName : Coin → Type 0
 HasShortName (New hash height) = Unit {0}
-HasShortName (Named name height) = FitsName name
+HasShortName (Named name height) = IsWritableName name
 
 -- a coin of a commitment
-abbrev pub FitsNewCoin : Coin → Type 0
-FitsNewCoin (New hash height) = (height < 2 ^ 32) × (length hash.0 ≡ DIGEST_LENGTH)
-FitsNewCoin (Named name height) = ⊥
+abbrev pub IsWritableNew : Coin → Type 0
+IsWritableNew (New hash height) = (height < 2 ^ 32) × (length hash.0 ≡ DIGEST_LENGTH)
+IsWritableNew (Named name height) = ⊥
 
 -- a coin of a name
-abbrev pub FitsNamedCoin : Coin → Type 0
-FitsNamedCoin (New hash height) = ⊥
-FitsNamedCoin (Named name height) = (height < 2 ^ 32) × FitsName name
+abbrev pub IsWritableNamed : Coin → Type 0
+IsWritableNamed (New hash height) = ⊥
+IsWritableNamed (Named name height) = (height < 2 ^ 32) × IsWritableName name
 
-pub record FitsItem (item : Item) : Type 0 where
+pub record IsWritableItem (item : Item) : Type 0 where
   pub height : item.height < 2 ^ 32
-  pub at : FitsPoint item.at
+  pub registered : item.registered < 2 ^ 32
+  pub at : IsWritablePoint item.at
   pub value : length item.value ≤ LONGEST_VALUE
 
-abbrev pub FitsBefore : Option Item → Type 0
-FitsBefore None = Unit {0}
-FitsBefore (Some item) = FitsItem item
+abbrev pub IsWritableBefore : Option Item → Type 0
+IsWritableBefore None = Unit {0}
+IsWritableBefore (Some item) = IsWritableItem item
 
 -- what the operations on a name have behind their tag: the outpoints made and spent, the coin spent, the name, and
 -- the item before
@@ -58,22 +59,22 @@ abbrev pub change_of : OutPoint → OutPoint → Coin → List ℕ → Option It
 change_of made spent coin name before = record { made = made; spent = spent; coin = coin; name = name; before = before }
 
 -- a change that spends a coin of this kind
-pub record FitsChange (FitsCoin : Coin → Type 0) (c : Change) : Type 0 where
-  pub made : FitsPoint c.made
-  pub spent : FitsPoint c.spent
+pub record IsWritableChange (FitsCoin : Coin → Type 0) (c : Change) : Type 0 where
+  pub made : IsWritablePoint c.made
+  pub spent : IsWritablePoint c.spent
   pub coin : FitsCoin c.coin
-  pub name : FitsName c.name
-  pub before : FitsBefore c.before
+  pub name : IsWritableName c.name
+  pub before : IsWritableBefore c.before
 
 -- a first change spends a commitment, and an update spends a name
-abbrev pub FitsOp : UndoOp → Type 0
-FitsOp (op_new made) = FitsPoint made
-FitsOp (First made spent coin name before) = FitsChange FitsNewCoin (change_of made spent coin name before)
-FitsOp (Update made spent coin name before) = FitsChange FitsNamedCoin (change_of made spent coin name before)
+abbrev pub IsWritableOp : UndoOp → Type 0
+IsWritableOp (op_new made) = IsWritablePoint made
+IsWritableOp (First made spent coin name before) = IsWritableChange IsWritableNew (change_of made spent coin name before)
+IsWritableOp (Update made spent coin name before) = IsWritableChange IsWritableNamed (change_of made spent coin name before)
 
-pub record FitsHeld (held : HeldCoin) : Type 0 where
-  pub at : FitsPoint held.at
-  pub coin : FitsNamedCoin held.coin
+pub record IsWritableHeld (held : HeldCoin) : Type 0 where
+  pub at : IsWritablePoint held.at
+  pub coin : IsWritableNamed held.coin
 
 -- the outpoint is greater than the one before, if there is one: by the bytes of the txids, and then by the index
 abbrev pub IsAfter : Option OutPoint → OutPoint → Type 0
@@ -86,14 +87,14 @@ AreAscending last [] = Unit {0}
 AreAscending last (held ∷ more) = IsAfter last held.at × AreAscending (Some held.at) more
 
 -- a record with a text, but for the order of the expired coins
-pub record FitsUndo (undo : UndoRecord) : Type 0 where
+pub record HasWritableParts (undo : UndoRecord) : Type 0 where
   pub block : length undo.block.0 ≡ 32
   pub op_count : length undo.ops < 2 ^ 32
-  pub ops : AllByRecursion FitsOp undo.ops
+  pub ops : AllByRecursion IsWritableOp undo.ops
   pub expired_count : length undo.expired < 2 ^ 32
-  pub expired : AllByRecursion FitsHeld undo.expired
+  pub expired : AllByRecursion IsWritableHeld undo.expired
 
 -- a record with a text
 pub record IsWritable (undo : UndoRecord) : Type 0 where
-  pub fits : FitsUndo undo
+  pub fits : HasWritableParts undo
   pub in_order : AreAscending None undo.expired

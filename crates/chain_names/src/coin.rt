@@ -16,10 +16,14 @@ pub struct HeldCoin {
     pub coin: Coin,
 }
 
-/// A value that a name was given: the height of the block, the output, and the value.
+/// A value that a name was given.
 #[derive(Drop)]
 pub struct Item {
+    /// The height of its block.
     pub height: u32,
+    /// The height at which the name's registration began: that of the block in which it was opened last.
+    pub registered: u32,
+    /// The output that gave it.
     pub at: OutPoint,
     pub value: Bytes,
 }

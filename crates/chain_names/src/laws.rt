@@ -5,7 +5,7 @@ ghost use Rattle.std.specs.List.{list_any};
 ghost use Rattle.block_grammar.specs.Transaction.{Transaction};
 ghost use Rattle.nmc_base.specs.declared.chain_ends.Profile.{Profile};
 ghost use Rattle.nmc_base.specs.declared.hashes.OutPoint.{OutPoint};
-ghost use Rattle.nmc_base.specs.Expiry.{expiry_depth, is_expired};
+ghost use Rattle.nmc_base.specs.Expiry.{due_height, expiry_depth, is_expired};
 ghost use Rattle.chain_names.specs.declared.coin.Coin.{Coin};
 ghost use Rattle.chain_names.specs.declared.coin.Coin.TheVariants.{Named};
 ghost use Rattle.chain_names.specs.Points.{same_point, changed};
@@ -60,13 +60,13 @@ pub fn expiry_laws()
 {}
 
 /// Of the live coins at a height, those that are expired at the next one are the names that were given a value at one
-/// height: the next one less its depth. Where there is no such height, none expires. Going over all outpoints of that
-/// row takes just these coins.
+/// height: the one that is due. Where none is due, none expires. Going over all outpoints of that row takes just these
+/// coins.
 pub fn due_coins()
-    ensures row { (profile : Profile) (height row : ℕ) (coin : Option Coin) → row + expiry_depth profile (suc height) ≡ suc height
+    ensures row { (profile : Profile) (height row : ℕ) (coin : Option Coin) → due_height profile (suc height) ≡ Some row
         → unless_expired profile height coin ≡ coin → unless_expired profile (suc height) coin ≡ unless_named_at row coin }
-    ensures none { (profile : Profile) (height : ℕ) (coin : Option Coin) → suc height < expiry_depth profile (suc height)
-        → unless_expired profile (suc height) coin ≡ coin }
+    ensures none { (profile : Profile) (height : ℕ) (coin : Option Coin) → due_height profile (suc height) ≡ None
+        → unless_expired profile height coin ≡ coin → unless_expired profile (suc height) coin ≡ coin }
     ensures cleared { (height : ℕ) (points : List OutPoint) (coins : OutPoint → Option Coin)
         → ((point : OutPoint) → is_named_at height (coins point) ≡ true → list_any (same_point point) points ≡ true)
         → cleared height points coins ≡ (λ point. unless_named_at height (coins point)) }

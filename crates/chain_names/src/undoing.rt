@@ -5,7 +5,7 @@ ghost use Rattle.std.specs.List.{AllByRecursion};
 ghost use Rattle.block_grammar.specs.Transaction.{Transaction};
 ghost use Rattle.nmc_base.specs.declared.chain_ends.Profile.{Profile};
 ghost use Rattle.nmc_base.specs.declared.hashes.OutPoint.{OutPoint};
-ghost use Rattle.nmc_base.specs.Expiry.{expiry_depth};
+ghost use Rattle.nmc_base.specs.Expiry.{due_height};
 ghost use Rattle.chain_names.specs.declared.coin.Coin.{Coin};
 ghost use Rattle.chain_names.specs.declared.coin.HeldCoin.{HeldCoin};
 ghost use Rattle.chain_names.specs.Log.{Log, behind_coinbase, log_of, transactions_in};
@@ -119,12 +119,12 @@ pub fn undoing_keeps_soundness()
 {}
 
 /// A record that fits can be undone: each of its operations, from the last to the first, finds what it takes back, and
-/// each expired coin belongs to the one row of the queue that is due after the tip. Where no row is, none expired.
+/// each expired coin belongs to the one row of the queue that is due behind the tip. Where no row is, none expired.
 pub fn fit_allows_undoing()
     ensures operations { (profile : Profile) (tip : ℕ) (u : UndoRecord) (maps : Maps) → FitsState profile tip u maps
         → AreUndoable tip u.ops (with_restored u.expired maps) }
-    ensures row { (profile : Profile) (tip row : ℕ) (maps : Maps) (held : HeldCoin) → row + expiry_depth profile (suc tip) ≡ suc tip
+    ensures row { (profile : Profile) (tip row : ℕ) (maps : Maps) (held : HeldCoin) → due_height profile (suc tip) ≡ Some row
         → IsJustExpired profile tip maps held → is_named_at row (Some held.coin) ≡ true }
-    ensures none { (profile : Profile) (tip : ℕ) (maps : Maps) (helds : List HeldCoin) → suc tip < expiry_depth profile (suc tip)
+    ensures none { (profile : Profile) (tip : ℕ) (maps : Maps) (helds : List HeldCoin) → due_height profile (suc tip) ≡ None
         → AllByRecursion (IsJustExpired profile tip maps) helds → helds ≡ [] }
 {}

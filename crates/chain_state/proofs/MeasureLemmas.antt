@@ -32,7 +32,7 @@ use Rattle.chain_names.proofs.Points.{same_point-Decides}
 use Rattle.chain_names.specs.Expired.{points_of, IsSortedByPoint, IsGone, IsDue}
 use Rattle.chain_names.specs.Limits.{IsWithinLimitsOp, IsShortBefore, HoldsName, IsWithinLimits}
 use Rattle.chain_names.proofs.RestoredHistoryLemmas.{entry_has}
-use Rattle.chain_names.specs.Writable.{FitsPoint, FitsNewCoin, FitsNamedCoin, FitsBefore, FitsOp, FitsHeld, AreAscending, IsWritable}
+use Rattle.chain_names.specs.Writable.{IsWritablePoint, IsWritableNew, IsWritableNamed, IsWritableBefore, IsWritableOp, IsWritableHeld, AreAscending, IsWritable}
 use Rattle.chain_state.specs.Block.{HasFewOutputs}
 use Rattle.chain_state.specs.Measure.{IsMeasuredCoin, IsMeasuredItem, AreMeasured}
 
@@ -66,7 +66,7 @@ outputs_below place top (output ∷ outputs) low =
     with_output_below top place output.value (name_op output.script) (name_outputs (suc place) outputs) (omega (arith, low))
     (outputs_below (suc place) top outputs (omega (arith, low)))
 
-made_fits : (t : Transaction) (output : NameOutput) → HasFewOutputs t → name_outputs 0 t.outputs ≡ output ∷ [] → FitsPoint (point_at (txid_of t) output.place)
+made_fits : (t : Transaction) (output : NameOutput) → HasFewOutputs t → name_outputs 0 t.outputs ≡ output ∷ [] → IsWritablePoint (point_at (txid_of t) output.place)
 made_fits t output few outputs =
     let low : output.place < length t.outputs =
     (subst (AllByRecursion (IsPlacedBelow (length t.outputs))) outputs (outputs_below 0 (length t.outputs) t.outputs (omega arith))).0 in
@@ -99,7 +99,7 @@ items_changed names name items all here n = by (bytes_eq name n)
     by true = here
     by false = all n
 
-moved_measured : (maps : Maps) (height : ℕ) (spent point : OutPoint) (name value : List ℕ) → height < 2 ^ 32 → FitsPoint point → AreMeasured maps
+moved_measured : (maps : Maps) (height : ℕ) (spent point : OutPoint) (name value : List ℕ) → height < 2 ^ 32 → IsWritablePoint point → AreMeasured maps
     → AreMeasured (moved maps height spent point name value)
 moved_measured maps height spent point name value low fits measured = record {
   coins = coin_there (changed same_point maps.coins spent None) point (Named name height) (coin_gone maps.coins spent measured.coins) (record { at = fits; height = low; hash = tt });
@@ -114,15 +114,15 @@ IsMeasuredBefore None = Unit {0}
 IsMeasuredBefore (Some item) = IsMeasuredItem item
 
 abbrev IsMeasuredOp : UndoOp → Type 0
-IsMeasuredOp (undo_new made) = FitsPoint made
-IsMeasuredOp (undo_first made spent coin name before) = FitsPoint made × IsMeasuredCoin spent coin × IsMeasuredBefore before
-IsMeasuredOp (undo_update made spent coin name before) = FitsPoint made × IsMeasuredCoin spent coin × IsMeasuredBefore before
+IsMeasuredOp (undo_new made) = IsWritablePoint made
+IsMeasuredOp (undo_first made spent coin name before) = IsWritablePoint made × IsMeasuredCoin spent coin × IsMeasuredBefore before
+IsMeasuredOp (undo_update made spent coin name before) = IsWritablePoint made × IsMeasuredCoin spent coin × IsMeasuredBefore before
 
-before_fits : (before : Option Item) → IsShortBefore before → IsMeasuredBefore before → FitsBefore before
+before_fits : (before : Option Item) → IsShortBefore before → IsMeasuredBefore before → IsWritableBefore before
 before_fits None short measured = tt
 before_fits (Some item) short measured = record { height = measured.height; at = measured.at; value = short }
 
-op_fits : (op : UndoOp) → IsWithinLimitsOp op → IsMeasuredOp op → FitsOp op
+op_fits : (op : UndoOp) → IsWithinLimitsOp op → IsMeasuredOp op → IsWritableOp op
 op_fits (undo_new made) limits measured = measured
 op_fits (undo_first made spent (New hash height) name before) limits measured = record {
   made = measured.0;
@@ -141,21 +141,21 @@ op_fits (undo_update made spent (Named other height) name before) limits measure
   before = before_fits before limits.2 measured.2;
 }
 
-ops_fit : (ops : List UndoOp) → AllByRecursion IsWithinLimitsOp ops → AllByRecursion IsMeasuredOp ops → AllByRecursion FitsOp ops
+ops_fit : (ops : List UndoOp) → AllByRecursion IsWithinLimitsOp ops → AllByRecursion IsMeasuredOp ops → AllByRecursion IsWritableOp ops
 ops_fit [] limits measured = tt
 ops_fit (op ∷ ops) limits measured = (op_fits op limits.0 measured.0, ops_fit ops limits.1 measured.1)
 
-held_fits : (held : HeldCoin) → HoldsName held → IsMeasuredCoin held.at held.coin → FitsHeld held
+held_fits : (held : HeldCoin) → HoldsName held → IsMeasuredCoin held.at held.coin → IsWritableHeld held
 held_fits held limits measured = record { at = measured.at; coin = named held.coin limits measured.height }
   where
-    named : (coin : Coin) → HoldsName (record { at = held.at; coin = coin }) → made_at coin < 2 ^ 32 → FitsNamedCoin coin
+    named : (coin : Coin) → HoldsName (record { at = held.at; coin = coin }) → made_at coin < 2 ^ 32 → IsWritableNamed coin
     named (New hash height) limits low = absurd limits
     named (Named name height) limits low = (low, limits)
 
 abbrev IsMeasuredHeld : HeldCoin → Type 0
 IsMeasuredHeld held = IsMeasuredCoin held.at held.coin
 
-helds_fit : (helds : List HeldCoin) → AllByRecursion HoldsName helds → AllByRecursion IsMeasuredHeld helds → AllByRecursion FitsHeld helds
+helds_fit : (helds : List HeldCoin) → AllByRecursion HoldsName helds → AllByRecursion IsMeasuredHeld helds → AllByRecursion IsWritableHeld helds
 helds_fit [] limits measured = tt
 helds_fit (held ∷ helds) limits measured = (held_fits held limits.0 measured.0, helds_fit helds limits.1 measured.1)
 
@@ -263,11 +263,11 @@ block_writable profile height ts maps u low few measured block limits ops due =
 
 -- ---- the way back
 
-new_coin : (point : OutPoint) (coin : Coin) → FitsPoint point → FitsNewCoin coin → IsMeasuredCoin point coin
+new_coin : (point : OutPoint) (coin : Coin) → IsWritablePoint point → IsWritableNew coin → IsMeasuredCoin point coin
 new_coin point (New hash height) at fits = record { at = at; height = fits.0; hash = fits.1 }
 new_coin point (Named name height) at fits = absurd fits
 
-named_coin : (point : OutPoint) (coin : Coin) → FitsPoint point → FitsNamedCoin coin → IsMeasuredCoin point coin
+named_coin : (point : OutPoint) (coin : Coin) → IsWritablePoint point → IsWritableNamed coin → IsMeasuredCoin point coin
 named_coin point (New hash height) at fits = absurd fits
 named_coin point (Named name height) at fits = record { at = at; height = fits.0; hash = tt }
 
@@ -283,18 +283,18 @@ moved_back_measured maps point spent coin name fits measured = record {
   items = items_changed maps.names name (without_entry (maps.names name)) measured.items (all-take IsMeasuredItem (length (maps.names name) - 1) (maps.names name) (measured.items name));
 }
 
-back_op_measured : (op : UndoOp) (maps : Maps) → FitsOp op → AreMeasured maps → AreMeasured (back_op op maps)
+back_op_measured : (op : UndoOp) (maps : Maps) → IsWritableOp op → AreMeasured maps → AreMeasured (back_op op maps)
 back_op_measured (undo_new made) maps fits measured = record { coins = coin_gone maps.coins made measured.coins; items = measured.items }
 back_op_measured (undo_first made spent coin name before) maps fits measured =
     moved_back_measured maps made spent coin name (new_coin spent coin fits.spent fits.coin) measured
 back_op_measured (undo_update made spent coin name before) maps fits measured =
     moved_back_measured maps made spent coin name (named_coin spent coin fits.spent fits.coin) measured
 
-back_ops_measured : (ops : List UndoOp) (maps : Maps) → AllByRecursion FitsOp ops → AreMeasured maps → AreMeasured (back_ops ops maps)
+back_ops_measured : (ops : List UndoOp) (maps : Maps) → AllByRecursion IsWritableOp ops → AreMeasured maps → AreMeasured (back_ops ops maps)
 back_ops_measured [] maps fits measured = measured
 back_ops_measured (op ∷ ops) maps fits measured = back_op_measured op (back_ops ops maps) fits.0 (back_ops_measured ops maps fits.1 measured)
 
-restored_measured : (helds : List HeldCoin) (coins : OutPoint → Option Coin) → AllByRecursion FitsHeld helds → AreMeasuredCoins coins → AreMeasuredCoins (restored helds coins)
+restored_measured : (helds : List HeldCoin) (coins : OutPoint → Option Coin) → AllByRecursion IsWritableHeld helds → AreMeasuredCoins coins → AreMeasuredCoins (restored helds coins)
 restored_measured [] coins fits measured = measured
 restored_measured (held ∷ helds) coins fits measured =
     coin_there (restored helds coins) held.at held.coin (restored_measured helds coins fits.1 measured) (named_coin held.at held.coin fits.0.at fits.0.coin)

@@ -14,7 +14,7 @@ use std::marker::Model;
 use std::sync::ledger::Ledger;
 
 /// The outpoints of named coins, in rows by the height of their blocks. An outpoint is put only where it has a place in the
-/// row, which takes memory before. A row with no place isn't kept.
+/// row, so that this can't fail. A row with no place isn't kept.
 ///
 /// Contracts see each height that has a row, and each outpoint that has a place in it, in the order of the places, with whether
 /// the place is filled.
@@ -66,7 +66,7 @@ impl Queue {
         }
     }
 
-    /// The outpoint of the i-th place at the height, counted from 0, or None exactly past the end. The order is open.
+    /// The outpoint of the i-th place at the height, counted from 0, or None exactly past the end.
     pub fn row_item<L: Ledger>(
         &self,
         height: u32,
@@ -119,7 +119,7 @@ impl Queue {
         }
     }
 
-    /// Queues the outpoint at the height, where it has a place. It takes no memory.
+    /// Queues the outpoint at the height, where it has a place.
     pub fn put<L: Ledger>(&mut self, height: u32, at: &OutPoint, steps: &mut Steps<L>)
         requires placed { queue_places self.old height at.now ≡ true }
         ensures queued { queued_in self.new ≡ changed nat_eq (queued_in self.old) height (changed same_point (queued_in self.old height) at.now true) }

@@ -84,7 +84,7 @@ impl Row {
         }
     }
 
-    /// Fills the outpoint's place. It takes no memory.
+    /// Fills the outpoint's place.
     pub fn put(&mut self, at: &OutPoint)
         requires placed { row_places self.old at.now ≡ true }
         ensures queued { row_queued self.new ≡ changed same_point (row_queued self.old) at.now true }

@@ -3,9 +3,11 @@ ghost use Rattle.std.specs.List.{IsDistinct};
 ghost use Rattle.std.specs.Map.{keys_of, lookup};
 ghost use Rattle.std.specs.Option.{is_some, option_copied};
 ghost use Rattle.indexmap.specs.IndexSet.{insert_key};
+ghost use Rattle.chain_names.specs.Measured.{IsMeasuredCoin, AreCoinsMeasured};
 ghost use Rattle.chain_names.specs.Points.{same_point, changed};
 ghost use Rattle.chain_names.specs.Tables.{coins_in, coin_places, AreCoinsFilled};
 
+use crate::widths::read_widths;
 use chain_names::Coin;
 use indexmap::IndexMap;
 use nmc_base::{NoMemory, OutPoint, Steps};
@@ -13,7 +15,7 @@ use std::alloc::Global;
 use std::marker::Model;
 use std::sync::ledger::Ledger;
 
-/// The coins, by outpoint. A coin is put only where its outpoint has a place, which takes memory before.
+/// The coins, by outpoint. A coin is put only where its outpoint has a place, so that this can't fail.
 ///
 /// Contracts see each outpoint that has a place, in the order of the places, and its coin where the place is filled.
 #[derive(Drop)]
@@ -24,9 +26,14 @@ pub struct Coins {
 impl Model for Coins {
     ghost use Rattle.chain_names.specs.Tables.{CoinSlots};
 
+    ghost use Rattle.chain_names.specs.Tables.{coins_in};
+    ghost use Rattle.chain_names.specs.Measured.{AreCoinsMeasured};
+
     ghost Value = { CoinSlots };
 
     ghost view = { λ c. c.places.entries };
+
+    ghost invariant = { λ c. AreCoinsMeasured (coins_in c.places.entries) };
 }
 
 impl Coins {
@@ -37,6 +44,13 @@ impl Coins {
         Ok(Coins {
             places: IndexMap::new(alloc),
         })
+    }
+
+    /// Each coin and its outpoint are as wide as their fields.
+    pub fn widths(&self)
+        ensures { AreCoinsMeasured (coins_in self.now) }
+    {
+        let _places = &self.places;
     }
 
     /// The coin at the outpoint.
@@ -81,7 +95,7 @@ impl Coins {
         }
     }
 
-    /// Puts the coin in the outpoint's place, over one that is there. It takes no memory.
+    /// Puts the coin in the outpoint's place, over one that is there.
     pub fn put<L: Ledger>(&mut self, at: &OutPoint, coin: Coin, steps: &mut Steps<L>)
         requires placed { coin_places self.old at.now ≡ true }
         ensures coins { coins_in self.new ≡ changed same_point (coins_in self.old) at.now (Some coin) }
@@ -90,6 +104,7 @@ impl Coins {
         ensures cost { steps.new ≡ steps.old + 1 }
     {
         steps.tick();
+        read_widths(*at, &coin);
         match self.places.insert(*at, Some(coin)) {
             Ok(before) => drop(before),
             Err(_) => unreachable!(),
@@ -109,11 +124,12 @@ impl Coins {
         place.take()
     }
 
-    /// The i-th of the places, counted from 0, and its coin: a walk meets each place once. The order is open.
+    /// The i-th of the places, counted from 0, and its coin, or None exactly past the end: a walk meets each place once.
     pub fn item<L: Ledger>(&self, i: usize, steps: &mut Steps<L>) -> Option<(&OutPoint, &Coin)>
         requires filled { AreCoinsFilled self.now }
         ensures item { MatchOption result (length self.now ≤ i) (λ p. slice_get self.now i ≡ Some (p.0.now, Some p.1.now)) }
         ensures held { IfSome result (λ p. coins_in self.now p.0.now ≡ Some p.1.now) }
+        ensures measured { IfSome result (λ p. IsMeasuredCoin p.0.now p.1.now) }
         ensures distinct { IsDistinct same_point (keys_of self.now) }
         ensures cost { steps.new ≡ steps.old + 1 }
     {

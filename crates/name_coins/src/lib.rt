@@ -2,6 +2,7 @@
 #![tactic(auto)]
 
 mod coins;
+mod widths;
 
 pub use chain_names::Coin;
 pub use coins::Coins;

@@ -1,8 +1,6 @@
 -- The last of a history, and a history without it.
 use Rattle.std.proofs.Common.{◌≡◌, suc, ◌-◌, ◌==◌, true, false, true≢false, List, [], ◌∷◌, ◌++◌, length, slice_get, Option, Some, None, is_some, refl, sym, ap, ◌∙◌, arith}
 use Rattle.std.proofs.lemmas.Bool.{eqb-true}
-use Rattle.std.proofs.lemmas.List.{length-append}
-use Rattle.std.proofs.Math.Seq.{take-append_seam}
 use Rattle.std.specs.Option.{IfSome, IfNone}
 use Rattle.nmc_base.specs.Roomy.{Roomy}
 use Rattle.chain_names.specs.declared.coin.Item.{Item}

@@ -1,4 +1,5 @@
 mod ByBytesLemmas
 mod EntryLemmas
 mod KeyLemmas
+pub mod MeasureLemmas
 mod Readings

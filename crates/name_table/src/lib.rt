@@ -2,6 +2,7 @@
 #![tactic(auto)]
 
 mod table;
+mod widths;
 
 pub use chain_names::Item;
 pub use table::Table;

@@ -1,14 +1,16 @@
 ghost use Rattle.std.specs.Prelude.{◌≡◌, ◌+◌, ◌-◌, ◌≤◌, ◌++◌, ◌∷◌, [], ℕ, List, true, false, if◌then◌else◌, slice_get, IfOk, IfSome, OnOk, OnErr};
-ghost use Rattle.std.specs.List.{IsDistinct};
+ghost use Rattle.std.specs.List.{AllByRecursion, IsDistinct};
 ghost use Rattle.std.specs.Map.{keys_of};
 ghost use Rattle.std.specs.Option.{is_some, option_copied};
 ghost use Rattle.std.specs.Str.{bytes_eq};
 ghost use Rattle.indexmap.specs.IndexSet.{insert_key};
 ghost use Rattle.chain_names.specs.Changes.{without_entry};
 ghost use Rattle.chain_names.specs.Coins.{entry_of};
+ghost use Rattle.chain_names.specs.Measured.{IsMeasuredItem, AreItemsMeasured};
 ghost use Rattle.chain_names.specs.Points.{changed};
 ghost use Rattle.chain_names.specs.Tables.{names_in, name_places, room_in};
 
+use crate::widths::read_widths;
 use chain_names::Item;
 use indexmap::IndexMap;
 use nmc_base::{NoMemory, RoomyList, Steps};
@@ -16,8 +18,8 @@ use std::alloc::Global;
 use std::marker::Model;
 use std::sync::ledger::Ledger;
 
-/// The histories of names, the oldest value first. A value is pushed only where its name has room for it, which takes memory
-/// before.
+/// The histories of names, the oldest value first. A value is pushed only where its name has room for it, so that this can't
+/// fail.
 ///
 /// Contracts see each name that has a place, in the order of the places, its history, and for how many values more it has room.
 #[derive(Drop)]
@@ -26,12 +28,15 @@ pub struct Table {
 }
 
 impl Model for Table {
-    ghost use Rattle.chain_names.specs.Tables.{NameSlots};
+    ghost use Rattle.chain_names.specs.Measured.{AreItemsMeasured};
+    ghost use Rattle.chain_names.specs.Tables.{NameSlots, names_in};
     ghost use Rattle.name_table.specs.ByBytes.{by_bytes};
 
     ghost Value = { NameSlots };
 
     ghost view = { λ t. by_bytes t.places.entries };
+
+    ghost invariant = { λ t. AreItemsMeasured (names_in (by_bytes t.places.entries)) };
 }
 
 impl Table {
@@ -42,6 +47,13 @@ impl Table {
         Ok(Table {
             places: IndexMap::new(alloc),
         })
+    }
+
+    /// Each item of each history is as wide as its fields.
+    pub fn widths(&self)
+        ensures { AreItemsMeasured (names_in self.now) }
+    {
+        let _places = &self.places;
     }
 
     /// The name's entry: the last value that it was given. A name with no value is absent.
@@ -56,6 +68,7 @@ impl Table {
     /// The values that the name was given, the oldest first.
     pub fn history<L: Ledger>(&self, name: &[u8], steps: &mut Steps<L>) -> &[Item]
         ensures items { result.now ≡ names_in self.now name.now }
+        ensures measured { AllByRecursion IsMeasuredItem result.now }
         ensures cost { steps.new ≡ steps.old + 1 }
     {
         steps.tick();
@@ -102,7 +115,7 @@ impl Table {
         }
     }
 
-    /// Gives the name a value more, which takes one of the places in its room, and no memory.
+    /// Gives the name a value more, which takes one of the places in its room.
     pub fn push<L: Ledger>(&mut self, name: &[u8], item: Item, steps: &mut Steps<L>)
         requires placed { name_places self.old name.now ≡ true }
         requires room { 1 ≤ room_in self.old name.now }
@@ -113,6 +126,7 @@ impl Table {
         ensures cost { steps.new ≡ steps.old + 1 }
     {
         steps.tick();
+        read_widths(&item);
         match self.places.get_mut(name) {
             Some(history) => history.push(item),
             None => unreachable!(),
@@ -134,7 +148,6 @@ impl Table {
     }
 
     /// The i-th of the names that have a place, counted from 0, or None exactly past the end: a walk meets each name once.
-    /// The order is open.
     pub fn name_at<L: Ledger>(&self, i: usize, steps: &mut Steps<L>) -> Option<&[u8]>
         ensures name { option_copied result ≡ slice_get (keys_of self.now) i }
         ensures placed { IfSome result (λ name. name_places self.now name.now ≡ true) }
@@ -149,7 +162,8 @@ impl Table {
     }
 
     fn held(&self, name: &[u8]) -> &[Item]
-        ensures { result.now ≡ names_in self.now name.now }
+        ensures items { result.now ≡ names_in self.now name.now }
+        ensures measured { AllByRecursion IsMeasuredItem result.now }
     {
         match self.places.get(name) {
             Some(history) => history.as_slice(),

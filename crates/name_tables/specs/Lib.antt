@@ -1,4 +1,5 @@
 pub mod Tables
+pub mod Parts
 pub mod Queueing
 pub mod Moving
 pub mod MovingSteps

@@ -1,7 +1,12 @@
 -- What tables hold, and which places they have.
 use Rattle.std.specs.Prelude.{◌≡◌, []}
+use Rattle.chain_names.specs.Coins.{Maps}
 use Rattle.chain_names.specs.Tables.{coins_in, names_in, queued_in, AreCoinsFilled, AreNamesFilled, IsQueueFilled}
 use Rattle.name_tables.specs.declared.tables.Tables.{Tables}
+
+-- what the tables say of coins and names
+abbrev pub maps_by : Tables → Maps
+maps_by t = record { coins = coins_in t.coins; names = names_in t.names }
 
 -- the tables hold the same
 pub record HoldSame (old new : Tables) : Type 0 where

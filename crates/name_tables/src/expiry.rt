@@ -24,7 +24,7 @@ impl Tables {
     ) -> Result<Vec<OutPoint>, NoMemory>
         ensures points { IfOk result (λ points. points.items ≡ row_points self.now.queue row) }
         ensures distinct { IfOk result (λ points. IsDistinct same_point points.items) }
-        ensures cost { IfOk result (λ points. steps.new ≤ steps.old + 1 + length points.items) }
+        ensures cost { steps.new ≤ steps.old + 1 + length (row_points self.now.queue row) }
     {
         let mut points = Vec::new(alloc);
         for i in 0..self.queue.row_len(row, steps) {
@@ -74,15 +74,15 @@ impl Tables {
         ensures rising { IfOk result (λ points. IsStrictlySortedBy outpoint_cmp points.items) }
         ensures count { IfOk result (λ points. length points.items ≡ length (row_points self.now.queue row)) }
         ensures distinct { IfOk result (λ points. IsDistinct same_point (row_points self.now.queue row)) }
-        ensures cost { IfOk result (λ points. steps.new ≤ steps.old + 1 + length points.items) }
+        ensures cost { steps.new ≤ steps.old + 1 + length (row_points self.now.queue row) }
     {
         let mut points = self.row_points(alloc, row, steps)?;
         points.sort()?;
         Ok(points)
     }
 
-    /// Takes the coins that are due, those of a row, off the tables, in the order of their outpoints. All memory is taken
-    /// first: where it runs out, nothing is done.
+    /// Takes the coins that are due, those of a row, off the tables, in the order of their outpoints. Where memory runs
+    /// out, nothing is done.
     pub fn expire<L: Ledger>(
         &mut self,
         alloc: Global,
@@ -94,6 +94,7 @@ impl Tables {
         ensures err { OnErr result (self.new ≡ self.old) }
         ensures distinct { IfOk result (λ expired. IsDistinct same_point (row_points self.old.queue row)) }
         ensures cost { IfOk result (λ expired. steps.new ≤ steps.old + 1 + 2 * length (row_points self.old.queue row) + 2 * length expired.items) }
+        ensures err_cost { OnErr result (steps.new ≤ steps.old + 1 + length (row_points self.old.queue row)) }
     {
         let points = self.due_points(alloc, row, steps)?;
         let mut expired = RoomyList::new(alloc);

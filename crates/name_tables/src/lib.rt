@@ -4,8 +4,10 @@
 mod clearing;
 mod expiry;
 mod moving;
+mod parts;
 mod placing;
 mod tables;
 
-pub use moving::Shift;
+pub use moving::{Move, Shift};
+pub use parts::Parts;
 pub use tables::Tables;

@@ -128,6 +128,8 @@ impl Tables {
         ensures ok { IfOk result (λ empty. HasRoom self.old self.new ops.now expired.now empty) }
         ensures err { OnErr result (HoldSame self.old self.new × AreFilled self.new) }
         ensures cost { OnOk result (steps.new ≤ steps.old + 2 * length ops.now + 2 * length expired.now) }
+        // Giving the places up counts too.
+        ensures err_cost { OnErr result (steps.new ≤ steps.old + 4 * length ops.now + 4 * length expired.now) }
     {
         let mut empty = RoomyList::new(alloc);
         let room = ops.len().checked_add(1).ok_or(NoMemory)?;

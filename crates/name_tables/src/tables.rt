@@ -2,9 +2,10 @@ ghost use Rattle.std.specs.Prelude.{◌≡◌, ℕ, ◌+◌, ◌≤◌, true, fa
 ghost use Rattle.std.specs.Prelude.{Option};
 ghost use Rattle.nmc_base.specs.declared.hashes.OutPoint.{OutPoint};
 ghost use Rattle.chain_names.specs.declared.coin.Coin.{Coin};
+ghost use Rattle.chain_names.specs.Measured.{AreMeasured};
 ghost use Rattle.chain_names.specs.Points.{same_point, changed};
 ghost use Rattle.chain_names.specs.Tables.{coins_in, coin_places, queued_in, queue_places, queue_of, is_named_at};
-ghost use Rattle.name_tables.specs.Tables.{AreEmpty};
+ghost use Rattle.name_tables.specs.Tables.{AreEmpty, maps_by};
 ghost use Rattle.name_tables.specs.Queueing.{IsTaken, TakesCoin, PutsCoin};
 
 use chain_names::Coin;
@@ -33,6 +34,14 @@ impl Tables {
             names: Table::new(alloc)?,
             queue: Queue::new(alloc)?,
         })
+    }
+
+    /// Each coin, its outpoint, and each item of each history are as wide as their fields.
+    pub fn widths(&self)
+        ensures { AreMeasured (maps_by self.now) }
+    {
+        self.coins.widths();
+        self.names.widths();
     }
 
     /// Takes a coin's name out of the queue, where it is a name's. The coin itself was taken already.

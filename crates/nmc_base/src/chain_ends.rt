@@ -1,6 +1,6 @@
-ghost use Rattle.std.specs.Prelude.{◌≡◌, suc, ◌≤◌};
+ghost use Rattle.std.specs.Prelude.{◌≡◌, ◌↔◌, ℕ, suc, ◌≤◌, Some};
 ghost use Rattle.nmc_base.specs.Heights.{highest};
-ghost use Rattle.nmc_base.specs.Expiry.{expiry_depth, is_expired, least_amount};
+ghost use Rattle.nmc_base.specs.Expiry.{Expires, due_height, expiry_depth, is_expired, least_amount};
 
 use crate::hashes::Hash32;
 
@@ -40,6 +40,28 @@ impl Profile {
         ensures { result ≡ is_expired self made height }
     {
         made + self.depth(height) <= height
+    }
+
+    /// The height whose names expire at this height: those last changed there are expired at it, and weren't one block
+    /// before. None where there is no such height.
+    pub fn due(self, height: u32) -> Option<u32>
+        requires { height ≤ suc highest }
+        ensures due { result ≡ due_height self height }
+        // Just the names last changed there expire.
+        ensures just { (made : ℕ) → (result ≡ Some made) ↔ Expires self made height }
+    {
+        match self {
+            Profile::Regtest => height.checked_sub(30),
+            Profile::Main => {
+                if height <= 24_000 {
+                    height.checked_sub(12_000)
+                } else if height <= 48_000 {
+                    None
+                } else {
+                    Some(height - 36_000)
+                }
+            }
+        }
     }
 
     /// The least amount of an output that holds a name, in units of which a coin has 100,000,000.

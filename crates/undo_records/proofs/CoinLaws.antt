@@ -13,7 +13,7 @@ use Rattle.block_grammar.proofs.ReaderLaws.{ok_is, ok_err, pair_text, PairFits, 
 use Rattle.undo_records.specs.declared.fault.FaultKind.TheVariants.{Unsorted}
 use Rattle.undo_records.specs.Reading.{Reads, point_from, named_coin_from, is_less, is_after, later_point_from, held_from, coins_from}
 use Rattle.undo_records.specs.Text.{point_text, coin_text, held_text}
-use Rattle.chain_names.specs.Writable.{FitsPoint, FitsNamedCoin, FitsHeld, IsAfter, AreAscending}
+use Rattle.chain_names.specs.Writable.{IsWritablePoint, IsWritableNamed, IsWritableHeld, IsAfter, AreAscending}
 use Rattle.undo_records.specs.Faults.{last_point}
 use Rattle.undo_records.proofs.Laws.{Spot, Flaw, NoFlaw, Core, Ends, PairFlaw, in_first, in_second, then_core, then_ends, map_core, map_ends, said_core, TagFlaw, ManyFlaw, many_core, many_ends}
 use Rattle.undo_records.proofs.Choices.{CheckFlaw, Passes, checked_core}
@@ -39,17 +39,17 @@ is_after_at None point fits = refl
 is_after_at (Some before) point fits = is_less_at (outpoint_cmp before point) fits
 
 abbrev pub LaterFits : Option OutPoint → OutPoint → Type 0
-LaterFits last point = FitsPoint point × IsAfter last point
+LaterFits last point = IsWritablePoint point × IsAfter last point
 
 abbrev pub LaterFlaw : Option OutPoint → Flaw
-LaterFlaw last = CheckFlaw point_text FitsPoint Unsorted (is_after last)
+LaterFlaw last = CheckFlaw point_text IsWritablePoint Unsorted (is_after last)
 
 later_core : (last : Option OutPoint) → Core point_text (LaterFits last) (LaterFlaw last) (later_point_from last)
 unfolding later_point_from
 later_core last =
-    said_core point_text point_text (Passes FitsPoint (is_after last)) (LaterFits last) (later_point_from last) (later_point_from last) (λ bytes. refl) (λ x fits. refl)
+    said_core point_text point_text (Passes IsWritablePoint (is_after last)) (LaterFits last) (later_point_from last) (later_point_from last) (λ bytes. refl) (λ x fits. refl)
     (λ x fits. (fits.0, after_is last x fits.1)) (λ x fits. (fits.0, is_after_at last x fits.1)) (LaterFlaw last) (LaterFlaw last) (λ bytes e f. f) (λ bytes e f. f)
-    (checked_core point_text FitsPoint point_from Unsorted (is_after last) point_core)
+    (checked_core point_text IsWritablePoint point_from Unsorted (is_after last) point_core)
 
 abbrev pub CoinFlaw : Flaw
 CoinFlaw = TagFlaw (IsOtherAt (2 ∷ []))
@@ -58,38 +58,38 @@ abbrev pub HeldFlaw : Option OutPoint → Flaw
 HeldFlaw last = PairFlaw point_text (LaterFits last) (LaterFlaw last) (λ _. CoinFlaw)
 
 abbrev pub HeldFits : Option OutPoint → HeldCoin → Type 0
-HeldFits last held = FitsHeld held × IsAfter last held.at
+HeldFits last held = IsWritableHeld held × IsAfter last held.at
 
 held_core : (last : Option OutPoint) → Core held_text (HeldFits last) (HeldFlaw last) (held_from last)
 unfolding held_text held_from
 held_core last =
-    map_core (λ x. record { at = x.0; coin = x.1 }) (λ (h : HeldCoin). (h.at, h.coin)) (pair_text point_text (λ _. coin_text)) (PairFits (LaterFits last) (λ _. FitsNamedCoin))
+    map_core (λ x. record { at = x.0; coin = x.1 }) (λ (h : HeldCoin). (h.at, h.coin)) (pair_text point_text (λ _. coin_text)) (PairFits (LaterFits last) (λ _. IsWritableNamed))
     (then_from (later_point_from last) (λ _. named_coin_from)) held_text (HeldFits last)
     (λ h fits. refl) (λ x fits. refl) (λ x fits. (record { at = fits.0.0; coin = fits.1 }, fits.0.1)) (λ h fits. ((fits.0.at, fits.1), fits.0.coin)) (HeldFlaw last)
-    (then_core point_text (LaterFits last) (LaterFlaw last) (later_point_from last) (λ _. coin_text) (λ _. FitsNamedCoin) (λ _. CoinFlaw) (λ _. named_coin_from) (later_core last) (λ _ _. named_coin_core))
+    (then_core point_text (LaterFits last) (LaterFlaw last) (later_point_from last) (λ _. coin_text) (λ _. IsWritableNamed) (λ _. CoinFlaw) (λ _. named_coin_from) (later_core last) (λ _ _. named_coin_core))
 
 -- the same, whatever the order
 pub loose_held_from : Reads HeldCoin
 loose_held_from = map_from (λ x. record { at = x.0; coin = x.1 }) (then_from point_from (λ _. named_coin_from))
 
 abbrev pub LooseFlaw : Flaw
-LooseFlaw = PairFlaw point_text FitsPoint NoFlaw (λ _. CoinFlaw)
+LooseFlaw = PairFlaw point_text IsWritablePoint NoFlaw (λ _. CoinFlaw)
 
-loose_held_core : Core held_text FitsHeld LooseFlaw loose_held_from
+loose_held_core : Core held_text IsWritableHeld LooseFlaw loose_held_from
 unfolding held_text loose_held_from
 loose_held_core =
-    map_core (λ x. record { at = x.0; coin = x.1 }) (λ (h : HeldCoin). (h.at, h.coin)) (pair_text point_text (λ _. coin_text)) (PairFits FitsPoint (λ _. FitsNamedCoin))
-    (then_from point_from (λ _. named_coin_from)) held_text FitsHeld
+    map_core (λ x. record { at = x.0; coin = x.1 }) (λ (h : HeldCoin). (h.at, h.coin)) (pair_text point_text (λ _. coin_text)) (PairFits IsWritablePoint (λ _. IsWritableNamed))
+    (then_from point_from (λ _. named_coin_from)) held_text IsWritableHeld
     (λ h fits. refl) (λ x fits. refl) (λ x fits. record { at = fits.0; coin = fits.1 }) (λ h fits. (fits.at, fits.coin)) LooseFlaw
-    (then_core point_text FitsPoint NoFlaw point_from (λ _. coin_text) (λ _. FitsNamedCoin) (λ _. CoinFlaw) (λ _. named_coin_from) point_core (λ _ _. named_coin_core))
+    (then_core point_text IsWritablePoint NoFlaw point_from (λ _. coin_text) (λ _. IsWritableNamed) (λ _. CoinFlaw) (λ _. named_coin_from) point_core (λ _ _. named_coin_core))
 
-loose_held_ends : Ends held_text FitsHeld loose_held_from
+loose_held_ends : Ends held_text IsWritableHeld loose_held_from
 unfolding held_text loose_held_from
 loose_held_ends =
-    map_ends (λ x. record { at = x.0; coin = x.1 }) (λ (h : HeldCoin). (h.at, h.coin)) (pair_text point_text (λ _. coin_text)) (PairFits FitsPoint (λ _. FitsNamedCoin))
-    (then_from point_from (λ _. named_coin_from)) held_text FitsHeld
+    map_ends (λ x. record { at = x.0; coin = x.1 }) (λ (h : HeldCoin). (h.at, h.coin)) (pair_text point_text (λ _. coin_text)) (PairFits IsWritablePoint (λ _. IsWritableNamed))
+    (then_from point_from (λ _. named_coin_from)) held_text IsWritableHeld
     (λ h fits. refl) (λ x fits. refl) (λ x fits. record { at = fits.0; coin = fits.1 }) (λ h fits. (fits.at, fits.coin))
-    (then_ends point_text FitsPoint NoFlaw point_from (λ _. coin_text) (λ _. FitsNamedCoin) (λ _. CoinFlaw) (λ _. named_coin_from) point_core point_ends (λ _ _. named_coin_ends))
+    (then_ends point_text IsWritablePoint NoFlaw point_from (λ _. coin_text) (λ _. IsWritableNamed) (λ _. CoinFlaw) (λ _. named_coin_from) point_core point_ends (λ _ _. named_coin_ends))
 
 -- ---- many coins, in order
 
@@ -108,7 +108,7 @@ last_is (held ∷ more) = last_of_some held more
 
 pub record CoinsFlaw (last : Option OutPoint) (n : ℕ) (bytes : List ℕ) (e : Spot) : Type 0 where
   pub before : List HeldCoin
-  pub fits : AllByRecursion FitsHeld before
+  pub fits : AllByRecursion IsWritableHeld before
   pub in_order : AreAscending last before
   pub fewer : length before < n
   pub inner : List ℕ
@@ -116,7 +116,7 @@ pub record CoinsFlaw (last : Option OutPoint) (n : ℕ) (bytes : List ℕ) (e : 
   pub flaw : HeldFlaw (last_after last before) inner e
 
 abbrev pub CoinsFit : Option OutPoint → ℕ → List HeldCoin → Type 0
-CoinsFit last n coins = (length coins ≡ n) × (AllByRecursion FitsHeld coins × AreAscending last coins)
+CoinsFit last n coins = (length coins ≡ n) × (AllByRecursion IsWritableHeld coins × AreAscending last coins)
 
 abbrev TailFlaw : ℕ → HeldCoin → Flaw
 TailFlaw n held = CoinsFlaw (Some held.at) n
@@ -139,7 +139,7 @@ coins_to last n bytes e (in_second held mid fits parts f) = record {
 coins_of : (last : Option OutPoint) (n : ℕ) (bytes : List ℕ) (e : Spot) → CoinsFlaw last (suc n) bytes e → PairFlaw held_text (HeldFits last) (HeldFlaw last) (TailFlaw n) bytes e
 coins_of last n bytes e f = go f.before f.fits f.in_order f.fewer f.inner f.parts f.flaw
   where
-    go : (before : List HeldCoin) → AllByRecursion FitsHeld before → AreAscending last before → length before < suc n → (inner : List ℕ) → bytes ≡ flat_map held_text before ++ inner
+    go : (before : List HeldCoin) → AllByRecursion IsWritableHeld before → AreAscending last before → length before < suc n → (inner : List ℕ) → bytes ≡ flat_map held_text before ++ inner
         → HeldFlaw (last_after last before) inner e → PairFlaw held_text (HeldFits last) (HeldFlaw last) (TailFlaw n) bytes e
     go [] fits in_order fewer inner parts flaw = in_first (subst (λ (t : List ℕ). HeldFlaw last t e) (sym parts) flaw)
     go (held ∷ more) fits in_order fewer inner parts flaw =
@@ -189,11 +189,11 @@ coins_core last (suc n) =
     (held_core last) (λ held _. coins_core (Some held.at) n)))
 
 -- whatever the order
-pub loose_coins_core : (n : ℕ) → Core (flat_map held_text) (ManyFit FitsHeld n) (ManyFlaw held_text FitsHeld LooseFlaw n) (many_from loose_held_from n)
-loose_coins_core = many_core held_text FitsHeld loose_held_from sample_coin LooseFlaw loose_held_core
+pub loose_coins_core : (n : ℕ) → Core (flat_map held_text) (ManyFit IsWritableHeld n) (ManyFlaw held_text IsWritableHeld LooseFlaw n) (many_from loose_held_from n)
+loose_coins_core = many_core held_text IsWritableHeld loose_held_from sample_coin LooseFlaw loose_held_core
 
-pub loose_coins_ends : (n : ℕ) → Ends (flat_map held_text) (ManyFit FitsHeld n) (many_from loose_held_from n)
-loose_coins_ends = many_ends held_text FitsHeld loose_held_from sample_coin LooseFlaw loose_held_core loose_held_ends
+pub loose_coins_ends : (n : ℕ) → Ends (flat_map held_text) (ManyFit IsWritableHeld n) (many_from loose_held_from n)
+loose_coins_ends = many_ends held_text IsWritableHeld loose_held_from sample_coin LooseFlaw loose_held_core loose_held_ends
 
 -- ---- the same answers, where nothing is out of order
 

@@ -13,7 +13,7 @@ use Rattle.block_grammar.proofs.FieldLaws.{itself, HasLength, IsBelow, zeros, le
 use Rattle.undo_records.specs.declared.fault.FaultKind.TheVariants.{BadTag}
 use Rattle.undo_records.specs.Reading.{Reads, number_from, piece_from, tagged_from, byte_from, name_from, checked_from, value_length_from, value_from, point_from}
 use Rattle.undo_records.specs.Text.{point_text, name_text}
-use Rattle.chain_names.specs.Writable.{FitsPoint, FitsName}
+use Rattle.chain_names.specs.Writable.{IsWritablePoint, IsWritableName}
 use Rattle.undo_records.specs.Faults.{IsProperFront, IsOther, IsLongLength}
 use Rattle.undo_records.proofs.Laws.{Spot, ended, Flaw, NoFlaw, Core, Ends, PairFlaw, in_first, in_second, then_core, then_ends, map_core, map_ends, said_core, said_ends, flaw_core, TagFlaw}
 use Rattle.undo_records.proofs.Choices.{no_cut, choice_from, ChoiceFlaw, unknown, behind_tag, choice_core, choice_ends, CheckFlaw, Passes, checked_core}
@@ -175,19 +175,19 @@ pub no_pair : {A : Type 0} (text1 : A → List ℕ) (Fits1 : A → Type 0) (byte
 no_pair text1 Fits1 bytes e (in_first f) = f
 no_pair text1 Fits1 bytes e (in_second x mid fits parts f) = f
 
-pub name_core : Core name_text FitsName NoFlaw name_from
+pub name_core : Core name_text IsWritableName NoFlaw name_from
 unfolding byte_text name_from
 name_core =
-    map_core (λ (x : ℕ × List ℕ). x.1) of_name (pair_text byte_text (λ _. itself)) (PairFits (IsBelow 256) HasLength) (then_from byte_from piece_from) name_text FitsName
+    map_core (λ (x : ℕ × List ℕ). x.1) of_name (pair_text byte_text (λ _. itself)) (PairFits (IsBelow 256) HasLength) (then_from byte_from piece_from) name_text IsWritableName
     (λ name fits. refl) (λ x fits. rw fits.1 refl) (λ x fits. omega (arith, fits.0, fits.1)) (λ name fits. (omega (arith, fits), refl)) NoFlaw
     (flaw_core (pair_text byte_text (λ _. itself)) (PairFits (IsBelow 256) HasLength) (PairFlaw byte_text (IsBelow 256) NoFlaw (λ _. NoFlaw)) NoFlaw (then_from byte_from piece_from)
     (no_pair byte_text (IsBelow 256)) (λ bytes e f. absurd f)
     (then_core byte_text (IsBelow 256) NoFlaw byte_from (λ _. itself) HasLength (λ _. NoFlaw) piece_from byte_core (λ n _. piece_core n)))
 
-pub name_ends : Ends name_text FitsName name_from
+pub name_ends : Ends name_text IsWritableName name_from
 unfolding byte_text name_from
 name_ends =
-    map_ends (λ (x : ℕ × List ℕ). x.1) of_name (pair_text byte_text (λ _. itself)) (PairFits (IsBelow 256) HasLength) (then_from byte_from piece_from) name_text FitsName
+    map_ends (λ (x : ℕ × List ℕ). x.1) of_name (pair_text byte_text (λ _. itself)) (PairFits (IsBelow 256) HasLength) (then_from byte_from piece_from) name_text IsWritableName
     (λ name fits. refl) (λ x fits. rw fits.1 refl) (λ x fits. omega (arith, fits.0, fits.1)) (λ name fits. (omega (arith, fits), refl))
     (then_ends byte_text (IsBelow 256) NoFlaw byte_from (λ _. itself) HasLength (λ _. NoFlaw) piece_from byte_core byte_ends (λ n _. piece_ends n))
 
@@ -305,19 +305,19 @@ of_point point = (point.txid.0, point.index)
 abbrev point_of : List ℕ × ℕ → OutPoint
 point_of x = record { txid = record { 0 = x.0 }; index = x.1 }
 
-pub point_core : Core point_text FitsPoint NoFlaw point_from
+pub point_core : Core point_text IsWritablePoint NoFlaw point_from
 unfolding point_text point_from
 point_core =
-    map_core point_of of_point (pair_text itself (λ _. to_le_bytes w32)) (PairFits (HasLength 32) (λ _. IsBelow (2 ^ 32))) (then_from (piece_from 32) (λ _. number_from w32)) point_text FitsPoint
+    map_core point_of of_point (pair_text itself (λ _. to_le_bytes w32)) (PairFits (HasLength 32) (λ _. IsBelow (2 ^ 32))) (then_from (piece_from 32) (λ _. number_from w32)) point_text IsWritablePoint
     (λ point fits. refl) (λ x fits. refl) (λ x fits. record { txid = fits.0; index = fits.1 }) (λ point fits. (fits.txid, fits.index)) NoFlaw
     (flaw_core (pair_text itself (λ _. to_le_bytes w32)) (PairFits (HasLength 32) (λ _. IsBelow (2 ^ 32))) (PairFlaw itself (HasLength 32) NoFlaw (λ _. NoFlaw)) NoFlaw
     (then_from (piece_from 32) (λ _. number_from w32)) (no_pair itself (HasLength 32)) (λ bytes e f. absurd f)
     (then_core itself (HasLength 32) NoFlaw (piece_from 32) (λ _. to_le_bytes w32) (λ _. IsBelow (2 ^ 32)) (λ _. NoFlaw) (λ _. number_from w32) (piece_core 32) (λ _ _. core32)))
 
-pub point_ends : Ends point_text FitsPoint point_from
+pub point_ends : Ends point_text IsWritablePoint point_from
 unfolding point_text point_from
 point_ends =
-    map_ends point_of of_point (pair_text itself (λ _. to_le_bytes w32)) (PairFits (HasLength 32) (λ _. IsBelow (2 ^ 32))) (then_from (piece_from 32) (λ _. number_from w32)) point_text FitsPoint
+    map_ends point_of of_point (pair_text itself (λ _. to_le_bytes w32)) (PairFits (HasLength 32) (λ _. IsBelow (2 ^ 32))) (then_from (piece_from 32) (λ _. number_from w32)) point_text IsWritablePoint
     (λ point fits. refl) (λ x fits. refl) (λ x fits. record { txid = fits.0; index = fits.1 }) (λ point fits. (fits.txid, fits.index))
     (then_ends itself (HasLength 32) NoFlaw (piece_from 32) (λ _. to_le_bytes w32) (λ _. IsBelow (2 ^ 32)) (λ _. NoFlaw) (λ _. number_from w32) (piece_core 32) (piece_ends 32) (λ _ _. ends32))
 

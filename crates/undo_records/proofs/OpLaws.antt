@@ -10,7 +10,7 @@ use Rattle.block_grammar.specs.Combinators.{then_from, map_from}
 use Rattle.block_grammar.proofs.ReaderLaws.{pair_text, PairFits}
 use Rattle.undo_records.specs.declared.fault.FaultKind.TheVariants.{BadTag}
 use Rattle.undo_records.specs.Reading.{Reads, name_from, point_from, new_coin_from, named_coin_from, before_from, change_from, first_of, update_of, op_from}
-use Rattle.chain_names.specs.Writable.{Change, change_of, FitsPoint, FitsName, FitsNewCoin, FitsNamedCoin, FitsBefore, FitsChange, FitsOp}
+use Rattle.chain_names.specs.Writable.{Change, change_of, IsWritablePoint, IsWritableName, IsWritableNew, IsWritableNamed, IsWritableBefore, IsWritableChange, IsWritableOp}
 use Rattle.undo_records.specs.Text.{point_text, name_text, coin_text, before_text, change_text, op_text}
 use Rattle.undo_records.specs.Faults.{IsOther, IsBadBefore, IsBadChange, other_coin, bad_before, IsBadOperation, other_tag, in_first as in_first_op, in_update}
 use Rattle.undo_records.proofs.Laws.{Spot, Flaw, NoFlaw, Core, Ends, PairFlaw, in_first, in_second, then_core, then_ends, map_core, map_ends, said_core, said_ends, flaw_core, TagFlaw}
@@ -34,21 +34,21 @@ module _ (coin_tag : ℕ) (FitsCoin : Coin → Type 0) (coin_from : Reads Coin) 
   text1 = pair_text name_text (λ _. before_text)
 
   Fits1 : Tail1 → Type 0
-  Fits1 = PairFits FitsName (λ _. FitsBefore)
+  Fits1 = PairFits IsWritableName (λ _. IsWritableBefore)
 
   Flaw1 : Flaw
-  Flaw1 = PairFlaw name_text FitsName NoFlaw (λ _. TagFlaw IsBadBefore)
+  Flaw1 = PairFlaw name_text IsWritableName NoFlaw (λ _. TagFlaw IsBadBefore)
 
   read1 : Reads Tail1
   read1 = then_from name_from (λ _. before_from)
 
   core1 : Core text1 Fits1 Flaw1 read1
   unfolding text1 Fits1 Flaw1 read1
-  core1 = then_core name_text FitsName NoFlaw name_from (λ _. before_text) (λ _. FitsBefore) (λ _. TagFlaw IsBadBefore) (λ _. before_from) name_core (λ _ _. before_core)
+  core1 = then_core name_text IsWritableName NoFlaw name_from (λ _. before_text) (λ _. IsWritableBefore) (λ _. TagFlaw IsBadBefore) (λ _. before_from) name_core (λ _ _. before_core)
 
   ends1 : Ends text1 Fits1 read1
   unfolding text1 Fits1 read1
-  ends1 = then_ends name_text FitsName NoFlaw name_from (λ _. before_text) (λ _. FitsBefore) (λ _. TagFlaw IsBadBefore) (λ _. before_from) name_core name_ends (λ _ _. before_ends)
+  ends1 = then_ends name_text IsWritableName NoFlaw name_from (λ _. before_text) (λ _. IsWritableBefore) (λ _. TagFlaw IsBadBefore) (λ _. before_from) name_core name_ends (λ _ _. before_ends)
 
   text2 : Tail2 → List ℕ
   text2 = pair_text coin_text (λ _. text1)
@@ -74,24 +74,24 @@ module _ (coin_tag : ℕ) (FitsCoin : Coin → Type 0) (coin_from : Reads Coin) 
   text3 = pair_text point_text (λ _. text2)
 
   Fits3 : Tail3 → Type 0
-  Fits3 = PairFits FitsPoint (λ _. Fits2)
+  Fits3 = PairFits IsWritablePoint (λ _. Fits2)
 
   Flaw3 : Flaw
-  Flaw3 = PairFlaw point_text FitsPoint NoFlaw (λ _. Flaw2)
+  Flaw3 = PairFlaw point_text IsWritablePoint NoFlaw (λ _. Flaw2)
 
   read3 : Reads Tail3
   read3 = then_from point_from (λ _. read2)
 
   core3 : Core text3 Fits3 Flaw3 read3
   unfolding text3 Fits3 Flaw3 read3
-  core3 = then_core point_text FitsPoint NoFlaw point_from (λ _. text2) (λ _. Fits2) (λ _. Flaw2) (λ _. read2) point_core (λ _ _. core2)
+  core3 = then_core point_text IsWritablePoint NoFlaw point_from (λ _. text2) (λ _. Fits2) (λ _. Flaw2) (λ _. read2) point_core (λ _ _. core2)
 
   ends3 : Ends text3 Fits3 read3
   unfolding text3 Fits3 read3
-  ends3 = then_ends point_text FitsPoint NoFlaw point_from (λ _. text2) (λ _. Fits2) (λ _. Flaw2) (λ _. read2) point_core point_ends (λ _ _. ends2)
+  ends3 = then_ends point_text IsWritablePoint NoFlaw point_from (λ _. text2) (λ _. Fits2) (λ _. Flaw2) (λ _. read2) point_core point_ends (λ _ _. ends2)
 
   Flaw4 : Flaw
-  Flaw4 = PairFlaw point_text FitsPoint NoFlaw (λ _. Flaw3)
+  Flaw4 = PairFlaw point_text IsWritablePoint NoFlaw (λ _. Flaw3)
 
   change_to : (bytes : List ℕ) (e : Spot) → Flaw4 bytes e → TagFlaw (IsBadChange coin_tag FitsCoin) bytes e
   unfolding Flaw1 Flaw2 Flaw3 Flaw4
@@ -132,52 +132,52 @@ module _ (coin_tag : ℕ) (FitsCoin : Coin → Type 0) (coin_from : Reads Coin) 
   abbrev of_change : Change → OutPoint × Tail3
   of_change c = (c.made, (c.spent, (c.coin, (c.name, c.before))))
 
-  change_fits : (x : OutPoint × Tail3) → PairFits FitsPoint (λ _. Fits3) x → FitsChange FitsCoin (made_of x)
+  change_fits : (x : OutPoint × Tail3) → PairFits IsWritablePoint (λ _. Fits3) x → IsWritableChange FitsCoin (made_of x)
   unfolding Fits1 Fits2 Fits3
   change_fits x fits = record { made = fits.0; spent = fits.1.0; coin = fits.1.1.0; name = fits.1.1.1.0; before = fits.1.1.1.1 }
 
-  parts_fit : (c : Change) → FitsChange FitsCoin c → PairFits FitsPoint (λ _. Fits3) (of_change c)
+  parts_fit : (c : Change) → IsWritableChange FitsCoin c → PairFits IsWritablePoint (λ _. Fits3) (of_change c)
   unfolding Fits1 Fits2 Fits3
   parts_fit c fits = (fits.made, (fits.spent, (fits.coin, (fits.name, fits.before))))
 
-  pub change_core : Core change_text (FitsChange FitsCoin) (TagFlaw (IsBadChange coin_tag FitsCoin)) (change_from coin_from)
+  pub change_core : Core change_text (IsWritableChange FitsCoin) (TagFlaw (IsBadChange coin_tag FitsCoin)) (change_from coin_from)
   unfolding text1 text2 text3 read1 read2 read3 Flaw4 change_text change_from
   change_core =
-      map_core made_of of_change (pair_text point_text (λ _. text3)) (PairFits FitsPoint (λ _. Fits3)) (then_from point_from (λ _. read3)) change_text (FitsChange FitsCoin)
+      map_core made_of of_change (pair_text point_text (λ _. text3)) (PairFits IsWritablePoint (λ _. Fits3)) (then_from point_from (λ _. read3)) change_text (IsWritableChange FitsCoin)
       (λ c fits. refl) (λ x fits. refl) change_fits parts_fit (TagFlaw (IsBadChange coin_tag FitsCoin))
-      (flaw_core (pair_text point_text (λ _. text3)) (PairFits FitsPoint (λ _. Fits3)) Flaw4 (TagFlaw (IsBadChange coin_tag FitsCoin)) (then_from point_from (λ _. read3)) change_to change_of_flaw
-      (then_core point_text FitsPoint NoFlaw point_from (λ _. text3) (λ _. Fits3) (λ _. Flaw3) (λ _. read3) point_core (λ _ _. core3)))
+      (flaw_core (pair_text point_text (λ _. text3)) (PairFits IsWritablePoint (λ _. Fits3)) Flaw4 (TagFlaw (IsBadChange coin_tag FitsCoin)) (then_from point_from (λ _. read3)) change_to change_of_flaw
+      (then_core point_text IsWritablePoint NoFlaw point_from (λ _. text3) (λ _. Fits3) (λ _. Flaw3) (λ _. read3) point_core (λ _ _. core3)))
 
-  pub change_ends : Ends change_text (FitsChange FitsCoin) (change_from coin_from)
+  pub change_ends : Ends change_text (IsWritableChange FitsCoin) (change_from coin_from)
   unfolding text1 text2 text3 read1 read2 read3 change_text change_from
   change_ends =
-      map_ends made_of of_change (pair_text point_text (λ _. text3)) (PairFits FitsPoint (λ _. Fits3)) (then_from point_from (λ _. read3)) change_text (FitsChange FitsCoin)
+      map_ends made_of of_change (pair_text point_text (λ _. text3)) (PairFits IsWritablePoint (λ _. Fits3)) (then_from point_from (λ _. read3)) change_text (IsWritableChange FitsCoin)
       (λ c fits. refl) (λ x fits. refl) change_fits parts_fit
-      (then_ends point_text FitsPoint NoFlaw point_from (λ _. text3) (λ _. Fits3) (λ _. Flaw3) (λ _. read3) point_core point_ends (λ _ _. ends3))
+      (then_ends point_text IsWritablePoint NoFlaw point_from (λ _. text3) (λ _. Fits3) (λ _. Flaw3) (λ _. read3) point_core point_ends (λ _ _. ends3))
 
 abbrev FirstFits : Change → Type 0
-FirstFits = FitsChange FitsNewCoin
+FirstFits = IsWritableChange IsWritableNew
 
 abbrev UpdateFits : Change → Type 0
-UpdateFits = FitsChange FitsNamedCoin
+UpdateFits = IsWritableChange IsWritableNamed
 
 abbrev FirstFlaw : Flaw
-FirstFlaw = TagFlaw (IsBadChange 1 FitsNewCoin)
+FirstFlaw = TagFlaw (IsBadChange 1 IsWritableNew)
 
 abbrev UpdateFlaw : Flaw
-UpdateFlaw = TagFlaw (IsBadChange 2 FitsNamedCoin)
+UpdateFlaw = TagFlaw (IsBadChange 2 IsWritableNamed)
 
 first_core : Core change_text FirstFits FirstFlaw (change_from new_coin_from)
-first_core = change_core 1 FitsNewCoin new_coin_from new_coin_core new_coin_ends
+first_core = change_core 1 IsWritableNew new_coin_from new_coin_core new_coin_ends
 
 first_ends : Ends change_text FirstFits (change_from new_coin_from)
-first_ends = change_ends 1 FitsNewCoin new_coin_from new_coin_core new_coin_ends
+first_ends = change_ends 1 IsWritableNew new_coin_from new_coin_core new_coin_ends
 
 update_core : Core change_text UpdateFits UpdateFlaw (change_from named_coin_from)
-update_core = change_core 2 FitsNamedCoin named_coin_from named_coin_core named_coin_ends
+update_core = change_core 2 IsWritableNamed named_coin_from named_coin_core named_coin_ends
 
 update_ends : Ends change_text UpdateFits (change_from named_coin_from)
-update_ends = change_ends 2 FitsNamedCoin named_coin_from named_coin_core named_coin_ends
+update_ends = change_ends 2 IsWritableNamed named_coin_from named_coin_core named_coin_ends
 
 -- ---- operations
 
@@ -192,7 +192,7 @@ behind_op (First made spent coin name before) = change_text (change_of made spen
 behind_op (Update made spent coin name before) = change_text (change_of made spent coin name before)
 
 abbrev FitsOpAt : ℕ → UndoOp → Type 0
-FitsOpAt = FitsAt op_tag FitsOp
+FitsOpAt = FitsAt op_tag IsWritableOp
 
 made_from : Reads UndoOp
 made_from = map_from (λ point. op_new point) point_from
@@ -225,7 +225,7 @@ made_back (op_new made) fits = refl
 made_back (First made spent coin name before) fits = absurd (omega (arith, fits.0))
 made_back (Update made spent coin name before) fits = absurd (omega (arith, fits.0))
 
-made_fits : (op : UndoOp) → FitsOpAt 0x51 op → FitsPoint (point_in point_ends.sample op)
+made_fits : (op : UndoOp) → FitsOpAt 0x51 op → IsWritablePoint (point_in point_ends.sample op)
 unfolding point_in
 made_fits (op_new made) fits = fits.1
 made_fits (First made spent coin name before) fits = absurd (omega (arith, fits.0))
@@ -239,11 +239,11 @@ made_core : Core behind_op (FitsOpAt 0x51) (OpAt 0x51) made_from
 unfolding behind_op made_from
 made_core =
     flaw_core behind_op (FitsOpAt 0x51) NoFlaw (OpAt 0x51) made_from (λ bytes e f. absurd f) made_none
-    (map_core (λ (point : OutPoint). op_new point) (point_in point_ends.sample) point_text FitsPoint point_from behind_op (FitsOpAt 0x51) made_back (λ x fits. refl) (λ x fits. (refl, fits)) made_fits NoFlaw point_core)
+    (map_core (λ (point : OutPoint). op_new point) (point_in point_ends.sample) point_text IsWritablePoint point_from behind_op (FitsOpAt 0x51) made_back (λ x fits. refl) (λ x fits. (refl, fits)) made_fits NoFlaw point_core)
 
 made_ends : Ends behind_op (FitsOpAt 0x51) made_from
 unfolding behind_op made_from
-made_ends = map_ends (λ (point : OutPoint). op_new point) (point_in point_ends.sample) point_text FitsPoint point_from behind_op (FitsOpAt 0x51) made_back (λ x fits. refl) (λ x fits. (refl, fits)) made_fits point_ends
+made_ends = map_ends (λ (point : OutPoint). op_new point) (point_in point_ends.sample) point_text IsWritablePoint point_from behind_op (FitsOpAt 0x51) made_back (λ x fits. refl) (λ x fits. (refl, fits)) made_fits point_ends
 
 first_back : (op : UndoOp) → FitsOpAt 0x52 op → first_of (change_in first_ends.sample op) ≡ op
 unfolding change_in
@@ -319,7 +319,7 @@ op_cases first read e =
           ]
     ]
 
-op_known : (op : UndoOp) → FitsOp op → (read : Reads UndoOp) × (op_pick (op_tag op) ≡ Some read)
+op_known : (op : UndoOp) → IsWritableOp op → (read : Reads UndoOp) × (op_pick (op_tag op) ≡ Some read)
 unfolding op_pick
 op_known (op_new made) fits = (made_from, refl)
 op_known (First made spent coin name before) fits = (firsts_from, refl)
@@ -372,7 +372,7 @@ op_is (first ∷ rest) =
           ]
     ]
 
-op_spelled : (op : UndoOp) → FitsOp op → op_text op ≡ tagged_text op_tag behind_op op
+op_spelled : (op : UndoOp) → IsWritableOp op → op_text op ≡ tagged_text op_tag behind_op op
 unfolding op_text behind_op
 op_spelled (op_new made) fits = refl
 op_spelled (First made spent coin name before) fits = refl
@@ -415,13 +415,13 @@ op_of bytes e f = go f.rest f.flaw f.is
     go rest (in_first_op change parts bad) is = behind_tag 0x52 change firsts_from parts first_picked (inl (refl, record { rest = rest; flaw = bad; is = is }))
     go rest (in_update change parts bad) is = behind_tag 0x53 change updates_from parts update_picked (inr (refl, record { rest = rest; flaw = bad; is = is }))
 
-pub op_core : Core op_text FitsOp (TagFlaw IsBadOperation) op_from
+pub op_core : Core op_text IsWritableOp (TagFlaw IsBadOperation) op_from
 op_core =
-    said_core (tagged_text op_tag behind_op) op_text FitsOp FitsOp (choice_from op_pick) op_from op_is op_spelled (λ x fits. fits) (λ x fits. fits)
+    said_core (tagged_text op_tag behind_op) op_text IsWritableOp IsWritableOp (choice_from op_pick) op_from op_is op_spelled (λ x fits. fits) (λ x fits. fits)
     (ChoiceFlaw op_pick OpAt) (TagFlaw IsBadOperation) op_to op_of
-    (choice_core op_tag behind_op FitsOp op_pick op_known OpAt op_at)
+    (choice_core op_tag behind_op IsWritableOp op_pick op_known OpAt op_at)
 
-pub op_ends : Ends op_text FitsOp op_from
+pub op_ends : Ends op_text IsWritableOp op_from
 op_ends =
-    said_ends (tagged_text op_tag behind_op) op_text FitsOp FitsOp (choice_from op_pick) op_from op_is op_spelled (λ x fits. fits) (λ x fits. fits)
-    (choice_ends op_tag behind_op FitsOp op_pick op_known op_at_ends (op_new point_ends.sample) point_ends.sample_fits)
+    said_ends (tagged_text op_tag behind_op) op_text IsWritableOp IsWritableOp (choice_from op_pick) op_from op_is op_spelled (λ x fits. fits) (λ x fits. fits)
+    (choice_ends op_tag behind_op IsWritableOp op_pick op_known op_at_ends (op_new point_ends.sample) point_ends.sample_fits)

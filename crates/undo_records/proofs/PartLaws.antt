@@ -14,7 +14,7 @@ use Rattle.block_grammar.proofs.FieldLaws.{itself, HasLength, IsBelow}
 use Rattle.undo_records.specs.declared.fault.FaultKind.TheVariants.{BadTag}
 use Rattle.undo_records.specs.Reading.{Reads, number_from, piece_from, name_from, value_from, point_from, new_coin_from, named_coin_from, item_from, before_from}
 use Rattle.undo_records.specs.Text.{point_text, name_text, coin_text, item_text, before_text}
-use Rattle.chain_names.specs.Writable.{FitsPoint, FitsName, FitsNewCoin, FitsNamedCoin, FitsItem, FitsBefore}
+use Rattle.chain_names.specs.Writable.{IsWritablePoint, IsWritableName, IsWritableNew, IsWritableNamed, IsWritableItem, IsWritableBefore}
 use Rattle.undo_records.specs.Faults.{IsLongLength, IsBadBefore, no_flag, long_value}
 use Rattle.undo_records.proofs.Laws.{Spot, Flaw, NoFlaw, Core, Ends, PairFlaw, in_first, in_second, then_core, then_ends, map_core, map_ends, said_core, said_ends, flaw_core, TagFlaw}
 use Rattle.undo_records.proofs.Choices.{choice_from, ChoiceFlaw, unknown, behind_tag, FitsAt, tagged_text, choice_core, choice_ends}
@@ -34,15 +34,15 @@ abbrev of_new : Coin → ℕ × List ℕ
 of_new (New hash height) = (height, hash.0)
 of_new (Named name height) = (height, name)
 
-new_back : (coin : Coin) → FitsNewCoin coin → new_of (of_new coin) ≡ coin
+new_back : (coin : Coin) → IsWritableNew coin → new_of (of_new coin) ≡ coin
 new_back (New hash height) fits = refl
 new_back (Named name height) fits = absurd fits
 
-new_parts : (coin : Coin) → FitsNewCoin coin → PairFits (IsBelow (2 ^ 32)) (λ _. HasLength 20) (of_new coin)
+new_parts : (coin : Coin) → IsWritableNew coin → PairFits (IsBelow (2 ^ 32)) (λ _. HasLength 20) (of_new coin)
 new_parts (New hash height) fits = fits
 new_parts (Named name height) fits = absurd fits
 
-new_spelled : (coin : Coin) → FitsNewCoin coin → coin_text coin ≡ 1 ∷ behind_coin coin
+new_spelled : (coin : Coin) → IsWritableNew coin → coin_text coin ≡ 1 ∷ behind_coin coin
 unfolding coin_text behind_coin
 new_spelled (New hash height) fits = refl
 new_spelled (Named name height) fits = absurd fits
@@ -50,47 +50,47 @@ new_spelled (Named name height) fits = absurd fits
 behind_new_from : Reads Coin
 behind_new_from = map_from new_of (then_from (number_from w32) (λ _. piece_from 20))
 
-behind_new_core : Core behind_coin FitsNewCoin NoFlaw behind_new_from
+behind_new_core : Core behind_coin IsWritableNew NoFlaw behind_new_from
 unfolding behind_coin behind_new_from
 behind_new_core =
-    map_core new_of of_new (pair_text (to_le_bytes w32) (λ _. itself)) (PairFits (IsBelow (2 ^ 32)) (λ _. HasLength 20)) (then_from (number_from w32) (λ _. piece_from 20)) behind_coin FitsNewCoin
+    map_core new_of of_new (pair_text (to_le_bytes w32) (λ _. itself)) (PairFits (IsBelow (2 ^ 32)) (λ _. HasLength 20)) (then_from (number_from w32) (λ _. piece_from 20)) behind_coin IsWritableNew
     new_back (λ x fits. refl) (λ x fits. fits) new_parts NoFlaw
     (flaw_core (pair_text (to_le_bytes w32) (λ _. itself)) (PairFits (IsBelow (2 ^ 32)) (λ _. HasLength 20)) (PairFlaw (to_le_bytes w32) (IsBelow (2 ^ 32)) NoFlaw (λ _. NoFlaw)) NoFlaw
     (then_from (number_from w32) (λ _. piece_from 20)) (no_pair (to_le_bytes w32) (IsBelow (2 ^ 32))) (λ bytes e f. absurd f)
     (then_core (to_le_bytes w32) (IsBelow (2 ^ 32)) NoFlaw (number_from w32) (λ _. itself) (λ _. HasLength 20) (λ _. NoFlaw) (λ _. piece_from 20) core32 (λ _ _. piece_core 20)))
 
-behind_new_ends : Ends behind_coin FitsNewCoin behind_new_from
+behind_new_ends : Ends behind_coin IsWritableNew behind_new_from
 unfolding behind_coin behind_new_from
 behind_new_ends =
-    map_ends new_of of_new (pair_text (to_le_bytes w32) (λ _. itself)) (PairFits (IsBelow (2 ^ 32)) (λ _. HasLength 20)) (then_from (number_from w32) (λ _. piece_from 20)) behind_coin FitsNewCoin
+    map_ends new_of of_new (pair_text (to_le_bytes w32) (λ _. itself)) (PairFits (IsBelow (2 ^ 32)) (λ _. HasLength 20)) (then_from (number_from w32) (λ _. piece_from 20)) behind_coin IsWritableNew
     new_back (λ x fits. refl) (λ x fits. fits) new_parts
     (then_ends (to_le_bytes w32) (IsBelow (2 ^ 32)) NoFlaw (number_from w32) (λ _. itself) (λ _. HasLength 20) (λ _. NoFlaw) (λ _. piece_from 20) core32 ends32 (λ _ _. piece_ends 20))
 
-pub new_coin_core : Core coin_text FitsNewCoin (TagFlaw (IsOtherAt (1 ∷ []))) new_coin_from
+pub new_coin_core : Core coin_text IsWritableNew (TagFlaw (IsOtherAt (1 ∷ []))) new_coin_from
 unfolding behind_new_from new_coin_from
 new_coin_core =
-    said_core (λ c. 1 ∷ behind_coin c) coin_text FitsNewCoin FitsNewCoin new_coin_from new_coin_from (λ bytes. refl) new_spelled (λ c fits. fits) (λ c fits. fits)
+    said_core (λ c. 1 ∷ behind_coin c) coin_text IsWritableNew IsWritableNew new_coin_from new_coin_from (λ bytes. refl) new_spelled (λ c fits. fits) (λ c fits. fits)
     (TagFlaw (IsOtherAt (1 ∷ []))) (TagFlaw (IsOtherAt (1 ∷ []))) (λ bytes e f. f) (λ bytes e f. f)
-    (tagged_core 1 behind_coin FitsNewCoin behind_new_from behind_new_core)
+    (tagged_core 1 behind_coin IsWritableNew behind_new_from behind_new_core)
 
-pub new_coin_ends : Ends coin_text FitsNewCoin new_coin_from
+pub new_coin_ends : Ends coin_text IsWritableNew new_coin_from
 unfolding behind_new_from new_coin_from
 new_coin_ends =
-    said_ends (λ c. 1 ∷ behind_coin c) coin_text FitsNewCoin FitsNewCoin new_coin_from new_coin_from (λ bytes. refl) new_spelled (λ c fits. fits) (λ c fits. fits)
-    (tagged_ends 1 behind_coin FitsNewCoin behind_new_from behind_new_ends)
+    said_ends (λ c. 1 ∷ behind_coin c) coin_text IsWritableNew IsWritableNew new_coin_from new_coin_from (λ bytes. refl) new_spelled (λ c fits. fits) (λ c fits. fits)
+    (tagged_ends 1 behind_coin IsWritableNew behind_new_from behind_new_ends)
 
 abbrev named_of : ℕ × List ℕ → Coin
 named_of x = Named x.1 x.0
 
-named_back : (coin : Coin) → FitsNamedCoin coin → named_of (of_new coin) ≡ coin
+named_back : (coin : Coin) → IsWritableNamed coin → named_of (of_new coin) ≡ coin
 named_back (New hash height) fits = absurd fits
 named_back (Named name height) fits = refl
 
-named_parts : (coin : Coin) → FitsNamedCoin coin → PairFits (IsBelow (2 ^ 32)) (λ _. FitsName) (of_new coin)
+named_parts : (coin : Coin) → IsWritableNamed coin → PairFits (IsBelow (2 ^ 32)) (λ _. IsWritableName) (of_new coin)
 named_parts (New hash height) fits = absurd fits
 named_parts (Named name height) fits = fits
 
-named_spelled : (coin : Coin) → FitsNamedCoin coin → coin_text coin ≡ 2 ∷ behind_coin coin
+named_spelled : (coin : Coin) → IsWritableNamed coin → coin_text coin ≡ 2 ∷ behind_coin coin
 unfolding coin_text behind_coin
 named_spelled (New hash height) fits = absurd fits
 named_spelled (Named name height) fits = refl
@@ -98,34 +98,34 @@ named_spelled (Named name height) fits = refl
 behind_named_from : Reads Coin
 behind_named_from = map_from named_of (then_from (number_from w32) (λ _. name_from))
 
-behind_named_core : Core behind_coin FitsNamedCoin NoFlaw behind_named_from
+behind_named_core : Core behind_coin IsWritableNamed NoFlaw behind_named_from
 unfolding behind_coin behind_named_from
 behind_named_core =
-    map_core named_of of_new (pair_text (to_le_bytes w32) (λ _. name_text)) (PairFits (IsBelow (2 ^ 32)) (λ _. FitsName)) (then_from (number_from w32) (λ _. name_from)) behind_coin FitsNamedCoin
+    map_core named_of of_new (pair_text (to_le_bytes w32) (λ _. name_text)) (PairFits (IsBelow (2 ^ 32)) (λ _. IsWritableName)) (then_from (number_from w32) (λ _. name_from)) behind_coin IsWritableNamed
     named_back (λ x fits. refl) (λ x fits. fits) named_parts NoFlaw
-    (flaw_core (pair_text (to_le_bytes w32) (λ _. name_text)) (PairFits (IsBelow (2 ^ 32)) (λ _. FitsName)) (PairFlaw (to_le_bytes w32) (IsBelow (2 ^ 32)) NoFlaw (λ _. NoFlaw)) NoFlaw
+    (flaw_core (pair_text (to_le_bytes w32) (λ _. name_text)) (PairFits (IsBelow (2 ^ 32)) (λ _. IsWritableName)) (PairFlaw (to_le_bytes w32) (IsBelow (2 ^ 32)) NoFlaw (λ _. NoFlaw)) NoFlaw
     (then_from (number_from w32) (λ _. name_from)) (no_pair (to_le_bytes w32) (IsBelow (2 ^ 32))) (λ bytes e f. absurd f)
-    (then_core (to_le_bytes w32) (IsBelow (2 ^ 32)) NoFlaw (number_from w32) (λ _. name_text) (λ _. FitsName) (λ _. NoFlaw) (λ _. name_from) core32 (λ _ _. name_core)))
+    (then_core (to_le_bytes w32) (IsBelow (2 ^ 32)) NoFlaw (number_from w32) (λ _. name_text) (λ _. IsWritableName) (λ _. NoFlaw) (λ _. name_from) core32 (λ _ _. name_core)))
 
-behind_named_ends : Ends behind_coin FitsNamedCoin behind_named_from
+behind_named_ends : Ends behind_coin IsWritableNamed behind_named_from
 unfolding behind_coin behind_named_from
 behind_named_ends =
-    map_ends named_of of_new (pair_text (to_le_bytes w32) (λ _. name_text)) (PairFits (IsBelow (2 ^ 32)) (λ _. FitsName)) (then_from (number_from w32) (λ _. name_from)) behind_coin FitsNamedCoin
+    map_ends named_of of_new (pair_text (to_le_bytes w32) (λ _. name_text)) (PairFits (IsBelow (2 ^ 32)) (λ _. IsWritableName)) (then_from (number_from w32) (λ _. name_from)) behind_coin IsWritableNamed
     named_back (λ x fits. refl) (λ x fits. fits) named_parts
-    (then_ends (to_le_bytes w32) (IsBelow (2 ^ 32)) NoFlaw (number_from w32) (λ _. name_text) (λ _. FitsName) (λ _. NoFlaw) (λ _. name_from) core32 ends32 (λ _ _. name_ends))
+    (then_ends (to_le_bytes w32) (IsBelow (2 ^ 32)) NoFlaw (number_from w32) (λ _. name_text) (λ _. IsWritableName) (λ _. NoFlaw) (λ _. name_from) core32 ends32 (λ _ _. name_ends))
 
-pub named_coin_core : Core coin_text FitsNamedCoin (TagFlaw (IsOtherAt (2 ∷ []))) named_coin_from
+pub named_coin_core : Core coin_text IsWritableNamed (TagFlaw (IsOtherAt (2 ∷ []))) named_coin_from
 unfolding behind_named_from named_coin_from
 named_coin_core =
-    said_core (λ c. 2 ∷ behind_coin c) coin_text FitsNamedCoin FitsNamedCoin named_coin_from named_coin_from (λ bytes. refl) named_spelled (λ c fits. fits) (λ c fits. fits)
+    said_core (λ c. 2 ∷ behind_coin c) coin_text IsWritableNamed IsWritableNamed named_coin_from named_coin_from (λ bytes. refl) named_spelled (λ c fits. fits) (λ c fits. fits)
     (TagFlaw (IsOtherAt (2 ∷ []))) (TagFlaw (IsOtherAt (2 ∷ []))) (λ bytes e f. f) (λ bytes e f. f)
-    (tagged_core 2 behind_coin FitsNamedCoin behind_named_from behind_named_core)
+    (tagged_core 2 behind_coin IsWritableNamed behind_named_from behind_named_core)
 
-pub named_coin_ends : Ends coin_text FitsNamedCoin named_coin_from
+pub named_coin_ends : Ends coin_text IsWritableNamed named_coin_from
 unfolding behind_named_from named_coin_from
 named_coin_ends =
-    said_ends (λ c. 2 ∷ behind_coin c) coin_text FitsNamedCoin FitsNamedCoin named_coin_from named_coin_from (λ bytes. refl) named_spelled (λ c fits. fits) (λ c fits. fits)
-    (tagged_ends 2 behind_coin FitsNamedCoin behind_named_from behind_named_ends)
+    said_ends (λ c. 2 ∷ behind_coin c) coin_text IsWritableNamed IsWritableNamed named_coin_from named_coin_from (λ bytes. refl) named_spelled (λ c fits. fits) (λ c fits. fits)
+    (tagged_ends 2 behind_coin IsWritableNamed behind_named_from behind_named_ends)
 
 -- ---- items
 
@@ -134,7 +134,7 @@ pub record IsLongItem (bytes rest : List ℕ) : Type 0 where
   pub height : ℕ
   pub at : OutPoint
   pub height_fits : height < 2 ^ 32
-  pub at_fits : FitsPoint at
+  pub at_fits : IsWritablePoint at
   pub parts : bytes ≡ to_le_bytes w32 height ++ (point_text at ++ rest)
   pub long : IsLongLength rest
 
@@ -142,10 +142,10 @@ abbrev PlacedText : OutPoint × List ℕ → List ℕ
 PlacedText = pair_text point_text (λ _. value_text)
 
 abbrev PlacedFits : OutPoint × List ℕ → Type 0
-PlacedFits = PairFits FitsPoint (λ _. FitsValue)
+PlacedFits = PairFits IsWritablePoint (λ _. FitsValue)
 
 abbrev PlacedFlaw : Flaw
-PlacedFlaw = PairFlaw point_text FitsPoint NoFlaw (λ _. TagFlaw IsLongAt)
+PlacedFlaw = PairFlaw point_text IsWritablePoint NoFlaw (λ _. TagFlaw IsLongAt)
 
 abbrev ItemFlaw : Flaw
 ItemFlaw = PairFlaw (to_le_bytes w32) (IsBelow (2 ^ 32)) NoFlaw (λ _. PlacedFlaw)
@@ -181,23 +181,23 @@ abbrev placed_from : Reads (OutPoint × List ℕ)
 placed_from = then_from point_from (λ _. value_from)
 
 placed_core : Core PlacedText PlacedFits PlacedFlaw placed_from
-placed_core = then_core point_text FitsPoint NoFlaw point_from (λ _. value_text) (λ _. FitsValue) (λ _. TagFlaw IsLongAt) (λ _. value_from) point_core (λ _ _. value_core)
+placed_core = then_core point_text IsWritablePoint NoFlaw point_from (λ _. value_text) (λ _. FitsValue) (λ _. TagFlaw IsLongAt) (λ _. value_from) point_core (λ _ _. value_core)
 
 placed_ends : Ends PlacedText PlacedFits placed_from
-placed_ends = then_ends point_text FitsPoint NoFlaw point_from (λ _. value_text) (λ _. FitsValue) (λ _. TagFlaw IsLongAt) (λ _. value_from) point_core point_ends (λ _ _. value_ends)
+placed_ends = then_ends point_text IsWritablePoint NoFlaw point_from (λ _. value_text) (λ _. FitsValue) (λ _. TagFlaw IsLongAt) (λ _. value_from) point_core point_ends (λ _ _. value_ends)
 
-pub item_core : Core item_text FitsItem (TagFlaw IsLongItem) item_from
+pub item_core : Core item_text IsWritableItem (TagFlaw IsLongItem) item_from
 unfolding item_text item_from
 item_core =
-    map_core item_of of_item (pair_text (to_le_bytes w32) (λ _. PlacedText)) (PairFits (IsBelow (2 ^ 32)) (λ _. PlacedFits)) (then_from (number_from w32) (λ _. placed_from)) item_text FitsItem
+    map_core item_of of_item (pair_text (to_le_bytes w32) (λ _. PlacedText)) (PairFits (IsBelow (2 ^ 32)) (λ _. PlacedFits)) (then_from (number_from w32) (λ _. placed_from)) item_text IsWritableItem
     (λ item fits. refl) (λ x fits. refl) (λ x fits. record { height = fits.0; at = fits.1.0; value = fits.1.1 }) (λ item fits. (fits.height, (fits.at, fits.value))) (TagFlaw IsLongItem)
     (flaw_core (pair_text (to_le_bytes w32) (λ _. PlacedText)) (PairFits (IsBelow (2 ^ 32)) (λ _. PlacedFits)) ItemFlaw (TagFlaw IsLongItem) (then_from (number_from w32) (λ _. placed_from)) item_to item_of_flaw
     (then_core (to_le_bytes w32) (IsBelow (2 ^ 32)) NoFlaw (number_from w32) (λ _. PlacedText) (λ _. PlacedFits) (λ _. PlacedFlaw) (λ _. placed_from) core32 (λ _ _. placed_core)))
 
-pub item_ends : Ends item_text FitsItem item_from
+pub item_ends : Ends item_text IsWritableItem item_from
 unfolding item_text item_from
 item_ends =
-    map_ends item_of of_item (pair_text (to_le_bytes w32) (λ _. PlacedText)) (PairFits (IsBelow (2 ^ 32)) (λ _. PlacedFits)) (then_from (number_from w32) (λ _. placed_from)) item_text FitsItem
+    map_ends item_of of_item (pair_text (to_le_bytes w32) (λ _. PlacedText)) (PairFits (IsBelow (2 ^ 32)) (λ _. PlacedFits)) (then_from (number_from w32) (λ _. placed_from)) item_text IsWritableItem
     (λ item fits. refl) (λ x fits. refl) (λ x fits. record { height = fits.0; at = fits.1.0; value = fits.1.1 }) (λ item fits. (fits.height, (fits.at, fits.value)))
     (then_ends (to_le_bytes w32) (IsBelow (2 ^ 32)) NoFlaw (number_from w32) (λ _. PlacedText) (λ _. PlacedFits) (λ _. PlacedFlaw) (λ _. placed_from) core32 ends32 (λ _ _. placed_ends))
 
@@ -224,7 +224,7 @@ abbrev BeforeAt : ℕ → Flaw
 BeforeAt first bytes e = (first ≡ 1) × TagFlaw IsLongItem bytes e
 
 abbrev FitsBeforeAt : ℕ → Option Item → Type 0
-FitsBeforeAt = FitsAt before_tag FitsBefore
+FitsBeforeAt = FitsAt before_tag IsWritableBefore
 
 none_core : Core behind_before (FitsBeforeAt 0) (BeforeAt 0) none_from
 unfolding behind_before none_from
@@ -264,26 +264,26 @@ some_core : Core behind_before (FitsBeforeAt 1) (BeforeAt 1) some_from
 unfolding behind_before some_from item_or
 some_core =
     flaw_core behind_before (FitsBeforeAt 1) (TagFlaw IsLongItem) (BeforeAt 1) some_from (λ bytes e f. (refl, f)) (λ bytes e f. f.1)
-    (map_core (λ (item : Item). Some item) (item_or item_ends.sample) item_text FitsItem item_from behind_before (FitsBeforeAt 1) back (λ item fits. refl) (λ item fits. (refl, fits)) from (TagFlaw IsLongItem) item_core)
+    (map_core (λ (item : Item). Some item) (item_or item_ends.sample) item_text IsWritableItem item_from behind_before (FitsBeforeAt 1) back (λ item fits. refl) (λ item fits. (refl, fits)) from (TagFlaw IsLongItem) item_core)
   where
     back : (x : Option Item) → FitsBeforeAt 1 x → Some (item_or item_ends.sample x) ≡ x
     back None fits = absurd (omega (arith, fits.0))
     back (Some item) fits = refl
 
-    from : (x : Option Item) → FitsBeforeAt 1 x → FitsItem (item_or item_ends.sample x)
+    from : (x : Option Item) → FitsBeforeAt 1 x → IsWritableItem (item_or item_ends.sample x)
     from None fits = absurd (omega (arith, fits.0))
     from (Some item) fits = fits.1
 
 some_ends : Ends behind_before (FitsBeforeAt 1) some_from
 unfolding behind_before some_from item_or
 some_ends =
-    map_ends (λ (item : Item). Some item) (item_or item_ends.sample) item_text FitsItem item_from behind_before (FitsBeforeAt 1) back (λ item fits. refl) (λ item fits. (refl, fits)) from item_ends
+    map_ends (λ (item : Item). Some item) (item_or item_ends.sample) item_text IsWritableItem item_from behind_before (FitsBeforeAt 1) back (λ item fits. refl) (λ item fits. (refl, fits)) from item_ends
   where
     back : (x : Option Item) → FitsBeforeAt 1 x → Some (item_or item_ends.sample x) ≡ x
     back None fits = absurd (omega (arith, fits.0))
     back (Some item) fits = refl
 
-    from : (x : Option Item) → FitsBeforeAt 1 x → FitsItem (item_or item_ends.sample x)
+    from : (x : Option Item) → FitsBeforeAt 1 x → IsWritableItem (item_or item_ends.sample x)
     from None fits = absurd (omega (arith, fits.0))
     from (Some item) fits = fits.1
 
@@ -302,7 +302,7 @@ before_cases first read e =
           ]
     ]
 
-before_known : (x : Option Item) → FitsBefore x → (read : Reads (Option Item)) × (before_pick (before_tag x) ≡ Some read)
+before_known : (x : Option Item) → IsWritableBefore x → (read : Reads (Option Item)) × (before_pick (before_tag x) ≡ Some read)
 unfolding before_pick
 before_known None fits = (none_from, refl)
 before_known (Some item) fits = (some_from, refl)
@@ -334,7 +334,7 @@ before_is (first ∷ rest) =
           ]
     ]
 
-before_spelled : (x : Option Item) → FitsBefore x → before_text x ≡ tagged_text before_tag behind_before x
+before_spelled : (x : Option Item) → IsWritableBefore x → before_text x ≡ tagged_text before_tag behind_before x
 unfolding before_text behind_before
 before_spelled None fits = refl
 before_spelled (Some item) fits = refl
@@ -385,13 +385,13 @@ before_of bytes e f = go f.rest f.flaw f.is
           },
         )
 
-pub before_core : Core before_text FitsBefore (TagFlaw IsBadBefore) before_from
+pub before_core : Core before_text IsWritableBefore (TagFlaw IsBadBefore) before_from
 before_core =
-    said_core (tagged_text before_tag behind_before) before_text FitsBefore FitsBefore (choice_from before_pick) before_from before_is before_spelled (λ x fits. fits) (λ x fits. fits)
+    said_core (tagged_text before_tag behind_before) before_text IsWritableBefore IsWritableBefore (choice_from before_pick) before_from before_is before_spelled (λ x fits. fits) (λ x fits. fits)
     (ChoiceFlaw before_pick BeforeAt) (TagFlaw IsBadBefore) before_to before_of
-    (choice_core before_tag behind_before FitsBefore before_pick before_known BeforeAt before_at)
+    (choice_core before_tag behind_before IsWritableBefore before_pick before_known BeforeAt before_at)
 
-pub before_ends : Ends before_text FitsBefore before_from
+pub before_ends : Ends before_text IsWritableBefore before_from
 before_ends =
-    said_ends (tagged_text before_tag behind_before) before_text FitsBefore FitsBefore (choice_from before_pick) before_from before_is before_spelled (λ x fits. fits) (λ x fits. fits)
-    (choice_ends before_tag behind_before FitsBefore before_pick before_known before_at_ends None tt)
+    said_ends (tagged_text before_tag behind_before) before_text IsWritableBefore IsWritableBefore (choice_from before_pick) before_from before_is before_spelled (λ x fits. fits) (λ x fits. fits)
+    (choice_ends before_tag behind_before IsWritableBefore before_pick before_known before_at_ends None tt)

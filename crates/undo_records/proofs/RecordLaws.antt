@@ -16,7 +16,7 @@ use Rattle.undo_records.specs.declared.fault.FaultKind.{FaultKind}
 use Rattle.undo_records.specs.declared.fault.FaultKind.TheVariants.{Cut, BadTag, Unsorted}
 use Rattle.undo_records.specs.Reading.{Reads, number_from, piece_from, op_from, ops_from, is_after, coins_from, expired_from, undo_from}
 use Rattle.undo_records.specs.Text.{point_text, op_text, held_text, undo_text}
-use Rattle.chain_names.specs.Writable.{FitsOp, FitsHeld, IsAfter, AreAscending, FitsUndo, IsWritable}
+use Rattle.chain_names.specs.Writable.{IsWritableOp, IsWritableHeld, IsAfter, AreAscending, HasWritableParts, IsWritable}
 use Rattle.undo_records.specs.Faults.{IsOther, IsBadOperation, last_point, ReachesOperation, ReachesCoin, IsBadTag, operation, expired_coin, IsUnsorted, IsCut}
 use Rattle.undo_records.proofs.Laws.{Spot, ended, Flaw, NoFlaw, Core, Ends, PairFlaw, in_first, in_second, then_core, then_ends, map_core, map_ends, flaw_core, TagFlaw, ManyFlaw, many_core, many_ends}
 use Rattle.undo_records.proofs.Choices.{no_cut}
@@ -54,21 +54,21 @@ abbrev OpFlaw : Flaw
 OpFlaw = TagFlaw IsBadOperation
 
 abbrev OpsFits : List UndoOp → Type 0
-OpsFits = CountedFits (AllByRecursion FitsOp)
+OpsFits = CountedFits (AllByRecursion IsWritableOp)
 
 abbrev OpsFlaw : Flaw
-OpsFlaw = PairFlaw (to_le_bytes w32) (IsBelow (2 ^ 32)) NoFlaw (ManyFlaw op_text FitsOp OpFlaw)
+OpsFlaw = PairFlaw (to_le_bytes w32) (IsBelow (2 ^ 32)) NoFlaw (ManyFlaw op_text IsWritableOp OpFlaw)
 
 ops_core : Core (counted_text op_text) OpsFits OpsFlaw ops_from
 unfolding ops_from
-ops_core = counted_core op_text (AllByRecursion FitsOp) (many_from op_from) (ManyFlaw op_text FitsOp OpFlaw) (many_core op_text FitsOp op_from op_ends.sample OpFlaw op_core)
+ops_core = counted_core op_text (AllByRecursion IsWritableOp) (many_from op_from) (ManyFlaw op_text IsWritableOp OpFlaw) (many_core op_text IsWritableOp op_from op_ends.sample OpFlaw op_core)
 
 ops_ends : Ends (counted_text op_text) OpsFits ops_from
 unfolding ops_from
-ops_ends = counted_ends op_text (AllByRecursion FitsOp) (many_from op_from) (many_ends op_text FitsOp op_from op_ends.sample OpFlaw op_core op_ends)
+ops_ends = counted_ends op_text (AllByRecursion IsWritableOp) (many_from op_from) (many_ends op_text IsWritableOp op_from op_ends.sample OpFlaw op_core op_ends)
 
 abbrev CoinsOk : List HeldCoin → Type 0
-CoinsOk coins = AllByRecursion FitsHeld coins × AreAscending None coins
+CoinsOk coins = AllByRecursion IsWritableHeld coins × AreAscending None coins
 
 abbrev ExpiredFlaw : Flaw
 ExpiredFlaw = PairFlaw (to_le_bytes w32) (IsBelow (2 ^ 32)) NoFlaw (CoinsFlaw None)
@@ -81,15 +81,15 @@ loose_expired_from : Reads (List HeldCoin)
 loose_expired_from = map_from (λ x. x.1) (then_from (number_from w32) (many_from loose_held_from))
 
 abbrev LooseExpiredFlaw : Flaw
-LooseExpiredFlaw = PairFlaw (to_le_bytes w32) (IsBelow (2 ^ 32)) NoFlaw (ManyFlaw held_text FitsHeld LooseFlaw)
+LooseExpiredFlaw = PairFlaw (to_le_bytes w32) (IsBelow (2 ^ 32)) NoFlaw (ManyFlaw held_text IsWritableHeld LooseFlaw)
 
-loose_expired_core : Core (counted_text held_text) (CountedFits (AllByRecursion FitsHeld)) LooseExpiredFlaw loose_expired_from
+loose_expired_core : Core (counted_text held_text) (CountedFits (AllByRecursion IsWritableHeld)) LooseExpiredFlaw loose_expired_from
 unfolding loose_expired_from
-loose_expired_core = counted_core held_text (AllByRecursion FitsHeld) (many_from loose_held_from) (ManyFlaw held_text FitsHeld LooseFlaw) loose_coins_core
+loose_expired_core = counted_core held_text (AllByRecursion IsWritableHeld) (many_from loose_held_from) (ManyFlaw held_text IsWritableHeld LooseFlaw) loose_coins_core
 
-loose_expired_ends : Ends (counted_text held_text) (CountedFits (AllByRecursion FitsHeld)) loose_expired_from
+loose_expired_ends : Ends (counted_text held_text) (CountedFits (AllByRecursion IsWritableHeld)) loose_expired_from
 unfolding loose_expired_from
-loose_expired_ends = counted_ends held_text (AllByRecursion FitsHeld) (many_from loose_held_from) loose_coins_ends
+loose_expired_ends = counted_ends held_text (AllByRecursion IsWritableHeld) (many_from loose_held_from) loose_coins_ends
 
 -- ---- the record
 
@@ -156,15 +156,15 @@ raw_core =
 loose_undo_from : Reads UndoRecord
 loose_undo_from = map_from record_of (then_from (piece_from 32) (λ _. then_from ops_from (λ _. loose_expired_from)))
 
-loose_to : (x : List ℕ × Tail) → PairFits (HasLength 32) (λ _. PairFits OpsFits (λ _. CountedFits (AllByRecursion FitsHeld))) x → FitsUndo (record_of x)
+loose_to : (x : List ℕ × Tail) → PairFits (HasLength 32) (λ _. PairFits OpsFits (λ _. CountedFits (AllByRecursion IsWritableHeld))) x → HasWritableParts (record_of x)
 loose_to x fits = record { block = fits.0; op_count = fits.1.0.0; ops = fits.1.0.1; expired_count = fits.1.1.0; expired = fits.1.1.1 }
 
-loose_of : (undo : UndoRecord) → FitsUndo undo → PairFits (HasLength 32) (λ _. PairFits OpsFits (λ _. CountedFits (AllByRecursion FitsHeld))) (of_record undo)
+loose_of : (undo : UndoRecord) → HasWritableParts undo → PairFits (HasLength 32) (λ _. PairFits OpsFits (λ _. CountedFits (AllByRecursion IsWritableHeld))) (of_record undo)
 loose_of undo fits = (fits.block, ((fits.op_count, fits.ops), (fits.expired_count, fits.expired)))
 
-loose_ends : Ends undo_text FitsUndo loose_undo_from
+loose_ends : Ends undo_text HasWritableParts loose_undo_from
 unfolding loose_undo_from
-loose_ends = record_ends (AllByRecursion FitsHeld) LooseExpiredFlaw loose_expired_from FitsUndo loose_expired_core loose_to loose_of loose_expired_ends
+loose_ends = record_ends (AllByRecursion IsWritableHeld) LooseExpiredFlaw loose_expired_from HasWritableParts loose_expired_core loose_to loose_of loose_expired_ends
 
 undo_same : (bytes : List ℕ) → OrUnsorted (undo_from bytes) (loose_undo_from bytes)
 unfolding undo_from loose_undo_from expired_from loose_expired_from

@@ -11,7 +11,7 @@ use Rattle.nmc_base.specs.declared.limits.TheConstants.{LONGEST_VALUE}
 use Rattle.undo_records.specs.declared.fault.UndoFault.{UndoFault}
 use Rattle.undo_records.specs.declared.fault.UndoFault.TheVariants.{Cut, BadTag, Unsorted, NoMemory}
 use Rattle.undo_records.specs.Text.{point_text, name_text, coin_text, op_text, held_text, undo_text}
-use Rattle.chain_names.specs.Writable.{FitsPoint, FitsName, FitsNewCoin, FitsNamedCoin, FitsOp, FitsHeld, IsAfter, AreAscending, FitsUndo, IsWritable}
+use Rattle.chain_names.specs.Writable.{IsWritablePoint, IsWritableName, IsWritableNew, IsWritableNamed, IsWritableOp, IsWritableHeld, IsAfter, AreAscending, HasWritableParts, IsWritable}
 
 -- ---- tags and lengths
 
@@ -35,21 +35,21 @@ pub record IsLongLength (bytes : List ℕ) : Type 0 where
 -- what says whether there was an item before is neither 0 nor 1, or that item has a long value
 pub data IsBadBefore (bytes rest : List ℕ) : Type 0 where
   no_flag : IsOther (0 ∷ 1 ∷ []) bytes → rest ≡ bytes → IsBadBefore bytes rest
-  long_value : (height : ℕ) (at : OutPoint) → height < 2 ^ 32 → FitsPoint at
+  long_value : (height : ℕ) (at : OutPoint) → height < 2 ^ 32 → IsWritablePoint at
       → bytes ≡ 1 ∷ (to_le_bytes w32 height ++ (point_text at ++ rest)) → IsLongLength rest → IsBadBefore bytes rest
 
 -- the coin spent has another tag than this one, or what stands before is bad
 pub data IsBadChange (coin_tag : ℕ) (FitsCoin : Coin → Type 0) (bytes rest : List ℕ) : Type 0 where
-  other_coin : (made spent : OutPoint) → FitsPoint made → FitsPoint spent
+  other_coin : (made spent : OutPoint) → IsWritablePoint made → IsWritablePoint spent
       → bytes ≡ point_text made ++ (point_text spent ++ rest) → IsOther (coin_tag ∷ []) rest → IsBadChange coin_tag FitsCoin bytes rest
-  bad_before : (made spent : OutPoint) (coin : Coin) (name inner : List ℕ) → FitsPoint made → FitsPoint spent → FitsCoin coin → FitsName name
+  bad_before : (made spent : OutPoint) (coin : Coin) (name inner : List ℕ) → IsWritablePoint made → IsWritablePoint spent → FitsCoin coin → IsWritableName name
       → bytes ≡ point_text made ++ (point_text spent ++ (coin_text coin ++ (name_text name ++ inner))) → IsBadBefore inner rest
       → IsBadChange coin_tag FitsCoin bytes rest
 
 pub data IsBadOperation (bytes rest : List ℕ) : Type 0 where
   other_tag : IsOther (0x51 ∷ 0x52 ∷ 0x53 ∷ []) bytes → rest ≡ bytes → IsBadOperation bytes rest
-  in_first : (change : List ℕ) → bytes ≡ 0x52 ∷ change → IsBadChange 1 FitsNewCoin change rest → IsBadOperation bytes rest
-  in_update : (change : List ℕ) → bytes ≡ 0x53 ∷ change → IsBadChange 2 FitsNamedCoin change rest → IsBadOperation bytes rest
+  in_first : (change : List ℕ) → bytes ≡ 0x52 ∷ change → IsBadChange 1 IsWritableNew change rest → IsBadOperation bytes rest
+  in_update : (change : List ℕ) → bytes ≡ 0x53 ∷ change → IsBadChange 2 IsWritableNamed change rest → IsBadOperation bytes rest
 
 -- ---- within a record
 
@@ -60,7 +60,7 @@ pub record ReachesOperation (bytes inner : List ℕ) : Type 0 where
   pub count : ℕ
   pub count_fits : count < 2 ^ 32
   pub ops : List UndoOp
-  pub ops_fit : AllByRecursion FitsOp ops
+  pub ops_fit : AllByRecursion IsWritableOp ops
   pub fewer : length ops < count
   pub text : bytes ≡ block ++ (to_le_bytes w32 count ++ (flat_map op_text ops ++ inner))
 
@@ -76,10 +76,10 @@ pub record ReachesCoin (bytes : List ℕ) (coins : List HeldCoin) (inner : List 
   pub block_length : length block ≡ 32
   pub ops : List UndoOp
   pub op_count : length ops < 2 ^ 32
-  pub ops_fit : AllByRecursion FitsOp ops
+  pub ops_fit : AllByRecursion IsWritableOp ops
   pub count : ℕ
   pub count_fits : count < 2 ^ 32
-  pub coins_fit : AllByRecursion FitsHeld coins
+  pub coins_fit : AllByRecursion IsWritableHeld coins
   pub in_order : AreAscending None coins
   pub fewer : length coins < count
   pub text : bytes ≡ block ++ (to_le_bytes w32 (length ops) ++ (flat_map op_text ops ++ (to_le_bytes w32 count ++ (flat_map held_text coins ++ inner))))
@@ -87,7 +87,7 @@ pub record ReachesCoin (bytes : List ℕ) (coins : List HeldCoin) (inner : List 
 -- a tag that isn't allowed there, or the length of a long value, stands at the front of the rest
 pub data IsBadTag (bytes rest : List ℕ) : Type 0 where
   operation : (inner : List ℕ) → ReachesOperation bytes inner → IsBadOperation inner rest → IsBadTag bytes rest
-  expired_coin : (coins : List HeldCoin) (inner : List ℕ) (at : OutPoint) → ReachesCoin bytes coins inner → FitsPoint at → IsAfter (last_point coins) at
+  expired_coin : (coins : List HeldCoin) (inner : List ℕ) (at : OutPoint) → ReachesCoin bytes coins inner → IsWritablePoint at → IsAfter (last_point coins) at
       → inner ≡ point_text at ++ rest → IsOther (2 ∷ []) rest → IsBadTag bytes rest
 
 -- an expired coin's outpoint, which isn't greater than the one before, stands at the front of the rest
@@ -96,7 +96,7 @@ pub record IsUnsorted (bytes rest : List ℕ) : Type 0 where
   pub reached : ReachesCoin bytes coins rest
   pub at : OutPoint
   pub more : List ℕ
-  pub fits : FitsPoint at
+  pub fits : IsWritablePoint at
   pub text : rest ≡ point_text at ++ more
   pub not_after : ¬ (IsAfter (last_point coins) at)
 
@@ -111,7 +111,7 @@ pub record IsProperFront {A : Type 0} (text : A → List ℕ) (Fits : A → Type
 -- The bytes end too early: they are the front of a record's text but for the order of its expired coins, and no
 -- outpoint in them is out of order.
 pub record IsCut (bytes : List ℕ) : Type 0 where
-  pub front : IsProperFront undo_text FitsUndo bytes
+  pub front : IsProperFront undo_text HasWritableParts bytes
   pub sorted : (rest : List ℕ) → ¬ (IsUnsorted bytes rest)
 
 -- the fault that bytes have, and its place

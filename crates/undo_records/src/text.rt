@@ -4,7 +4,7 @@ ghost use Rattle.std.specs.Prelude.{◌≡◌, ◌++◌, ◌<◌, ◌≤◌, ◌
 ghost use Rattle.std.specs.List.{flat_map, AllByRecursion};
 ghost use Rattle.std.specs.Int.{w16, w32, to_le_bytes};
 ghost use Rattle.nmc_base.specs.declared.limits.TheConstants.{LONGEST_VALUE};
-ghost use Rattle.chain_names.specs.Writable.{change_of, FitsName, HasShortName, FitsItem, FitsBefore, FitsOp, FitsHeld};
+ghost use Rattle.chain_names.specs.Writable.{change_of, IsWritableName, HasShortName, IsWritableItem, IsWritableBefore, IsWritableOp, IsWritableHeld};
 ghost use Rattle.undo_records.specs.Text.{point_text, name_text, coin_text, item_text, before_text, change_text, op_text, held_text};
 
 use crate::coins::{NAMED, NEW, NONE_BEFORE, SOME_BEFORE};
@@ -29,7 +29,7 @@ fn add_point(out: &mut Bytes, point: &OutPoint) -> Result<(), NoMemory>
 
 /// A name behind its length.
 fn add_name(out: &mut Bytes, name: &[u8]) -> Result<(), NoMemory>
-    requires { FitsName name.now }
+    requires { IsWritableName name.now }
     ensures { OnOk result (out.new ≡ out.old ++ name_text name.now) }
 {
     out.extend(&[name.len() as u8])?;
@@ -67,7 +67,7 @@ fn add_value(out: &mut Bytes, value: &[u8]) -> Result<(), NoMemory>
 
 #[tactic(auto, unfolding(crate::specs::Text::item_text))]
 fn add_item(out: &mut Bytes, item: &Item) -> Result<(), NoMemory>
-    requires { FitsItem item.now }
+    requires { IsWritableItem item.now }
     ensures { OnOk result (out.new ≡ out.old ++ item_text item.now) }
 {
     add_u32(out, item.height)?;
@@ -78,7 +78,7 @@ fn add_item(out: &mut Bytes, item: &Item) -> Result<(), NoMemory>
 /// The item before, if there was one.
 #[tactic(auto, unfolding(crate::specs::Text::before_text))]
 fn add_before(out: &mut Bytes, before: &Option<Item>) -> Result<(), NoMemory>
-    requires { FitsBefore before.now }
+    requires { IsWritableBefore before.now }
     ensures { OnOk result (out.new ≡ out.old ++ before_text before.now) }
 {
     match before {
@@ -102,8 +102,8 @@ fn add_change(
     before: &Option<Item>,
 ) -> Result<(), NoMemory>
     requires coin { HasShortName coin.now }
-    requires name { FitsName name.now }
-    requires before { FitsBefore before.now }
+    requires name { IsWritableName name.now }
+    requires before { IsWritableBefore before.now }
     ensures { OnOk result (out.new ≡ out.old ++ tag ∷ change_text (change_of made.now spent.now coin.now name.now before.now)) }
 {
     out.extend(&[tag])?;
@@ -116,7 +116,7 @@ fn add_change(
 
 #[tactic(auto, unfolding(crate::specs::Text::op_text))]
 fn add_op(out: &mut Bytes, op: &UndoOp) -> Result<(), NoMemory>
-    requires { FitsOp op.now }
+    requires { IsWritableOp op.now }
     ensures { OnOk result (out.new ≡ out.old ++ op_text op.now) }
 {
     match op {
@@ -142,7 +142,7 @@ fn add_op(out: &mut Bytes, op: &UndoOp) -> Result<(), NoMemory>
 }
 
 pub(crate) fn add_ops(out: &mut Bytes, ops: &[UndoOp]) -> Result<(), NoMemory>
-    requires { AllByRecursion FitsOp ops.now }
+    requires { AllByRecursion IsWritableOp ops.now }
     ensures { OnOk result (out.new ≡ out.old ++ flat_map op_text ops.now) }
 {
     let mut rest = ops;
@@ -155,7 +155,7 @@ pub(crate) fn add_ops(out: &mut Bytes, ops: &[UndoOp]) -> Result<(), NoMemory>
 
 #[tactic(auto, unfolding(crate::specs::Text::held_text))]
 fn add_held(out: &mut Bytes, held: &HeldCoin) -> Result<(), NoMemory>
-    requires { FitsHeld held.now }
+    requires { IsWritableHeld held.now }
     ensures { OnOk result (out.new ≡ out.old ++ held_text held.now) }
 {
     add_point(out, &held.at)?;
@@ -163,7 +163,7 @@ fn add_held(out: &mut Bytes, held: &HeldCoin) -> Result<(), NoMemory>
 }
 
 pub(crate) fn add_expired(out: &mut Bytes, expired: &[HeldCoin]) -> Result<(), NoMemory>
-    requires { AllByRecursion FitsHeld expired.now }
+    requires { AllByRecursion IsWritableHeld expired.now }
     ensures { OnOk result (out.new ≡ out.old ++ flat_map held_text expired.now) }
 {
     let mut rest = expired;

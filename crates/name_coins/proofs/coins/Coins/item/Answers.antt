@@ -11,3 +11,6 @@ unreachable-requires g c =
     let filled : is_some (lookup (same_point c.in_ok-at.at.now) c.self.inside.places.entries) ≡ is_some (filled_by (lookup (same_point c.in_ok-at.at.now) c.self.inside.places.entries)) =
     rw c.self.view_is (c.requires.filled c.in_ok-at.at.now) in
     true≢false (sym (ap is_some empty) ∙ filled ∙ ap (λ (e : Option (Option Coin)). is_some (filled_by e)) empty)
+
+pub returns-clause-measured : goal.returns-clause-measured
+returns-clause-measured g c = c.self.invariant c.in_ok-at.at.now c.in-Some.coin (ap filled_by c.in_ok-at.ensures.value ∙ c.in-Some.is)

@@ -1,4 +1,4 @@
-use Rattle.std.proofs.Common.{◌≡◌, Option, Some, None, is_some, refl, sym, ◌∙◌, true, false, true≢false}
+use Rattle.std.proofs.Common.{◌≡◌, Option, Some, None, is_some, refl, sym, subst, ◌∙◌, true, false, true≢false}
 use Rattle.std.specs.List.{list_any}
 use Rattle.std.specs.Map.{keys_of}
 use Rattle.std.proofs.lemmas.Map.Made.{is_some-lookup}
@@ -8,6 +8,7 @@ use Rattle.chain_names.specs.Points.{same_point}
 use Rattle.chain_names.specs.Tables.{filled_by}
 use Rattle.chain_names.proofs.Changed.{read_at-changed, read_at-kept}
 use Rattle.chain_names.proofs.Points.{same_point-true}
+use Rattle.chain_names.specs.Measured.{AreCoinsMeasured}
 use Rattle.name_coins.proofs.coins.Coins.place.Goals as goal
 
 -- no place, and so no coin
@@ -31,3 +32,8 @@ returns-else-not-contains_key-clause-list g c =
     let here : list_any (same_point c.args.at) (keys_of c.args.self.now) ≡ true =
     rw (← c.self.view_is) (sym (is_some-lookup (same_point c.args.at) c.self.inside.places.entries) ∙ sym c.if-not-contains_key.ensures) in
     rw here refl
+
+pub invariant_of-self-then-not-contains_key : goal.invariant_of-self-then-not-contains_key
+invariant_of-self-then-not-contains_key g c =
+    let kept = read_at-kept same_point filled_by same_point-true c.self.inside.places.entries _ _ _ c.in_ok-insert.ensures.updates.0 (no_coin _ c.if-not-contains_key.ensures) in
+    subst AreCoinsMeasured (sym kept) c.self.invariant

@@ -9,6 +9,7 @@ use Rattle.name_table.specs.ByBytes.{by_bytes}
 use Rattle.name_table.proofs.ByBytesLemmas.{found}
 use Rattle.name_table.proofs.Readings.{reads, kept, no_items}
 use Rattle.name_table.proofs.KeyLemmas.{inserted_keys}
+use Rattle.name_table.proofs.MeasureLemmas.{measured_reads}
 use Rattle.name_table.proofs.table.Table.add.Goals as goal
 
 pub returns-clause-names : goal.returns-clause-names
@@ -40,3 +41,9 @@ returns-clause-others c =
 pub returns-clause-list : goal.returns-clause-list
 returns-clause-list c =
     rw (c.in_ok-insert.ensures.entries, ← c.self.view_is, ← c.in_ok-key.ensures.items) (inserted_keys c.self.inside.places.entries c.in_ok-key.key c.reserve.new.self)
+
+pub invariant_of-self-2 : goal.invariant_of-self-2
+invariant_of-self-2 c =
+    let updates = c.in_ok-insert.ensures.updates in
+    let items : c.reserve.new.self.items ≡ [] = c.reserve.ensures.items ∙ ap (λ (h : Roomy Item). h.items) c.new-history.ensures in
+    measured_reads c.self.inside.places.entries _ c.in_ok-key.key.items _ updates.1 updates.3 c.self.invariant (rw items tt)

@@ -10,6 +10,7 @@ use Rattle.name_table.proofs.ByBytesLemmas.{found}
 use Rattle.name_table.proofs.EntryLemmas.{popped-entry, popped-rest}
 use Rattle.name_table.proofs.Readings.{reads, kept}
 use Rattle.name_table.proofs.KeyLemmas.{same_keys}
+use Rattle.name_table.proofs.MeasureLemmas.{measured_reads, measured_entry, all-without_entry}
 use Rattle.name_table.proofs.table.Table.pop.Goals as goal
 
 pub returns-in_err-history-clause-value : goal.returns-in_err-history-clause-value
@@ -55,3 +56,11 @@ returns-clause-room g c =
 
 pub returns-clause-list : goal.returns-clause-list
 returns-clause-list g c = rw (← c.self.view_is) (same_keys c.self.inside.places.entries _ (c.get_mut.follows.holds c.pop.new.self).1)
+
+pub invariant_of-self-2 : goal.invariant_of-self-2
+invariant_of-self-2 g c =
+    let entries = c.self.inside.places.entries in
+    let wrote = (c.get_mut.follows.holds c.pop.new.self).3 (sym (ap is_some c.in_ok-history.ensures.value)) in
+    let before = measured_entry entries c.args.name.now _ (sym c.in_ok-history.ensures.value) c.self.invariant in
+    let rest = popped-rest c.pop.result c.in_ok-history.history.now c.pop.new.self c.pop.ensures.some c.pop.ensures.none c.pop.ensures.same in
+    measured_reads entries _ c.args.name.now _ wrote.1 wrote.3 c.self.invariant (rw rest (all-without_entry _ before))

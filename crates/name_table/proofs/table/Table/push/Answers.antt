@@ -6,6 +6,9 @@ use Rattle.name_table.specs.ByBytes.{by_bytes}
 use Rattle.name_table.proofs.ByBytesLemmas.{found}
 use Rattle.name_table.proofs.Readings.{reads, kept}
 use Rattle.name_table.proofs.KeyLemmas.{same_keys}
+use Rattle.name_table.proofs.MeasureLemmas.{measured_reads, measured_entry}
+use Rattle.nmc_base.proofs.ListLemmas.{all-more}
+use Rattle.chain_names.specs.Measured.{IsMeasuredItem}
 use Rattle.name_table.proofs.table.Table.push.Goals as goal
 
 pub push-requires : goal.push-requires
@@ -47,3 +50,10 @@ returns-clause-room g c =
 
 pub returns-clause-list : goal.returns-clause-list
 returns-clause-list g c = rw (← c.self.view_is) (same_keys c.self.inside.places.entries _ (c.get_mut.follows.holds c.push.new.self).1)
+
+pub invariant_of-self : goal.invariant_of-self
+invariant_of-self g c =
+    let entries = c.self.inside.places.entries in
+    let wrote = (c.get_mut.follows.holds c.push.new.self).3 (sym (ap is_some c.in-Some.ensures.value)) in
+    let before = measured_entry entries c.args.name.now _ (sym c.in-Some.ensures.value) c.self.invariant in
+    measured_reads entries _ c.args.name.now _ wrote.1 wrote.3 c.self.invariant (rw c.push.ensures.items (all-more IsMeasuredItem _ c.args.item before c.read_widths.ensures))

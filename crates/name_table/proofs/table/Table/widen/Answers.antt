@@ -9,6 +9,7 @@ use Rattle.chain_names.proofs.Changed.{set_value-same}
 use Rattle.name_table.proofs.ByBytesLemmas.{has_bytes, found}
 use Rattle.name_table.proofs.Readings.{reads, kept}
 use Rattle.name_table.proofs.KeyLemmas.{same_keys}
+use Rattle.name_table.proofs.MeasureLemmas.{measured_reads, measured_entry}
 use Rattle.name_table.proofs.table.Table.widen.Goals as goal
 
 pub unreachable-requires : goal.unreachable-requires
@@ -63,3 +64,10 @@ returns-clause-err c =
 
 pub returns-clause-list : goal.returns-clause-list
 returns-clause-list c = rw (← c.self.view_is) (same_keys c.self.inside.places.entries _ (c.get_mut.follows.holds c.reserve.new.self).1)
+
+pub invariant_of-self : goal.invariant_of-self
+invariant_of-self c =
+    let entries = c.self.inside.places.entries in
+    let wrote = (c.get_mut.follows.holds c.reserve.new.self).3 (sym (ap is_some c.in-Some.ensures.value)) in
+    let before = measured_entry entries c.args.name.now _ (sym c.in-Some.ensures.value) c.self.invariant in
+    measured_reads entries _ c.args.name.now _ wrote.1 wrote.3 c.self.invariant (rw c.reserve.ensures.items before)
