@@ -16,7 +16,7 @@ use Rattle.chain_names.proofs.Points.{same_point-Decides, same_point-comm}
 use Rattle.chain_names.proofs.QueueLemmas.{queue_of-still}
 use Rattle.chain_names.proofs.Shown.{true_is_not_false}
 use Rattle.chain_names.specs.Fits.{IsMadeUnnamed, IsMadeNamed, IsUndoable, AreUndoable}
-use Rattle.chain_state.specs.Tables.{maps_by}
+use Rattle.name_tables.specs.Tables.{maps_by}
 use Rattle.name_tables.specs.Places.{spends, spends_at}
 use Rattle.chain_state.specs.Work.{HasSpentPlace, HasSpentRow, may_be_empty, may_be_empty_at, IsWork, IsNameUndo}
 use Rattle.chain_state.specs.declared.work.Work.{Work}

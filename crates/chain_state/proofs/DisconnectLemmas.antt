@@ -1,12 +1,11 @@
 -- The newest block of a chain is disconnected.
-use Rattle.std.proofs.Common.{◌≡◌, ℕ, zero, suc, ◌+◌, ◌-◌, ◌*◌, ◌≤◌, Bool, true, false, nat_lt, not, ◌&&◌, List, [], ◌∷◌, ◌++◌, map, length, refl, sym, ap, subst, ◌∙◌, arith}
+use Rattle.std.proofs.Common.{◌≡◌, ℕ, zero, suc, ◌+◌, ◌-◌, ◌*◌, ◌≤◌, Bool, true, false, not, ◌&&◌, List, [], ◌∷◌, ◌++◌, map, length, refl, sym, ap, subst, ◌∙◌, arith}
 use Rattle.std.specs.Str.{bytes_eq}
 use Rattle.std.proofs.lemmas.List.{length-map, length-reverse}
-use Rattle.std.proofs.lemmas.Bool.Decides.{nat_tests}
-use Rattle.std.specs.Prelude.{Some, None, ◌||◌, slice_get}
+use Rattle.std.specs.Prelude.{Option, None, Some, None, ◌||◌, slice_get}
 use Rattle.std.specs.List.{list_any, AllByRecursion}
 use Rattle.nmc_base.specs.Roomy.{Roomy}
-use Rattle.nmc_base.specs.Expiry.{expiry_depth}
+use Rattle.nmc_base.specs.Expiry.{due_height}
 use Rattle.nmc_base.specs.declared.chain_ends.Base.{Base}
 use Rattle.nmc_base.specs.declared.chain_ends.Tip.{Tip}
 use Rattle.nmc_base.specs.declared.chain_ends.Profile.{Profile}
@@ -26,16 +25,15 @@ use Rattle.chain_names.proofs.UndoableLemmas.{fit_allows, expired-row, expired-n
 use Rattle.chain_names.specs.Seen.{seen_undo}
 use Rattle.chain_names.specs.declared.undo.Undo.{Undo}
 use Rattle.name_tables.specs.Tables.{HoldSame, AreFilled}
-use Rattle.chain_state.specs.Tables.{maps_by}
+use Rattle.name_tables.specs.Tables.{maps_by}
 use Rattle.name_tables.specs.Places.{spends, spends_at, is_queued_at}
 use Rattle.chain_state.specs.Work.{HasSpentPlace, HasSpentRow}
 use Rattle.chain_state.specs.Whole.{IsWhole, maps_before_block}
 use Rattle.name_tables.specs.Expiring.{CanReturn}
 use Rattle.name_tables.specs.Room.{IsPlaced, HasRoom}
-use Rattle.chain_state.specs.Chain.{Indexed, IsIndexed, SameIndex, index_of, newest_first, newest_hash}
+use Rattle.chain_state.specs.Chain.{Indexed, IsIndexed, SameIndex, index_of, newest_hash}
+use Rattle.name_tables.specs.Parts.{newest_first}
 use Rattle.chain_names.specs.Writable.{IsWritable}
-use Rattle.chain_state.specs.Measure.{AreMeasured}
-use Rattle.chain_state.proofs.MeasureLemmas.{undone_measured}
 use Rattle.chain_state.specs.Back.{block_work, IsStagedBack}
 use Rattle.chain_state.specs.StageBack.{IsBackRefusal, IsDisconnected, newest_work, back_commit_steps}
 use Rattle.chain_state.specs.declared.back.BackRefusal.TheVariants.{AtBase, NotTip}
@@ -123,7 +121,7 @@ room_for {ops = ops} {now = now} {expired = expired} {helds = helds} before afte
     subst (λ es. HasRoom before after ops es empty) same_helds (subst (λ os. HasRoom before after os helds empty) same_ops has)
 
 -- coins that expired with the tip can be put back into the row that is due
-can_return : (c : Indexed) (tables : Tables) (row : ℕ) → HoldSame c.tables tables → row + expiry_depth c.base.profile (suc c.tip.height) ≡ suc c.tip.height → (helds : List HeldCoin)
+can_return : (c : Indexed) (tables : Tables) (row : ℕ) → HoldSame c.tables tables → due_height c.base.profile (suc c.tip.height) ≡ Some row → (helds : List HeldCoin)
     → AllByRecursion (IsJustExpired c.base.profile c.tip.height (maps_by c.tables)) helds → AllByRecursion (IsPlaced is_held_at is_queued_at tables) helds → AllByRecursion (CanReturn tables row) helds
 can_return c tables row same due [] expired placed = tt
 can_return c tables row same due (first ∷ helds) expired placed =
@@ -148,16 +146,12 @@ module _ (c : Indexed) (indexed : IsIndexed c) (undo : UndoRecord) (below : List
   sound_here : IsSound profile c.base.height c.tip.height (maps_by c.tables) (undo ∷ below)
   sound_here = subst (IsSound profile c.base.height c.tip.height (maps_by c.tables)) undos_are indexed.sound
 
-  returns : (b : Bool) → nat_lt (suc c.tip.height) (expiry_depth profile (suc c.tip.height)) ≡ b → (row : ℕ) × AllByRecursion (CanReturn tables row) undo.expired
-  returns true high =
-      (0, subst (AllByRecursion (CanReturn tables 0)) (sym (expired-none profile c.tip.height (maps_by c.tables) undo.expired (grind (arith, nat_tests, high)) sound_here.1.fits.expired)) tt)
-  returns false low = (
-    suc c.tip.height - expiry_depth profile (suc c.tip.height),
-    can_return c tables (suc c.tip.height - expiry_depth profile (suc c.tip.height)) has.same (grind (arith, nat_tests, low)) undo.expired sound_here.1.fits.expired has.held,
-  )
+  returns : (due : Option ℕ) → due_height profile (suc c.tip.height) ≡ due → (row : ℕ) × AllByRecursion (CanReturn tables row) undo.expired
+  returns None undue = (0, subst (AllByRecursion (CanReturn tables 0)) (sym (expired-none profile c.tip.height (maps_by c.tables) undo.expired undue sound_here.1.fits.expired)) tt)
+  returns (Some row) due = (row, can_return c tables row has.same due undo.expired sound_here.1.fits.expired has.held)
 
   returning : (row : ℕ) × AllByRecursion (CanReturn tables row) undo.expired
-  returning = returns (nat_lt (suc c.tip.height) (expiry_depth profile (suc c.tip.height))) refl
+  returning = returns (due_height profile (suc c.tip.height)) refl
 
   work_back : (ops : Roomy UndoOp) (expired : Roomy HeldCoin)
       → IsWhole (block_work tables (record { items = undo.ops; spare = ops.spare }) (record { items = undo.expired; spare = expired.spare }) empty c.tip.height)
@@ -188,7 +182,6 @@ module _ (c : Indexed) (indexed : IsIndexed c) (undo : UndoRecord) (below : List
         (subst (λ os. IsWhole (block_work tables (record { items = os; spare = ops.spare }) (record { items = undo.expired; spare = expired.spare }) empty c.tip.height)) (sym ops_are) (work_back ops expired));
     hash = indexed.hash ∙ ap (newest_hash c.base) undos_are;
     sound = subst (λ m. IsSound profile c.base.height c.tip.height m (undo ∷ below)) (sym maps_same) sound_here;
-    measured = subst AreMeasured (sym maps_same) indexed.measured;
     writable = subst (AllByRecursion IsWritable) undos_are indexed.writable;
   }
 
@@ -243,7 +236,6 @@ module _ (base : Base) (tip : Tip) (tables : Tables) (undos : Roomy Undo) (empty
     filled = filled;
     sound = subst (IsSound base.profile base.height tip.height (maps_by after)) (sym staged.undos_are)
         (subst (λ m. IsSound base.profile base.height tip.height m (staged.undo ∷ staged.below)) (sym same) staged.sound);
-    measured = subst AreMeasured (sym same) staged.measured;
     writable = subst (AllByRecursion IsWritable) (sym staged.undos_are) staged.writable;
   }
 
@@ -283,7 +275,6 @@ module _ (base : Base) (tip : Tip) (tables : Tables) (undos : Roomy Undo) (after
     queue = u.queue;
     filled = u.filled;
     sound = sound_now;
-    measured = subst AreMeasured (sym u.maps) (undone_measured (seen_undo u.undo) (maps_by tables) writable_was.0 u.staged.measured);
     writable = writable_was.1;
   }
 

@@ -15,7 +15,7 @@ use Rattle.chain_names.proofs.Shown.{true_is_not_false}
 use Rattle.chain_names.specs.Fits.{AreUndoable}
 use Rattle.name_tables.specs.Tables.{HoldSame}
 use Rattle.name_tables.specs.Moving.{MayHavePlaces}
-use Rattle.chain_state.specs.Tables.{maps_by}
+use Rattle.name_tables.specs.Tables.{maps_by}
 use Rattle.name_tables.specs.Places.{spends}
 use Rattle.chain_state.specs.Work.{HasSpentPlace, HasSpentRow, may_be_empty, may_be_empty_at, IsWork, Halts}
 use Rattle.name_tables.specs.declared.tables.Tables.{Tables}

@@ -8,6 +8,7 @@ use Rattle.std.specs.Cmp.{unsigned_Decides}
 use Rattle.nmc_base.specs.declared.hashes.OutPoint.{OutPoint}
 use Rattle.nmc_base.proofs.ListLemmas.{all-more, all-weaker}
 use Rattle.chain_names.specs.declared.coin.Coin.{Coin}
+use Rattle.chain_names.specs.declared.coin.Item.{Item}
 use Rattle.chain_names.specs.declared.coin.Coin.TheVariants.{Named}
 use Rattle.chain_names.specs.declared.undo.UndoOp.{UndoOp}
 use Rattle.chain_names.specs.Points.{same_point, changed}
@@ -21,7 +22,7 @@ use Rattle.chain_names.proofs.Filled.{filled-weaker, filled-taken}
 use Rattle.chain_names.proofs.Shown.{true_is_not_false}
 use Rattle.chain_names.proofs.UndoLemmas.{moved_and_back}
 use Rattle.chain_names.specs.Fits.{AreUndoable}
-use Rattle.chain_state.specs.Tables.{maps_by}
+use Rattle.name_tables.specs.Tables.{maps_by}
 use Rattle.name_tables.specs.Places.{spends, spends_at}
 use Rattle.name_tables.specs.declared.moving.Shift.{Shift}
 use Rattle.name_tables.specs.Moving.{Shifts}
@@ -84,6 +85,10 @@ row_of_other coins v spent q coin false is held free named = named
 
 -- ---- a move
 
+-- the value that a block of a height gives a name
+abbrev pub given_item : ℕ → ℕ → OutPoint → List ℕ → Item
+given_item height registered made value = record { height = height; registered = registered; at = made; value = value }
+
 -- a name moved on the tables, and the operation that undoes it was noted
 pub record IsMove (w now : Work) : Type 0 where
   pub op : UndoOp
@@ -91,24 +96,25 @@ pub record IsMove (w now : Work) : Type 0 where
   pub spent : OutPoint
   pub name : List ℕ
   pub value : List ℕ
+  pub registered : ℕ
   pub left : Shift
   pub work : IsWork w
   pub fresh : coins_in w.tables.coins made ≡ None
   pub is_undo : IsNameUndo w.height op made spent left.coin name
-  pub shifts : Shifts w.tables now.tables spent made name value w.height left
+  pub shifts : Shifts w.tables now.tables spent name (given_item w.height registered made value) left
   pub ops_are : now.ops.items ≡ w.ops.items ++ op ∷ []
   pub empty_is : now.empty.items ≡ w.empty.items
   pub height : now.height ≡ w.height
   pub room : length now.ops.items + 1 ≤ now.empty.spare
 
 module _ (w now : Work) (m : IsMove w now) where
-  move_maps : maps_by now.tables ≡ moved (maps_by w.tables) w.height m.spent m.made m.name m.value
+  move_maps : maps_by now.tables ≡ moved (maps_by w.tables) m.spent m.name (given_item w.height m.registered m.made m.value)
   move_maps = λ i. record { coins = m.shifts.coins i; names = m.shifts.names i }
 
   move_back : back_op m.op (maps_by now.tables) ≡ maps_by w.tables
   move_back =
-      ap (back_op m.op) move_maps ∙ m.is_undo.back (moved (maps_by w.tables) w.height m.spent m.made m.name m.value)
-      ∙ moved_and_back (maps_by w.tables) w.height m.spent m.made m.name m.value m.left.coin m.fresh m.shifts.held
+      ap (back_op m.op) move_maps ∙ m.is_undo.back (moved (maps_by w.tables) m.spent m.name (given_item w.height m.registered m.made m.value))
+      ∙ moved_and_back (maps_by w.tables) m.spent m.name (given_item w.height m.registered m.made m.value) m.left.coin m.fresh m.shifts.held
 
   apart : same_point m.made m.spent ≡ false
   apart = points_apart (coins_in w.tables.coins) m.made m.spent m.left.coin m.fresh m.shifts.held (same_point m.made m.spent) refl
@@ -195,8 +201,8 @@ module _ (w now : Work) (m : IsMove w now) where
   -- ---- names
 
   name_filled : (n : List ℕ) (b : Bool)
-      → cond b true (name_places w.tables.names n) ≡ is_some (entry_of (cond b (names_in w.tables.names m.name ++ record { height = w.height; at = m.made; value = m.value } ∷ []) (names_in w.tables.names n)))
-  name_filled n true = sym (ap is_some (entry_of-more (names_in w.tables.names m.name) (record { height = w.height; at = m.made; value = m.value })))
+      → cond b true (name_places w.tables.names n) ≡ is_some (entry_of (cond b (names_in w.tables.names m.name ++ (given_item w.height m.registered m.made m.value) ∷ []) (names_in w.tables.names n)))
+  name_filled n true = sym (ap is_some (entry_of-more (names_in w.tables.names m.name) (given_item w.height m.registered m.made m.value)))
   name_filled n false = m.work.names_filled n
 
   move_names : AreNamesFilled now.tables.names
@@ -240,7 +246,7 @@ module _ (w now : Work) (m : IsMove w now) where
       (λ placed. ap (λ q. q height point) (sym m.work.queue) ∙ m.work.queue_filled height point placed (empty_at-weaker w.height w.ops.items m.op w.empty.items height point both))
       (ap (λ r. r height point) (sym m.shifts.rows) ∙ here) (same_point m.made point) refl
 
-  pub move_advances : Advances w now (m.op ∷ []) (moved (maps_by w.tables) w.height m.spent m.made m.name m.value)
+  pub move_advances : Advances w now (m.op ∷ []) (moved (maps_by w.tables) m.spent m.name (given_item w.height m.registered m.made m.value))
   move_advances = record {
     maps = move_maps;
     ops = m.ops_are;

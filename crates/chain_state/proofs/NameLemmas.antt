@@ -11,11 +11,11 @@ use Rattle.chain_names.specs.declared.undo.UndoOp.TheVariants.{First as undo_fir
 use Rattle.chain_names.specs.Coins.{entry_of}
 use Rattle.chain_names.specs.Changes.{moved, with_spent}
 use Rattle.chain_names.specs.Tables.{coins_in, names_in}
-use Rattle.chain_state.specs.Tables.{maps_by}
+use Rattle.name_tables.specs.Tables.{maps_by}
 use Rattle.chain_state.specs.Work.{IsWork, IsNameUndo, Advances, ShiftsOnly, undo_of_opening, undo_of_update}
 use Rattle.name_tables.specs.declared.moving.Shift.{Shift}
 use Rattle.chain_state.specs.declared.work.Work.{Work}
-use Rattle.chain_state.proofs.MoveLemmas.{move_advances}
+use Rattle.chain_state.proofs.MoveLemmas.{given_item, move_advances}
 
 -- the undo operation of the coin that is there
 with_the_coin : (undo : Coin → UndoOp) (slot : Option Coin) (coin : Coin) → slot ≡ Some coin → with_spent undo slot ≡ undo coin ∷ []
@@ -34,10 +34,11 @@ pub record IsShifted (w mid : Work) : Type 0 where
   pub spent : OutPoint
   pub name : List ℕ
   pub value : List ℕ
+  pub registered : ℕ
   pub left : Shift
   pub work : IsWork w
   pub fresh : coins_in w.tables.coins made ≡ None
-  pub shifts : ShiftsOnly w mid spent made name value left
+  pub shifts : ShiftsOnly w mid spent name (given_item w.height registered made value) left
 
 module _ (w mid : Work) (ops : Roomy UndoOp) (s : IsShifted w mid) where
   abbrev Entry : Option Item
@@ -47,7 +48,7 @@ module _ (w mid : Work) (ops : Roomy UndoOp) (s : IsShifted w mid) where
   Noted = record { tables = mid.tables; ops = ops; empty = mid.empty; height = mid.height }
 
   abbrev Moves : List UndoOp → Type 0
-  Moves undo = Advances w Noted undo (moved (maps_by w.tables) w.height s.spent s.made s.name s.value)
+  Moves undo = Advances w Noted undo (moved (maps_by w.tables) s.spent s.name (given_item w.height s.registered s.made s.value))
 
   -- with an operation that moves the name
   shifted : (op : UndoOp) → ops.items ≡ mid.ops.items ++ op ∷ [] → IsNameUndo w.height op s.made s.spent s.left.coin s.name → Moves (op ∷ [])
@@ -59,6 +60,7 @@ module _ (w mid : Work) (ops : Roomy UndoOp) (s : IsShifted w mid) where
         spent = s.spent;
         name = s.name;
         value = s.value;
+        registered = s.registered;
         left = s.left;
         work = s.work;
         fresh = s.fresh;

@@ -19,7 +19,7 @@ use Rattle.nmc_base.specs.declared.limits.TheConstants.{LONGEST_BLOCK}
 use Rattle.chain_names.specs.Expired.{IsDue}
 use Rattle.chain_names.specs.UndoOf.{hash_read, IsUndoOf, AreUndos}
 use Rattle.chain_names.proofs.IndexLemmas.{undo_by_maps, index_undone}
-use Rattle.chain_state.specs.Tables.{maps_by}
+use Rattle.name_tables.specs.Tables.{maps_by}
 use Rattle.chain_state.specs.Chain.{Indexed, IsAtStart, SameIndex, StagedIndex, rule_refused, IsStagedOn, IsConnected, IsAbandoned, staged_undo, newest_hash}
 use Rattle.chain_state.specs.StageBack.{IsStagedBackOn, IsDisconnected}
 use Rattle.chain_state.specs.Standing.{hash_of, chain_maps, IsValidOn, StandsForChain}

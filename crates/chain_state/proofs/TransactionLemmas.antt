@@ -13,7 +13,7 @@ use Rattle.chain_names.specs.Verdict.{Verdict, plain, commits, opens, updates, r
 use Rattle.chain_names.specs.Changes.{Refused, refused_or, undo_of_verdict, after_transaction, after_all, undo_ops, first_refused, back_ops}
 use Rattle.chain_names.proofs.Shown.{is_refused}
 use Rattle.chain_names.proofs.UndoLemmas.{transaction_back, back_ops-append}
-use Rattle.chain_state.specs.Tables.{maps_by}
+use Rattle.name_tables.specs.Tables.{maps_by}
 use Rattle.chain_state.specs.Work.{Halts}
 use Rattle.chain_state.specs.Block.{IsReady, HasFewOutputs, Applied, Declined, AppliedAll, DeclinedAll, Stopped}
 use Rattle.chain_state.specs.declared.work.Work.{Work}

@@ -6,7 +6,7 @@ use Rattle.nmc_base.specs.declared.chain_ends.Tip.{Tip}
 use Rattle.chain_names.specs.Changes.{undone}
 use Rattle.chain_names.specs.Undo.{UndoRecord}
 use Rattle.chain_names.proofs.OneRecordLemmas.{one_undo-chain}
-use Rattle.chain_state.specs.Tables.{maps_by}
+use Rattle.name_tables.specs.Tables.{maps_by}
 use Rattle.chain_state.specs.Chain.{Indexed, IsIndexed, SameIndex, StagedIndex, IsStagedOn, IsConnected, staged_undo, newest_hash}
 use Rattle.chain_state.proofs.DisconnectLemmas.{first_same, rest_same}
 use Rattle.chain_state.specs.Standing.{StandsForChain}

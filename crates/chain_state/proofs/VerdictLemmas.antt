@@ -1,5 +1,5 @@
 -- A transaction was accepted, and did what its verdict says.
-use Rattle.std.proofs.Common.{◌≡◌, ℕ, suc, ◌≤◌, false, List, ◌++◌, sym, ap, subst, ◌∙◌}
+use Rattle.std.proofs.Common.{◌≡◌, ℕ, ◌≤◌, false, List, ◌++◌, sym, ap, subst, ◌∙◌}
 use Rattle.block_grammar.specs.Transaction.{Transaction, txid_of}
 use Rattle.nmc_base.specs.Heights.{highest}
 use Rattle.nmc_base.specs.declared.hashes.Hash32.{Hash32}
@@ -7,11 +7,13 @@ use Rattle.nmc_base.specs.declared.chain_ends.Profile.{Profile}
 use Rattle.chain_names.specs.Verdict.{Verdict, verdict}
 use Rattle.chain_names.specs.Changes.{after_verdict, undo_of_verdict}
 use Rattle.chain_names.proofs.Shown.{is_refused, true_is_not_false}
-use Rattle.chain_state.specs.Tables.{maps_by, IsStanding}
+use Rattle.name_tables.specs.Tables.{maps_by}
 use Rattle.chain_state.specs.Work.{Advances}
 use Rattle.chain_state.specs.Block.{IsReady, Applied}
 use Rattle.chain_state.specs.declared.work.Work.{Work}
-use Rattle.chain_state.proofs.StandLemmas.{verdict_standing}
+use Rattle.chain_names.proofs.StandLemmas.{Stands}
+use Rattle.chain_names.proofs.UndoneBlockLemmas.{verdict_stands}
+use Rattle.chain_names.proofs.Meanings.{verdict_means}
 
 abbrev pub AdvancesBy : ℕ → List ℕ → Verdict → Work → Work → Type 0
 AdvancesBy height txid v old new = Advances old new (undo_of_verdict (maps_by old.tables) txid v) (after_verdict (maps_by old.tables) height txid v)
@@ -30,9 +32,9 @@ applied profile old new t ready v is kept advances =
         work = advances.work;
         none_empty = advances.empty ∙ ready.none_empty;
         low = subst (λ h. h ≤ highest) (sym advances.height) ready.low;
-        standing = subst (λ h. IsStanding profile h (suc h) (maps_by new.tables)) (sym advances.height)
-            (subst (IsStanding profile old.height (suc old.height)) (sym maps_are)
-            (verdict_standing profile old.height maps (txid_of t) (verdict profile maps old.height t) ready.standing));
+        standing = subst (λ h. Stands profile h h (maps_by new.tables)) (sym advances.height)
+            (subst (Stands profile old.height old.height) (sym maps_are)
+            (verdict_stands profile old.height maps t (verdict profile maps old.height t) (verdict_means profile maps old.height t) ready.standing));
       };
     }
 

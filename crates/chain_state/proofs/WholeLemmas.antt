@@ -1,5 +1,5 @@
 -- A block's work is whole, and is undone.
-use Rattle.std.proofs.Common.{◌≡◌, ℕ, suc, ◌+◌, ◌<◌, Bool, true, false, cond, ◌&&◌, List, [], ◌∷◌, refl, sym, ap, subst, ◌∙◌}
+use Rattle.std.proofs.Common.{◌≡◌, ℕ, suc, Bool, true, false, cond, ◌&&◌, List, [], ◌∷◌, refl, sym, ap, subst, ◌∙◌}
 use Rattle.std.proofs.Math.Path.{fun_ext}
 use Rattle.std.specs.Prelude.{Option, Some, None, ◌||◌, ◌==◌}
 use Rattle.std.specs.Option.{is_some}
@@ -7,7 +7,7 @@ use Rattle.std.specs.List.{list_any, AllByRecursion}
 use Rattle.std.specs.List.Sorted.{IsStrictlySortedBy}
 use Rattle.std.specs.Cmp.{unsigned_Decides}
 use Rattle.nmc_base.specs.Roomy.{Roomy}
-use Rattle.nmc_base.specs.Expiry.{expiry_depth}
+use Rattle.nmc_base.specs.Expiry.{due_height}
 use Rattle.nmc_base.specs.declared.chain_ends.Profile.{Profile}
 use Rattle.nmc_base.specs.declared.hashes.OutPoint.{OutPoint}
 use Rattle.chain_names.specs.declared.coin.Coin.{Coin}
@@ -20,7 +20,10 @@ use Rattle.chain_names.proofs.Points.{same_point-Decides}
 use Rattle.chain_names.proofs.DueLemmas.{unless_expired-row, unless_expired-none}
 use Rattle.chain_names.proofs.Shown.{true_is_not_false}
 use Rattle.chain_names.specs.Fits.{AreUndoable}
-use Rattle.chain_state.specs.Tables.{maps_by}
+use Rattle.chain_names.specs.Coins.{Maps, unless_expired}
+use Rattle.chain_names.proofs.StandLemmas.{Stands}
+use Rattle.chain_names.proofs.FitLemmas.{standing_live}
+use Rattle.name_tables.specs.Tables.{maps_by}
 use Rattle.chain_state.specs.Block.{IsReady}
 use Rattle.name_tables.specs.Places.{spends, spends_at, is_queued_at}
 use Rattle.chain_state.specs.Work.{may_be_empty, may_be_empty_at, IsWork}
@@ -197,11 +200,16 @@ same_row row height None a b = absurd (true_is_not_false (sym a))
 same_row row height (Some (New hash made)) a b = absurd (true_is_not_false (sym a))
 same_row row height (Some (Named name made)) a b = sym ((unsigned_Decides made row).0 a) ∙ (unsigned_Decides made height).0 b
 
+-- a coin that stands isn't expired
+lives : (profile : Profile) (height : ℕ) (maps : Maps) → Stands profile height height maps → (point : OutPoint) (slot : Option Coin) → maps.coins point ≡ slot → unless_expired profile height slot ≡ slot
+lives profile height maps stands point None is = refl
+lives profile height maps stands point (Some coin) is = standing_live profile height maps point coin stands is
+
 -- the coins of the row that is due expired after the block
 pub record HasExpired (profile : Profile) (old : Work) (tables : Tables) (expired : Roomy HeldCoin) : Type 0 where
   pub ready : IsReady profile old
   pub row : ℕ
-  pub due : row + expiry_depth profile (suc old.height) ≡ suc old.height
+  pub due : due_height profile (suc old.height) ≡ Some row
   pub gone : Expires old.tables tables row expired.items
 
 module _ (profile : Profile) (old : Work) (tables : Tables) (expired : Roomy HeldCoin) (e : HasExpired profile old tables expired) where
@@ -217,7 +225,7 @@ module _ (profile : Profile) (old : Work) (tables : Tables) (expired : Roomy Hel
 
   done_maps : maps_by tables ≡ without_expired profile (suc old.height) (maps_by old.tables)
   done_maps = λ i. record {
-    coins = (e.gone.coins ∙ fun_ext (λ point. sym (unless_expired-row profile old.height e.row (coins_in old.tables.coins point) e.due (ap (λ f. f point) e.ready.standing.live)))) i;
+    coins = (e.gone.coins ∙ fun_ext (λ point. sym (unless_expired-row profile old.height e.row (coins_in old.tables.coins point) e.due (lives profile old.height (maps_by old.tables) e.ready.standing point (coins_in old.tables.coins point) refl)))) i;
     names = names_in (e.gone.names i);
   }
 
@@ -309,13 +317,13 @@ or_false : (b : Bool) → (b || false) ≡ b
 or_false true = refl
 or_false false = refl
 
-pub finished_none : (profile : Profile) (old : Work) (expired : Roomy HeldCoin) → IsReady profile old → suc old.height < expiry_depth profile (suc old.height) → expired.items ≡ []
+pub finished_none : (profile : Profile) (old : Work) (expired : Roomy HeldCoin) → IsReady profile old → due_height profile (suc old.height) ≡ None → expired.items ≡ []
     → Finishes profile old (record { work = old; expired = expired })
 unfolding IsStrictlySortedBy
-finished_none profile old expired ready high none = record {
+finished_none profile old expired ready undue none = record {
   height = refl;
   ops = refl;
-  maps = λ i. record { coins = fun_ext (λ point. sym (unless_expired-none profile old.height (coins_in old.tables.coins point) high)) i; names = names_in old.tables.names };
+  maps = λ i. record { coins = fun_ext (λ point. sym (unless_expired-none profile old.height (coins_in old.tables.coins point) undue (lives profile old.height (maps_by old.tables) ready.standing point (coins_in old.tables.coins point) refl))) i; names = names_in old.tables.names };
   before = ap (λ es. back_ops old.ops.items (maps_returned old.tables es)) none;
   due = record {
     each = subst (AllByRecursion (IsGone (coins_in old.tables.coins) (coins_in old.tables.coins))) (sym none) tt;

@@ -22,7 +22,7 @@ use Rattle.chain_names.proofs.Filled.{filled-weaker}
 use Rattle.chain_names.proofs.Shown.{true_is_not_false}
 use Rattle.chain_names.proofs.UndoLemmas.{back_ops-append}
 use Rattle.chain_names.specs.Fits.{IsUndoable, AreUndoable}
-use Rattle.chain_state.specs.Tables.{maps_by}
+use Rattle.name_tables.specs.Tables.{maps_by}
 use Rattle.name_tables.specs.Places.{spends, spends_at}
 use Rattle.chain_state.specs.Work.{HasSpentPlace, HasSpentRow, may_be_empty, may_be_empty_at, IsWork, Advances, with_commitment}
 use Rattle.chain_state.specs.declared.work.Work.{Work}

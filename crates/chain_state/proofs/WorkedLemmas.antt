@@ -8,7 +8,7 @@ use Rattle.chain_names.specs.Changes.{undo_ops, back_ops}
 use Rattle.chain_names.specs.Tables.{coins_in, queued_in, queue_of}
 use Rattle.chain_names.proofs.BlockLemmas.{all_back}
 use Rattle.name_tables.specs.Tables.{AreFilled}
-use Rattle.chain_state.specs.Tables.{maps_by}
+use Rattle.name_tables.specs.Tables.{maps_by}
 use Rattle.chain_state.specs.Block.{AppliedAll}
 use Rattle.chain_state.specs.Cost.{owed_for, all_touched}
 use Rattle.chain_state.specs.Work.{maps_before}

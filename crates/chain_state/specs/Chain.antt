@@ -1,5 +1,5 @@
 -- The index of a chain: its base and tip, what its tables say, and what undoes its blocks.
-use Rattle.std.specs.Prelude.{◌≡◌, suc, ◌<◌, List, [], ◌∷◌, map, reverse, Option, None}
+use Rattle.std.specs.Prelude.{◌≡◌, suc, ◌<◌, List, [], ◌∷◌, Option, None}
 use Rattle.block_grammar.specs.Block.{Block}
 use Rattle.block_grammar.specs.Merkle.{block_root}
 use Rattle.block_grammar.specs.Header.{header_hash}
@@ -16,13 +16,12 @@ use Rattle.chain_names.specs.Undo.{UndoRecord}
 use Rattle.std.specs.List.{AllByRecursion}
 use Rattle.chain_names.specs.Expired.{IsDue, IsSortedByPoint}
 use Rattle.chain_names.specs.Sound.{IsBeginning, IsSound}
-use Rattle.chain_names.specs.Seen.{seen_undo}
-use Rattle.chain_state.specs.declared.parts.Parts.{Parts}
+use Rattle.name_tables.specs.declared.parts.Parts.{Parts}
 use Rattle.chain_names.specs.declared.undo.Undo.{Undo}
 use Rattle.chain_names.specs.Writable.{IsWritable}
-use Rattle.chain_state.specs.Measure.{AreMeasured}
+use Rattle.name_tables.specs.Parts.{newest_first, tables_of}
 use Rattle.name_tables.specs.Tables.{AreFilled}
-use Rattle.chain_state.specs.Tables.{maps_by}
+use Rattle.name_tables.specs.Tables.{maps_by}
 use Rattle.chain_state.specs.Whole.{IsWhole, maps_before_block}
 use Rattle.name_tables.specs.declared.tables.Tables.{Tables}
 use Rattle.chain_state.specs.declared.whole.Whole.{Whole}
@@ -33,13 +32,6 @@ pub record Indexed : Type 0 where
   pub tables : Tables
   -- what undoes its blocks, the newest first
   pub undos : List UndoRecord
-
--- the records as the code keeps them, the oldest first, without the room of their lists
-abbrev pub newest_first : List Undo → List UndoRecord
-newest_first undos = reverse (map seen_undo undos)
-
-abbrev pub tables_of : Parts → Tables
-tables_of parts = record { coins = parts.coins; names = parts.names; queue = parts.queue }
 
 abbrev pub indexed_of : Base → Tip → Parts → Indexed
 indexed_of base tip parts = record { base = base; tip = tip; tables = tables_of parts; undos = newest_first parts.undos.items }
@@ -64,7 +56,6 @@ pub record IsIndexed (c : Indexed) : Type 0 where
   pub queue : queued_in c.tables.queue ≡ queue_of (coins_in c.tables.coins)
   pub filled : AreFilled c.tables
   pub sound : IsSound c.base.profile c.base.height c.tip.height (maps_by c.tables) c.undos
-  pub measured : AreMeasured (maps_by c.tables)
   pub writable : AllByRecursion IsWritable c.undos
 
 -- the same index: base, tip, the maps of coins, names and queue, and what undoes the blocks
@@ -113,8 +104,6 @@ pub record IsStagedIndex (s : StagedIndex) : Type 0 where
   pub whole : IsWhole s.whole
   pub sound_before : IsSound s.base.profile s.base.height s.tip.height (maps_before_block s.whole) s.undos
   pub sound_after : IsSound s.base.profile s.base.height (suc s.tip.height) (maps_by s.whole.work.tables) (staged_undo s.hash s.whole ∷ s.undos)
-  pub measured_before : AreMeasured (maps_before_block s.whole)
-  pub measured_after : AreMeasured (maps_by s.whole.work.tables)
   pub writable : AllByRecursion IsWritable (staged_undo s.hash s.whole ∷ s.undos)
 
 -- ---- what staging a block answers

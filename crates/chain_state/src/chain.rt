@@ -2,13 +2,13 @@ ghost use Rattle.std.specs.Prelude.{◌≡◌, ◌+◌, ◌≤◌, IfOk};
 ghost use Rattle.nmc_base.specs.declared.limits.TheConstants.{HIGHEST_HEIGHT};
 ghost use Rattle.name_tables.specs.Tables.{AreFilled};
 ghost use Rattle.block_grammar.specs.Block.{Block};
-ghost use Rattle.chain_state.specs.Chain.{Indexed, IsAtBase, IsIndexed, SameIndex, IsStagedOn, IsConnected, IsAbandoned, ArePartsOf, index_of, tables_of};
+ghost use Rattle.chain_state.specs.Chain.{Indexed, IsAtBase, IsIndexed, SameIndex, IsStagedOn, IsConnected, IsAbandoned, ArePartsOf, index_of};
+ghost use Rattle.name_tables.specs.Parts.{tables_of};
 ghost use Rattle.chain_state.specs.Stage.{abandon_steps, commit_steps};
 
-use crate::parts::Parts;
 use crate::whole::Whole;
 use chain_names::Undo;
-use name_tables::Tables;
+use name_tables::{Parts, Tables};
 use nmc_base::{Base, Hash32, NoMemory, RoomyList, Steps, Tip};
 use std::alloc::Global;
 use std::marker::Model;
@@ -73,12 +73,7 @@ impl Chain {
         requires { IsIndexed (index_of base tip tables undos) }
         ensures { result ≡ index_of base tip tables undos }
     {
-        let parts = Parts {
-            coins: tables.coins,
-            names: tables.names,
-            queue: tables.queue,
-            undos,
-        };
+        let parts = Parts::of(tables, undos);
         Chain { base, tip, parts }
     }
 

@@ -10,7 +10,7 @@ ghost use Rattle.chain_names.specs.Log.{Log};
 ghost use Rattle.chain_names.specs.Undo.{UndoRecord};
 ghost use Rattle.chain_names.specs.Sound.{IsSound};
 ghost use Rattle.chain_names.specs.UndoOf.{AreUndos};
-ghost use Rattle.chain_state.specs.Tables.{maps_by};
+ghost use Rattle.name_tables.specs.Tables.{maps_by};
 ghost use Rattle.chain_state.specs.Chain.{Indexed, IsIndexed, IsAtStart, SameIndex, StagedIndex, IsStagedOn, IsConnected, IsAbandoned};
 ghost use Rattle.chain_state.specs.Stage.{IsRefusal};
 ghost use Rattle.chain_state.specs.StageBack.{IsStagedBackOn, IsBackRefusal, IsDisconnected};

@@ -1,4 +1,5 @@
 use Rattle.std.proofs.Common.{length, sym, ap, subst, ◌∙◌, arith}
+use Rattle.name_tables.specs.Parts.{newest_first}
 use Rattle.chain_state.specs.Chain as index
 use Rattle.chain_state.specs.Chain.{Indexed}
 use Rattle.chain_state.specs.StageBack.{IsDisconnected, back_commit_steps}
@@ -22,7 +23,7 @@ joined-requires g c =
       maps = c.abandon-tables.ensures.before;
       queue = c.abandon-tables.ensures.queue;
       filled = c.abandon-tables.ensures.filled;
-      hash_is = c.newest_hash.ensures ∙ ap (λ us. index.newest_hash s.base (index.newest_first us)) c.as_slice.ensures;
+      hash_is = c.newest_hash.ensures ∙ ap (λ us. index.newest_hash s.base (newest_first us)) c.as_slice.ensures;
     })
 
 pub returns-clause-disconnected : goal.returns-clause-disconnected
@@ -39,7 +40,7 @@ returns-clause-disconnected g c =
       maps = c.abandon-tables.ensures.before;
       queue = c.abandon-tables.ensures.queue;
       filled = c.abandon-tables.ensures.filled;
-      hash_is = c.newest_hash.ensures ∙ ap (λ us. index.newest_hash s.base (index.newest_first us)) c.as_slice.ensures;
+      hash_is = c.newest_hash.ensures ∙ ap (λ us. index.newest_hash s.base (newest_first us)) c.as_slice.ensures;
     })))
 
 pub returns-clause-cost : goal.returns-clause-cost

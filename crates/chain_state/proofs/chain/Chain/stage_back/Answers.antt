@@ -3,7 +3,8 @@ use Rattle.std.specs.Prelude.{Some, slice_get}
 use Rattle.nmc_base.specs.Roomy.{Roomy}
 use Rattle.chain_names.specs.declared.undo.Undo.{Undo}
 use Rattle.chain_names.specs.Seen.{seen_undo}
-use Rattle.chain_state.specs.Chain.{Indexed, SameIndex, indexed_of, index_of, newest_first}
+use Rattle.chain_state.specs.Chain.{Indexed, SameIndex, indexed_of, index_of}
+use Rattle.name_tables.specs.Parts.{newest_first}
 use Rattle.name_tables.specs.Tables.{AreFilled}
 use Rattle.name_tables.specs.Room.{HasRoom}
 use Rattle.name_tables.specs.declared.tables.Tables.{Tables}

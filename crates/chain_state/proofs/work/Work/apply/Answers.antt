@@ -1,13 +1,18 @@
 use Rattle.std.proofs.Common.{refl, sym, arith}
 use Rattle.chain_names.specs.Verdict.{commits, opens, updates}
 use Rattle.chain_names.specs.Tables.{names_in}
-use Rattle.chain_state.proofs.StandLemmas.{entry_below}
+use Rattle.std.proofs.Common.{le_trans}
+use Rattle.chain_names.specs.State.{IsUpTo}
+use Rattle.chain_names.proofs.RestoredHistoryLemmas.{entry_has}
 use Rattle.chain_state.proofs.CostLemmas.{plain_cost, one_operation, paid, paid_commitment, with_spent_count, commits_outputs, opens_outputs, opens_inputs, updates_outputs, updates_inputs}
 use Rattle.chain_state.proofs.VerdictLemmas.{applied, applied_with}
 use Rattle.chain_state.proofs.work.Work.apply.Goals as goal
 
 pub invariant_of-view : goal.invariant_of-view
-invariant_of-view g c = record { low_names = λ name item e. omega (arith, entry_below _ (names_in c.args.self.now.tables.names name) item (c.requires.ready.standing.low_names name) e, c.requires.ready.low) }
+invariant_of-view g c = record {
+  low_names = λ name item e.
+      le_trans (entry_has (IsUpTo c.args.self.now.height) (names_in c.args.self.now.tables.names name) item (c.requires.ready.standing.item_heights name) e) c.requires.ready.low;
+}
 
 pub returns-in_ok-commit_to-in-New-clause-applies : goal.returns-in_ok-commit_to-in-New-clause-applies
 returns-in_ok-commit_to-in-New-clause-applies g c =

@@ -9,6 +9,7 @@ returns-clause-ok g c =
       spent = c.args.spent.now;
       name = c.args.name.now;
       value = c.args.value.now;
+      registered = c.args.self.now.height;
       left = c.in_ok-shift.shift;
       work = c.requires.work;
       fresh = c.requires.fresh;

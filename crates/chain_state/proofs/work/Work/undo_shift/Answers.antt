@@ -1,6 +1,6 @@
 use Rattle.std.proofs.Common.{◌≡◌, refl, sym, ◌∙◌, arith}
 use Rattle.chain_names.specs.Changes.{moved_back}
-use Rattle.chain_state.specs.Tables.{maps_by}
+use Rattle.name_tables.specs.Tables.{maps_by}
 use Rattle.chain_state.specs.Work.{with_op}
 use Rattle.chain_state.proofs.BackLemmas.{unmoved_work}
 use Rattle.chain_state.proofs.UndoneLemmas.{spent_free, spent_place, spent_row}

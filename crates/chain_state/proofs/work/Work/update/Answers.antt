@@ -1,3 +1,5 @@
+use Rattle.chain_names.specs.Coins.{entry_of, registered_behind}
+use Rattle.chain_names.specs.Tables.{names_in}
 use Rattle.chain_state.proofs.NameLemmas.{updated}
 use Rattle.chain_state.proofs.work.Work.update.Goals as goal
 
@@ -9,6 +11,7 @@ returns-clause-ok g c =
       spent = c.args.spent.now;
       name = c.args.name.now;
       value = c.args.value.now;
+      registered = registered_behind (entry_of (names_in c.args.self.now.tables.names c.args.name.now)) c.args.self.now.height;
       left = c.in_ok-shift.shift;
       work = c.requires.work;
       fresh = c.requires.fresh;
