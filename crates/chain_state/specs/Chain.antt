@@ -1,5 +1,5 @@
 -- The index of a chain: its base and tip, what its tables say, and what undoes its blocks.
-use Rattle.std.specs.Prelude.{◌≡◌, suc, ◌<◌, List, [], ◌∷◌, Option, None}
+use Rattle.std.specs.Prelude.{◌≡◌, suc, ◌+◌, length, ◌<◌, List, [], ◌∷◌, Option, None}
 use Rattle.block_grammar.specs.Block.{Block}
 use Rattle.block_grammar.specs.Merkle.{block_root}
 use Rattle.block_grammar.specs.Header.{header_hash}
@@ -48,6 +48,10 @@ pub record ArePartsOf (c : Indexed) (parts : Parts) : Type 0 where
 abbrev pub newest_hash : Base → List UndoRecord → Hash32
 newest_hash base [] = base.hash
 newest_hash base (undo ∷ undos) = undo.block
+
+-- the tip of kept parts: the hash is that of the newest record, and as many blocks stand on the base as there are records
+abbrev pub kept_tip : Base → Parts → Tip
+kept_tip base parts = record { height = base.height + length parts.undos.items; hash = newest_hash base (newest_first parts.undos.items) }
 
 -- A sound index: the tip is that of its newest record, the queue is that of the coins, each place holds something, coins,
 -- histories and records are sound with the base, and each record can be written.

@@ -58,7 +58,7 @@ pub enum BackOutcome {
 }
 
 /// The hash of the newest of the blocks that these records undo, or of the base.
-fn newest_hash(base: &Base, undos: &[Undo]) -> Hash32
+pub(crate) fn newest_hash(base: &Base, undos: &[Undo]) -> Hash32
     ensures { result ≡ index.newest_hash base.now (newest_first undos.now) }
 {
     match undos.last() {
