@@ -2,3 +2,4 @@ pub mod RefusalLemmas
 pub mod CommandLemmas
 pub mod ConnectRefusals
 pub mod DisconnectRefusals
+pub mod SurvivorLemmas

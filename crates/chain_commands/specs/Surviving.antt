@@ -1,5 +1,7 @@
 -- The chain that commands leave, whoever answered them.
-use Rattle.std.specs.Prelude.{◌≡◌, List, [], ◌∷◌, ◌==◌, if◌then◌else◌}
+use Rattle.std.specs.Prelude.{◌≡◌, ℕ, ◌<◌, ◌≤◌, List, [], ◌∷◌, length, slice_index, ◌==◌, if◌then◌else◌}
+use Rattle.nmc_base.specs.declared.limits.TheConstants.{LONGEST_BLOCK}
+use Rattle.chain_names.specs.Sound.{AreAccepted}
 use Rattle.chain_commands.specs.Chain.{Chain}
 use Rattle.chain_commands.specs.Event.{Command, Connect, Disconnect, Event, Do, Ask}
 use Rattle.chain_commands.specs.RunState.{after_command}
@@ -22,6 +24,19 @@ SurvivesCommand old (Disconnect hash) new = Survives disconnects (HoldsBack ⊥ 
 abbrev pub Surviving : Chain → List Command → Chain → Type 0
 Surviving old [] new = new ≡ old
 Surviving old (command ∷ commands) new = (mid : Chain) × SurvivesCommand old command mid × Surviving mid commands new
+
+-- the payload of a connect is at most 8,388,608 bytes long
+pub record IsAllowedPayload (payload : List ℕ) : Type 0 where
+  pub short : length payload ≤ LONGEST_BLOCK
+  pub bytes : (i : ℕ) → slice_index payload i < 256
+
+abbrev pub IsAllowed : Command → Type 0
+IsAllowed (Connect block) = IsAllowedPayload block
+IsAllowed (Disconnect hash) = Unit {0}
+
+-- its start list and its blocks are accepted
+abbrev pub IsAcceptedChain : Chain → Type 0
+IsAcceptedChain chain = AreAccepted chain.base.profile chain.start chain.base.height chain.blocks
 
 -- the commands whose reply has code 0; a query is none
 abbrev pub accepted_of : List Event → List Reply → List Command

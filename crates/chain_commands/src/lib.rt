@@ -4,4 +4,4 @@
 
 mod laws;
 
-pub use laws::{one_event, one_refusal};
+pub use laws::{one_event, one_refusal, survivors_are_sound};

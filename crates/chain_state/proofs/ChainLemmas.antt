@@ -1,14 +1,9 @@
 -- Chains, and blocks that are staged on them.
-use Rattle.std.proofs.Common.{◌≡◌, ℕ, suc, ◌+◌, ◌<◌, ◌≤◌, ◌^◌, Bool, true, false, cond, List, [], ◌∷◌, ◌++◌, map, reverse, length, refl, sym, ap, subst, ◌∙◌, arith}
-use Rattle.std.proofs.Math.Path.{fun_ext}
-use Rattle.std.specs.Prelude.{Option, Some, None}
+use Rattle.std.proofs.Common.{◌≡◌, ℕ, suc, ◌+◌, ◌<◌, ◌≤◌, ◌^◌, Bool, List, [], ◌∷◌, ◌++◌, map, reverse, length, refl, sym, ap, subst, ◌∙◌, arith}
+use Rattle.std.specs.Prelude.{Option, None}
 use Rattle.std.specs.Option.{is_some}
 use Rattle.std.specs.List.{AllByRecursion}
-use Rattle.nmc_base.specs.declared.chain_ends.Profile.{Profile}
 use Rattle.nmc_base.specs.declared.hashes.OutPoint.{OutPoint}
-use Rattle.nmc_base.specs.Expiry.{is_expired}
-use Rattle.chain_names.specs.declared.coin.Coin.{Coin}
-use Rattle.chain_names.specs.declared.coin.Coin.TheVariants.{New, Named}
 use Rattle.nmc_base.specs.declared.chain_ends.Base.{Base}
 use Rattle.std.proofs.lemmas.List.{map-append, reverse-append}
 use Rattle.nmc_base.specs.Roomy.{Roomy}
@@ -17,16 +12,17 @@ use Rattle.chain_names.specs.declared.undo.UndoOp.{UndoOp}
 use Rattle.chain_names.specs.Expired.{IsDue}
 use Rattle.block_grammar.specs.Block.{count_outputs, Block}
 use Rattle.chain_names.specs.Sound.{IsSound}
-use Rattle.chain_names.specs.State.{IsState, IsUpTo}
+use Rattle.chain_names.specs.State.{IsState}
 use Rattle.chain_names.proofs.SoundLemmas.{block_sound, sound_state}
 use Rattle.chain_names.proofs.StartLemmas.{base_sound}
+use Rattle.chain_names.proofs.StandLemmas.{Stands, state_stands, stands-higher}
 use Rattle.chain_names.specs.Writable.{IsWritable}
 use Rattle.chain_names.specs.Fits.{AreUndoable}
-use Rattle.chain_state.specs.Measure.{AreMeasured}
-use Rattle.chain_state.proofs.MeasureLemmas.{block_measured, block_writable, was_there}
+use Rattle.chain_names.specs.Measured.{AreMeasured}
+use Rattle.chain_state.proofs.MeasureLemmas.{block_writable}
 use Rattle.chain_names.specs.Seen.{seen_undo}
 use Rattle.chain_names.specs.declared.undo.Undo.{Undo}
-use Rattle.chain_names.specs.Coins.{Maps, maps_of, unless_expired}
+use Rattle.chain_names.specs.Coins.{Maps, maps_of}
 use Rattle.block_grammar.specs.Transaction.{Transaction}
 use Rattle.block_grammar.specs.Merkle.{block_root}
 use Rattle.block_grammar.specs.Header.{header_hash}
@@ -35,7 +31,7 @@ use Rattle.chain_names.specs.Log.{behind_coinbase}
 use Rattle.chain_names.specs.Changes.{Refused as RefusedBy, without_expired, back_ops, undo_ops, after_all, after_block, first_refused}
 use Rattle.chain_names.specs.Tables.{AreCoinsFilled, AreNamesFilled, IsQueueFilled, coins_in, coin_places, names_in, queued_in, queue_places, queue_of, FilledBut}
 use Rattle.name_tables.specs.Tables.{AreFilled}
-use Rattle.chain_state.specs.Tables.{maps_by, IsBelow, IsStanding}
+use Rattle.name_tables.specs.Tables.{maps_by}
 use Rattle.chain_state.specs.Work.{HasSpentPlace, HasSpentRow, may_be_empty, may_be_empty_at, IsWork}
 use Rattle.chain_state.specs.Block.{IsReady, HasFewOutputs, AppliedAll}
 use Rattle.chain_state.specs.Stage.{Begins, StagesWell, StagesNames, Stages}
@@ -46,14 +42,14 @@ use Rattle.chain_state.specs.Worked.{HandsBack}
 use Rattle.chain_state.proofs.WorkedLemmas.{applied_back}
 use Rattle.chain_state.specs.Whole.{Finishes, Commits, maps_before_block}
 use Rattle.nmc_base.specs.Heights.{highest}
-use Rattle.nmc_base.proofs.ListLemmas.{all-weaker}
-use Rattle.chain_state.specs.Chain.{rule_refused, Indexed, IsIndexed, SameIndex, IsAtBase, IsStagedIndex, IsConnected, index_of, staged_of, staged_undo, newest_first, newest_hash}
+use Rattle.chain_state.specs.Chain.{rule_refused, Indexed, IsIndexed, SameIndex, IsAtBase, IsStagedIndex, IsConnected, index_of, staged_of, staged_undo, newest_hash}
+use Rattle.name_tables.specs.Parts.{newest_first}
 use Rattle.name_tables.specs.declared.tables.Tables.{Tables}
 use Rattle.chain_state.specs.declared.whole.Committed.{Committed}
 use Rattle.chain_state.specs.declared.whole.Whole.{Whole}
 use Rattle.chain_state.specs.declared.work.Work.{Work}
 
-next_is : (n : ℕ) → suc n ≡ n + 1
+pub next_is : (n : ℕ) → suc n ≡ n + 1
 next_is n = omega arith
 
 -- ---- what undoes the blocks
@@ -66,18 +62,6 @@ few_each [] few = tt
 few_each (t ∷ ts) few = (omega (arith, few), few_each ts (omega (arith, few)))
 
 -- ---- a state stands for the next block
-
-live_coin : (profile : Profile) (tip : ℕ) (maps : Maps) (state : IsState profile tip maps) (point : OutPoint) (coin : Option Coin) → maps.coins point ≡ coin → unless_expired profile (suc tip) coin ≡ coin
-live_coin profile tip maps state point None is = refl
-live_coin profile tip maps state point (Some (New hash made)) is = refl
-live_coin profile tip maps state point (Some (Named name made)) is = rw (state.named_coins point name made is).live refl
-
-pub state_standing : (profile : Profile) (tip : ℕ) (maps : Maps) → IsState profile tip maps → IsStanding profile (suc tip) (suc tip) maps
-state_standing profile tip maps state = record {
-  low_coins = λ point coin e. omega (arith, state.coin_heights point coin e);
-  low_names = λ name. all-weaker (IsUpTo tip) (IsBelow (suc tip)) (maps.names name) (λ item low. omega (arith, low)) (state.item_heights name);
-  live = fun_ext (λ point. live_coin profile tip maps state point (maps.coins point) refl);
-}
 
 pub indexed_state : (c : Indexed) → IsIndexed c → IsState c.base.profile c.tip.height (maps_by c.tables)
 indexed_state c indexed = sound_state c.base.profile c.base.height c.tip.height (maps_by c.tables) c.undos indexed.sound
@@ -92,7 +76,6 @@ module _ (c : Indexed) (indexed : IsIndexed c) (tables : Tables) (undos : Roomy 
     filled = filled;
     sound = subst (λ us. IsSound c.base.profile c.base.height c.tip.height (maps_by tables) us) (sym same_undos)
         (subst (λ m. IsSound c.base.profile c.base.height c.tip.height m c.undos) (sym same) indexed.sound);
-    measured = subst AreMeasured (sym same) indexed.measured;
     writable = subst (AllByRecursion IsWritable) (sym same_undos) indexed.writable;
   }
 
@@ -128,7 +111,6 @@ module _ (base : Base) (tip : Tip) (hash : Hash32) (whole : Whole) (undos : Room
       sound = subst (λ us. IsSound base.profile base.height (tip.height + 1) (maps_by c.tables) us) (sym undo_added)
           (subst (λ n. IsSound base.profile base.height n (maps_by c.tables) (staged_undo hash whole ∷ newest_first undos.items)) (next_is tip.height)
           (subst (λ m. IsSound base.profile base.height (suc tip.height) m (staged_undo hash whole ∷ newest_first undos.items)) (sym commits.maps) staged.sound_after));
-      measured = subst AreMeasured (sym commits.maps) staged.measured_after;
       writable = subst (AllByRecursion IsWritable) (sym undo_added) staged.writable;
     }
 
@@ -149,36 +131,8 @@ module _ (base : Base) (tip : Tip) (hash : Hash32) (whole : Whole) (undos : Room
     queue = queue;
     filled = filled;
     sound = subst (λ m. IsSound base.profile base.height tip.height m (newest_first undos.items)) (sym before) staged.sound_before;
-    measured = subst AreMeasured (sym before) staged.measured_before;
     writable = staged.writable.1;
   }
-
--- ---- the next block
-
-twice_at : (profile : Profile) (height : ℕ) (coin : Option Coin) → unless_expired profile height (unless_expired profile height coin) ≡ unless_expired profile height coin
-twice_at profile height None = refl
-twice_at profile height (Some (New hash made)) = refl
-twice_at profile height (Some (Named name made)) = by (is_expired profile made height) refl
-  where
-    by : (b : Bool) → is_expired profile made height ≡ b → unless_expired profile height (cond b None (Some (Named name made))) ≡ cond b None (Some (Named name made))
-    by true is = refl
-    by false is = ap (λ b. cond b None (Some (Named name made))) is
-
--- what stood at a height stands at the next without what is expired there
-pub standing_next : (profile : Profile) (height : ℕ) (maps : Maps) → IsStanding profile height (suc height) maps → IsStanding profile (suc height) (suc height) (without_expired profile (suc height) maps)
-standing_next profile height maps standing = record {
-  low_coins = λ point coin e. standing.low_coins point coin (was_there profile (suc height) (maps.coins point) coin e);
-  low_names = standing.low_names;
-  live = fun_ext (λ point. twice_at profile (suc height) (maps.coins point));
-}
-
--- what is below a height is below the next
-higher_next : (profile : Profile) (at : ℕ) (maps : Maps) → IsStanding profile at at maps → IsStanding profile at (suc at) maps
-higher_next profile at maps standing = record {
-  low_coins = λ point coin e. omega (arith, standing.low_coins point coin e);
-  low_names = λ name. all-weaker (IsBelow at) (IsBelow (suc at)) (maps.names name) (λ item below. omega (arith, below)) (standing.low_names name);
-  live = standing.live;
-}
 
 -- ---- staging
 
@@ -217,8 +171,10 @@ module _ (c : Indexed) (indexed : IsIndexed c) (low : c.tip.height < highest) (g
     work = begun_work;
     none_empty = begins.empty;
     low = omega (arith, height_is, low);
-    standing = subst (λ h. IsStanding c.base.profile h (suc h) (maps_by w.tables)) (sym height_is)
-        (subst (IsStanding c.base.profile (suc c.tip.height) (suc (suc c.tip.height))) (sym same_maps) (higher_next c.base.profile (suc c.tip.height) (maps_by c.tables) (state_standing c.base.profile c.tip.height (maps_by c.tables) (indexed_state c indexed))));
+    standing = subst (λ h. Stands c.base.profile h h (maps_by w.tables)) (sym height_is)
+        (subst (Stands c.base.profile (suc c.tip.height) (suc c.tip.height)) (sym same_maps)
+        (stands-higher c.base.profile (suc c.tip.height) c.tip.height (suc c.tip.height) (maps_by c.tables) (omega arith)
+        (state_stands c.base.profile c.tip.height (maps_by c.tables) (indexed_state c indexed))));
   }
 
   pub refused_by : (block : Block) (ts : List Transaction) → ts ≡ behind_coinbase block.transactions → (first : Option RefusedBy)
@@ -279,8 +235,8 @@ module _ (c : Indexed) (indexed : IsIndexed c) (low : c.tip.height < highest) (g
       tip_low : suc c.tip.height < 2 ^ 32
       tip_low = omega (arith, low)
 
-      pub staged_index : count_outputs ts < 2 ^ 32 → length hash.0 ≡ 32 → IsStagedIndex (staged_of c.base c.tip hash whole undos)
-      staged_index few hash_length = record {
+      pub staged_index : AreMeasured maps → count_outputs ts < 2 ^ 32 → length hash.0 ≡ 32 → IsStagedIndex (staged_of c.base c.tip hash whole undos)
+      staged_index measured few hash_length = record {
         height = low;
         tip_hash = indexed.hash ∙ sym (ap (newest_hash c.base) same_undos);
         work_height = finishes.height ∙ done_height;
@@ -288,10 +244,8 @@ module _ (c : Indexed) (indexed : IsIndexed c) (low : c.tip.height < highest) (g
         sound_before = subst (λ us. IsSound c.base.profile c.base.height c.tip.height (maps_before_block whole) us) (sym same_undos)
             (subst (λ m. IsSound c.base.profile c.base.height c.tip.height m c.undos) (sym (finishes.before ∙ done_before)) indexed.sound);
         sound_after = grown few;
-        measured_before = subst AreMeasured (sym (finishes.before ∙ done_before)) indexed.measured;
-        measured_after = subst AreMeasured (sym after_is) (block_measured c.base.profile (suc c.tip.height) ts maps tip_low (few_each ts few) indexed.measured);
         writable = (
-          block_writable c.base.profile (suc c.tip.height) ts maps (staged_undo hash whole) tip_low (few_each ts few) indexed.measured hash_length (grown few).1.limits ops_are due_are,
+          block_writable c.base.profile (suc c.tip.height) ts maps (staged_undo hash whole) tip_low (few_each ts few) measured hash_length (grown few).1.limits ops_are due_are,
           subst (AllByRecursion IsWritable) (sym same_undos) indexed.writable,
         );
       }
@@ -307,6 +261,7 @@ module _ (c : Indexed) (indexed : IsIndexed c) (low : c.tip.height < highest) (g
           tip = refl;
           hash = hash_is;
           before = finishes.before ∙ done_before;
+          queue = indexed.queue;
           after = after_is ∙ ap (λ l. after_block c.base.profile (suc c.tip.height) l maps) ts_are;
           ops = ops_are ∙ ap (λ l. undo_ops c.base.profile (suc c.tip.height) l maps) ts_are;
           due = subst (λ l. IsDue (after_all c.base.profile (suc c.tip.height) l maps).coins (after_block c.base.profile (suc c.tip.height) l maps).coins whole.expired.items) ts_are due_are;
@@ -328,9 +283,6 @@ stages c block (Refused chain (Rule index refusal)) on low root names = (names.0
 stages c block (Refused chain JournalFull) on low root names = absurd names.1
 stages c block (NoMemory chain) on low root names = (names, on, low)
 
-none_measured : AreMeasured (record { coins = coins_in []; names = names_in [] })
-none_measured = record { coins = λ point coin e. absurd cc; items = λ name. tt }
-
 pub begun_index : (base : Base) (c : Tables) → base.height ≤ highest → c.coins ≡ [] → c.names ≡ [] → c.queue ≡ []
     → (undos : Roomy Undo) → undos.items ≡ [] → IsIndexed (index_of base (record { height = base.height; hash = base.hash }) c undos)
 begun_index base c low coins names queue undos none = record {
@@ -343,7 +295,6 @@ begun_index base c low coins names queue undos none = record {
     names = subst AreNamesFilled (sym names) (λ name. refl);
     queue = subst IsQueueFilled (sym queue) (λ height point. refl);
   };
-  measured = subst AreMeasured (sym (λ i. record { coins = coins_in (coins i); names = names_in (names i) })) none_measured;
   writable = subst (λ us. AllByRecursion IsWritable (newest_first us)) (sym none) tt;
 }
 
@@ -353,7 +304,7 @@ begun_maps base c coins names = λ i. record { coins = coins_in (coins i); names
 pub begun_at : (base : Base) (c : Tables) → base.height ≤ highest → c.coins ≡ [] → c.names ≡ [] → c.queue ≡ []
     → (undos : Roomy Undo) → undos.items ≡ [] → IsAtBase base (index_of base (record { height = base.height; hash = base.hash }) c undos)
 begun_at base c low coins names queue undos none = record {
-  low = low;
+  begins = record { low = low; starts = record { makes = tt; few = omega arith } };
   base_is = refl;
   height = refl;
   hash = refl;

@@ -21,8 +21,7 @@ use Rattle.chain_names.specs.declared.coin.Coin.{Coin}
 use Rattle.chain_names.specs.Changes.{with_spent}
 use Rattle.chain_state.specs.Cost.{touched, all_touched, owed_for, spent_points}
 use Rattle.name_tables.specs.Places.{spends_at}
-use Rattle.chain_state.specs.Work.{may_be_empty_at}
-use Rattle.chain_state.specs.Block.{IsReady}
+use Rattle.chain_state.specs.Work.{IsWork, may_be_empty_at}
 use Rattle.name_tables.specs.Expiring.{Expires}
 use Rattle.chain_names.specs.Expired.{is_held_at, points_of}
 use Rattle.block_grammar.specs.Block.{Block}
@@ -76,20 +75,21 @@ pub with_spent_count : (undo : Coin → UndoOp) (coin : Option Coin) → length 
 with_spent_count undo None = omega arith
 with_spent_count undo (Some coin) = omega arith
 
--- an operation more at most, and what the transaction touched pays for it
-pub paid : (t : Transaction) (before checked after : ℕ) (ops more now : List UndoOp) → 1 ≤ length t.inputs → 1 ≤ length t.outputs
-    → checked ≤ before + length t.inputs + 2 → after ≤ checked + 9 → now ≡ ops ++ more → length more ≤ 1 → after + owed_for now ≤ before + owed_for ops + 8 * touched t
-paid t before checked after ops more now inputs outputs check work now_is one =
+-- an operation more at most
+pub one_operation : (ops more now : List UndoOp) → now ≡ ops ++ more → length more ≤ 1 → length now ≤ length ops + 1
+one_operation ops more now now_is one =
     let count : length now ≡ length (ops ++ more) = ap length now_is in
     let long : length (ops ++ more) ≡ length ops + length more = length-append ops more in
-    omega (arith, inputs, outputs, check, work, count, long, one)
+    omega (arith, count, long, one)
 
-pub paid_commitment : (t : Transaction) (before checked after : ℕ) (ops more now : List UndoOp) → 1 ≤ length t.outputs
-    → checked ≤ before + length t.inputs + 2 → after ≤ checked + 2 → now ≡ ops ++ more → length more ≤ 1 → after + owed_for now ≤ before + owed_for ops + 8 * touched t
-paid_commitment t before checked after ops more now outputs check work now_is one =
-    let count : length now ≡ length (ops ++ more) = ap length now_is in
-    let long : length (ops ++ more) ≡ length ops + length more = length-append ops more in
-    omega (arith, outputs, check, work, count, long, one)
+-- what the transaction touched pays for it
+pub paid : (t : Transaction) (before checked after : ℕ) (ops now : List UndoOp) → 2 ≤ touched t → checked ≤ before + touched t + 1 → after ≤ checked + 9 → length now ≤ length ops + 1
+    → after + owed_for now ≤ before + owed_for ops + 8 * touched t
+paid t before checked after ops now touches check work more = omega (arith, touches, check, work, more)
+
+pub paid_commitment : (t : Transaction) (before checked after : ℕ) (ops now : List UndoOp) → 1 ≤ length t.outputs → checked ≤ before + length t.inputs + 2 → after ≤ checked + 2
+    → length now ≤ length ops + 1 → after + owed_for now ≤ before + owed_for ops + 8 * touched t
+paid_commitment t before checked after ops now outputs check work more = omega (arith, outputs, check, work, more)
 
 -- ---- the transactions of a block
 
@@ -99,11 +99,10 @@ begun_paid steps ts left ops left_is none =
     let same : all_touched left ≡ all_touched ts = ap all_touched left_is in
     omega (arith, count, same)
 
-pub more_paid : (start before after : ℕ) (ts left rest : List Transaction) (t : Transaction) (ops now : List UndoOp) → left ≡ t ∷ rest
-    → before + owed_for ops + 8 * all_touched left ≤ start + 8 * all_touched ts → after + owed_for now ≤ before + owed_for ops + 8 * touched t
-    → after + owed_for now + 8 * all_touched rest ≤ start + 8 * all_touched ts
-more_paid start before after ts left rest t ops now left_is so_far one =
-    let sum : all_touched left ≡ touched t + all_touched rest = ap all_touched left_is in
+pub more_paid : (start before after : ℕ) (left rest : List Transaction) (t : Transaction) → left ≡ t ∷ rest → before + 8 * all_touched left ≤ start → after ≤ before + 8 * touched t
+    → after + 8 * all_touched rest ≤ start
+more_paid start before after left rest t steps so_far one =
+    let sum : all_touched left ≡ touched t + all_touched rest = ap all_touched steps in
     omega (arith, sum, so_far, one)
 
 points_count : (expired : List HeldCoin) → length (points_of expired) ≡ length expired
@@ -160,29 +159,37 @@ and_false : (a b : Bool) → b ≡ false → (a && b) ≡ false
 and_false true b e = e
 and_false false b e = refl
 
-module _ (profile : Profile) (old : Work) (ready : IsReady profile old) (row : ℕ) (new : Tables) (expired : List HeldCoin) (due : Expires old.tables new row expired) where
+module _ (old : Work) (row : ℕ) (new : Tables) (expired : List HeldCoin) (due : Expires old.tables new row expired) where
   abbrev ats : List OutPoint
   ats = points_of expired
 
   abbrev ops : List UndoOp
   ops = old.ops.items
 
-  emptied : (point : OutPoint) → queue_places old.tables.queue row point ≡ true → (b : Bool) → queued_in old.tables.queue row point ≡ b
-      → (t : Bool) → list_any (spends_at row point) ops ≡ t → list_any (same_point point) (ats ++ spent_points ops) ≡ true
-  emptied point place true queued t touched =
-      list_any-append (same_point point) ats (spent_points ops) ∙ or_left _ _ (held_member point expired (due.all point queued))
-  emptied point place false queued true touched =
-      list_any-append (same_point point) ats (spent_points ops) ∙ or_right _ _ (spent_member row point ops touched)
-  emptied point place false queued false touched =
-      let untouched : may_be_empty_at old.height ops old.empty.items row point ≡ false =
-      ap (λ es. list_any (spends_at row point) ops || ((old.height == row) && list_any (same_point point) es)) ready.none_empty
-      ∙ ap (λ t. t || ((old.height == row) && false)) touched ∙ and_false (old.height == row) false refl in
-      absurd (let yes : true ≡ false = sym (ready.work.queue_filled row point place untouched) ∙ queued in cc)
+  -- a place that isn't queued was emptied by an operation
+  unqueued : IsWork old → old.empty.items ≡ [] → (point : OutPoint) → queue_places old.tables.queue row point ≡ true → queued_in old.tables.queue row point ≡ false
+      → list_any (spends_at row point) ops ≡ true
+  unqueued work none_empty point place none = by (list_any (spends_at row point) ops) refl
+    where
+      by : (t : Bool) → list_any (spends_at row point) ops ≡ t → t ≡ true
+      by true touched = refl
+      by false touched =
+          let untouched : may_be_empty_at old.height ops old.empty.items row point ≡ false =
+          ap (λ es. list_any (spends_at row point) ops || ((old.height == row) && list_any (same_point point) es)) none_empty
+          ∙ ap (λ t. t || ((old.height == row) && false)) touched ∙ and_false (old.height == row) false refl in
+          absurd (let yes : true ≡ false = sym (work.queue_filled row point place untouched) ∙ none in cc)
 
-  pub row_count : IsDistinct same_point (row_points old.tables.queue row) → length (row_points old.tables.queue row) ≤ length expired + length ops
-  row_count distinct =
+  emptied : IsWork old → old.empty.items ≡ [] → (point : OutPoint) → queue_places old.tables.queue row point ≡ true → list_any (same_point point) (ats ++ spent_points ops) ≡ true
+  emptied work none_empty point place = list_any-append (same_point point) ats (spent_points ops) ∙ by (queued_in old.tables.queue row point) refl
+    where
+      by : (b : Bool) → queued_in old.tables.queue row point ≡ b → (list_any (same_point point) ats || list_any (same_point point) (spent_points ops)) ≡ true
+      by true queued = or_left _ _ (held_member point expired (due.all point queued))
+      by false none = or_right _ _ (spent_member row point ops (unqueued work none_empty point place none))
+
+  pub row_count : IsWork old → old.empty.items ≡ [] → IsDistinct same_point (row_points old.tables.queue row) → length (row_points old.tables.queue row) ≤ length expired + length ops
+  row_count work none_empty distinct =
       let each : (point : OutPoint) → list_any (same_point point) (row_points old.tables.queue row) ≡ true → list_any (same_point point) (ats ++ spent_points ops) ≡ true =
-      λ point here. emptied point (any_key (row_at old.tables.queue row) point ∙ here) _ refl _ refl in
+      λ point here. emptied work none_empty point (any_key (row_at old.tables.queue row) point ∙ here) in
       let within = length-le_from_is_member same_point-IsEquivalence (row_points old.tables.queue row) (ats ++ spent_points ops) distinct each in
       omega (arith, within, length-append ats (spent_points ops), points_count expired, spent_count ops)
 

@@ -1,12 +1,11 @@
 -- The newest block of a chain is disconnected.
-use Rattle.std.proofs.Common.{◌≡◌, ℕ, zero, suc, ◌+◌, ◌-◌, ◌*◌, ◌≤◌, Bool, true, false, nat_lt, not, ◌&&◌, List, [], ◌∷◌, ◌++◌, map, length, refl, sym, ap, subst, ◌∙◌, arith}
+use Rattle.std.proofs.Common.{◌≡◌, ℕ, zero, suc, ◌+◌, ◌-◌, ◌*◌, ◌≤◌, Bool, true, false, not, ◌&&◌, List, [], ◌∷◌, ◌++◌, map, length, refl, sym, ap, subst, ◌∙◌, arith}
 use Rattle.std.specs.Str.{bytes_eq}
 use Rattle.std.proofs.lemmas.List.{length-map, length-reverse}
-use Rattle.std.proofs.lemmas.Bool.Decides.{nat_tests}
-use Rattle.std.specs.Prelude.{Some, None, ◌||◌, slice_get}
+use Rattle.std.specs.Prelude.{Option, None, Some, None, ◌||◌, slice_get}
 use Rattle.std.specs.List.{list_any, AllByRecursion}
 use Rattle.nmc_base.specs.Roomy.{Roomy}
-use Rattle.nmc_base.specs.Expiry.{expiry_depth}
+use Rattle.nmc_base.specs.Expiry.{due_height}
 use Rattle.nmc_base.specs.declared.chain_ends.Base.{Base}
 use Rattle.nmc_base.specs.declared.chain_ends.Tip.{Tip}
 use Rattle.nmc_base.specs.declared.chain_ends.Profile.{Profile}
@@ -26,16 +25,15 @@ use Rattle.chain_names.proofs.UndoableLemmas.{fit_allows, expired-row, expired-n
 use Rattle.chain_names.specs.Seen.{seen_undo}
 use Rattle.chain_names.specs.declared.undo.Undo.{Undo}
 use Rattle.name_tables.specs.Tables.{HoldSame, AreFilled}
-use Rattle.chain_state.specs.Tables.{maps_by}
+use Rattle.name_tables.specs.Tables.{maps_by}
 use Rattle.name_tables.specs.Places.{spends, spends_at, is_queued_at}
 use Rattle.chain_state.specs.Work.{HasSpentPlace, HasSpentRow}
 use Rattle.chain_state.specs.Whole.{IsWhole, maps_before_block}
 use Rattle.name_tables.specs.Expiring.{CanReturn}
 use Rattle.name_tables.specs.Room.{IsPlaced, HasRoom}
-use Rattle.chain_state.specs.Chain.{Indexed, IsIndexed, SameIndex, index_of, newest_first, newest_hash}
+use Rattle.chain_state.specs.Chain.{Indexed, IsIndexed, SameIndex, index_of, newest_hash}
+use Rattle.name_tables.specs.Parts.{newest_first}
 use Rattle.chain_names.specs.Writable.{IsWritable}
-use Rattle.chain_state.specs.Measure.{AreMeasured}
-use Rattle.chain_state.proofs.MeasureLemmas.{undone_measured}
 use Rattle.chain_state.specs.Back.{block_work, IsStagedBack}
 use Rattle.chain_state.specs.StageBack.{IsBackRefusal, IsDisconnected, newest_work, back_commit_steps}
 use Rattle.chain_state.specs.declared.back.BackRefusal.TheVariants.{AtBase, NotTip}
@@ -116,12 +114,26 @@ is_the_tip a b same = let bytes : a.0 ≡ b.0 = bytes_eq-true a.0 b.0 (equal _ s
 
 -- ---- a disconnect is staged
 
--- the tables and lists that were handed over are those of the index and of the record
-pub room_for : {before : Tables} {ops now : List UndoOp} {expired helds : List HeldCoin} (given after : Tables) (empty : Roomy OutPoint) → given ≡ before → now ≡ ops → helds ≡ expired
-    → HasRoom given after now helds empty → HasRoom before after ops expired empty
-room_for {before = before} {ops = ops} {now = now} {expired = expired} {helds = helds} given after empty same same_ops same_helds has =
-    subst (λ es. HasRoom before after ops es empty) same_helds
-    (subst (λ os. HasRoom before after os helds empty) same_ops (subst (λ (t : Tables). HasRoom t after now helds empty) same has))
+-- the lists that were handed over are those of the record
+pub room_for : {ops now : List UndoOp} {expired helds : List HeldCoin} (before after : Tables) (empty : Roomy OutPoint) → now ≡ ops → helds ≡ expired
+    → HasRoom before after now helds empty → HasRoom before after ops expired empty
+room_for {ops = ops} {now = now} {expired = expired} {helds = helds} before after empty same_ops same_helds has =
+    subst (λ es. HasRoom before after ops es empty) same_helds (subst (λ os. HasRoom before after os helds empty) same_ops has)
+
+-- coins that expired with the tip can be put back into the row that is due
+can_return : (c : Indexed) (tables : Tables) (row : ℕ) → HoldSame c.tables tables → due_height c.base.profile (suc c.tip.height) ≡ Some row → (helds : List HeldCoin)
+    → AllByRecursion (IsJustExpired c.base.profile c.tip.height (maps_by c.tables)) helds → AllByRecursion (IsPlaced is_held_at is_queued_at tables) helds → AllByRecursion (CanReturn tables row) helds
+can_return c tables row same due [] expired placed = tt
+can_return c tables row same due (first ∷ helds) expired placed =
+    let named = expired-row c.base.profile c.tip.height row (maps_by c.tables) first due expired.0 in (
+      record {
+        of_row = named;
+        place = placed.0.coin first.at (same_point-self first.at);
+        row_place = placed.0.rows row first.at (ap (λ b. b && is_named_at row (Some first.coin)) (same_point-self first.at) ∙ named);
+        free = λ other apart. ap (is_named_at other) (ap (λ f. f first.at) same.coins ∙ expired.0.free);
+      },
+      can_return c tables row same due helds expired.1 placed.1,
+    )
 
 module _ (c : Indexed) (indexed : IsIndexed c) (undo : UndoRecord) (below : List UndoRecord) (undos_are : c.undos ≡ undo ∷ below)
     (tables : Tables) (empty : Roomy OutPoint) (has : HasRoom c.tables tables undo.ops undo.expired empty) where
@@ -134,30 +146,12 @@ module _ (c : Indexed) (indexed : IsIndexed c) (undo : UndoRecord) (below : List
   sound_here : IsSound profile c.base.height c.tip.height (maps_by c.tables) (undo ∷ below)
   sound_here = subst (IsSound profile c.base.height c.tip.height (maps_by c.tables)) undos_are indexed.sound
 
-  can_return : (row : ℕ) → row + expiry_depth profile (suc c.tip.height) ≡ suc c.tip.height → (helds : List HeldCoin)
-      → AllByRecursion (IsJustExpired profile c.tip.height (maps_by c.tables)) helds → AllByRecursion (IsPlaced is_held_at is_queued_at tables) helds → AllByRecursion (CanReturn tables row) helds
-  can_return row due [] expired placed = tt
-  can_return row due (first ∷ helds) expired placed =
-      let named = expired-row profile c.tip.height row (maps_by c.tables) first due expired.0 in (
-        record {
-          of_row = named;
-          place = placed.0.coin first.at (same_point-self first.at);
-          row_place = placed.0.rows row first.at (ap (λ b. b && is_named_at row (Some first.coin)) (same_point-self first.at) ∙ named);
-          free = λ other apart. ap (is_named_at other) (ap (λ f. f first.at) has.same.coins ∙ expired.0.free);
-        },
-        can_return row due helds expired.1 placed.1,
-      )
-
-  returns : (b : Bool) → nat_lt (suc c.tip.height) (expiry_depth profile (suc c.tip.height)) ≡ b → (row : ℕ) × AllByRecursion (CanReturn tables row) undo.expired
-  returns true high =
-      (0, subst (AllByRecursion (CanReturn tables 0)) (sym (expired-none profile c.tip.height (maps_by c.tables) undo.expired (grind (arith, nat_tests, high)) sound_here.1.fits.expired)) tt)
-  returns false low = (
-    suc c.tip.height - expiry_depth profile (suc c.tip.height),
-    can_return (suc c.tip.height - expiry_depth profile (suc c.tip.height)) (grind (arith, nat_tests, low)) undo.expired sound_here.1.fits.expired has.held,
-  )
+  returns : (due : Option ℕ) → due_height profile (suc c.tip.height) ≡ due → (row : ℕ) × AllByRecursion (CanReturn tables row) undo.expired
+  returns None undue = (0, subst (AllByRecursion (CanReturn tables 0)) (sym (expired-none profile c.tip.height (maps_by c.tables) undo.expired undue sound_here.1.fits.expired)) tt)
+  returns (Some row) due = (row, can_return c tables row has.same due undo.expired sound_here.1.fits.expired has.held)
 
   returning : (row : ℕ) × AllByRecursion (CanReturn tables row) undo.expired
-  returning = returns (nat_lt (suc c.tip.height) (expiry_depth profile (suc c.tip.height))) refl
+  returning = returns (due_height profile (suc c.tip.height)) refl
 
   work_back : (ops : Roomy UndoOp) (expired : Roomy HeldCoin)
       → IsWhole (block_work tables (record { items = undo.ops; spare = ops.spare }) (record { items = undo.expired; spare = expired.spare }) empty c.tip.height)
@@ -188,7 +182,6 @@ module _ (c : Indexed) (indexed : IsIndexed c) (undo : UndoRecord) (below : List
         (subst (λ os. IsWhole (block_work tables (record { items = os; spare = ops.spare }) (record { items = undo.expired; spare = expired.spare }) empty c.tip.height)) (sym ops_are) (work_back ops expired));
     hash = indexed.hash ∙ ap (newest_hash c.base) undos_are;
     sound = subst (λ m. IsSound profile c.base.height c.tip.height m (undo ∷ below)) (sym maps_same) sound_here;
-    measured = subst AreMeasured (sym maps_same) indexed.measured;
     writable = subst (AllByRecursion IsWritable) undos_are indexed.writable;
   }
 
@@ -233,46 +226,6 @@ module _ (base : Base) (tip : Tip) (tables : Tables) (undos : Roomy Undo) (empty
     sound_was : IsSound base.profile base.height tip.height (maps_by tables) (seen_undo undo ∷ newest_first front)
     sound_was = subst (IsSound base.profile base.height tip.height (maps_by tables)) (sym newest_was) staged.sound
 
-    module _ (rest : Roomy Undo) (rest_is : rest.items ≡ front) (after : Tables) (maps : maps_by after ≡ maps_before_block (block_work tables undo.ops undo.expired empty tip.height)) (hash : Hash32)
-        (hash_is : hash ≡ newest_hash base (newest_first rest.items)) where
-      abbrev shorter : Tip
-      shorter = record { height = tip.height - 1; hash = hash }
-
-      height_is : tip.height - 1 ≡ sound_was.0
-      height_is = omega (arith, sound_was.1.above)
-
-      sound_now : IsSound base.profile base.height (tip.height - 1) (maps_by after) (newest_first rest.items)
-      sound_now =
-          subst (λ us. IsSound base.profile base.height (tip.height - 1) (maps_by after) (newest_first us)) (sym rest_is)
-          (subst (λ n. IsSound base.profile base.height n (maps_by after) (newest_first front)) (sym height_is)
-          (subst (λ m. IsSound base.profile base.height sound_was.0 m (newest_first front)) (sym maps) sound_was.2))
-
-      writable_was : AllByRecursion IsWritable (seen_undo undo ∷ newest_first front)
-      writable_was = subst (AllByRecursion IsWritable) (sym newest_was) staged.writable
-
-      pub disconnected_index : queued_in after.queue ≡ queue_of (coins_in after.coins) → AreFilled after → IsIndexed (index_of base shorter after rest)
-      disconnected_index queue filled = record {
-        hash = hash_is;
-        queue = queue;
-        filled = filled;
-        sound = sound_now;
-        measured = subst AreMeasured (sym maps) (undone_measured (seen_undo undo) (maps_by tables) writable_was.0 staged.measured);
-        writable = subst (λ us. AllByRecursion IsWritable (newest_first us)) (sym rest_is) writable_was.1;
-      }
-
-      pub disconnected : queued_in after.queue ≡ queue_of (coins_in after.coins) → IsDisconnected (index_of base tip tables undos) (index_of base shorter after rest)
-      disconnected queue = record {
-        undo = seen_undo undo;
-        below = newest_first front;
-        undos_were = ap newest_first undos_were ∙ newest_more front undo;
-        undos = ap newest_first rest_is;
-        base = refl;
-        height = omega (arith, sound_was.1.above);
-        hash = hash_is ∙ ap (λ us. newest_hash base (newest_first us)) rest_is;
-        maps = maps;
-        queue = queue;
-      }
-
     pub steps_are : back_commit_steps (newest_first undos.items) ≡ back_commit_steps (seen_undo undo ∷ newest_first front)
     steps_are = ap back_commit_steps (ap newest_first undos_were ∙ newest_more front undo)
 
@@ -283,6 +236,57 @@ module _ (base : Base) (tip : Tip) (tables : Tables) (undos : Roomy Undo) (empty
     filled = filled;
     sound = subst (IsSound base.profile base.height tip.height (maps_by after)) (sym staged.undos_are)
         (subst (λ m. IsSound base.profile base.height tip.height m (staged.undo ∷ staged.below)) (sym same) staged.sound);
-    measured = subst AreMeasured (sym same) staged.measured;
     writable = subst (AllByRecursion IsWritable) (sym staged.undos_are) staged.writable;
+  }
+
+-- what the commit of a disconnect leaves
+pub record IsUndoneTo (base : Base) (tip : Tip) (tables : Tables) (undos : Roomy Undo) (after : Tables) (rest : Roomy Undo) (hash : Hash32) : Type 0 where
+  pub empty : Roomy OutPoint
+  pub staged : IsStagedBack base tip tables undos empty
+  pub undo : Undo
+  pub were : undos.items ≡ rest.items ++ undo ∷ []
+  pub maps : maps_by after ≡ maps_before_block (block_work tables undo.ops undo.expired empty tip.height)
+  pub queue : queued_in after.queue ≡ queue_of (coins_in after.coins)
+  pub filled : AreFilled after
+  pub hash_is : hash ≡ newest_hash base (newest_first rest.items)
+
+module _ (base : Base) (tip : Tip) (tables : Tables) (undos : Roomy Undo) (after : Tables) (rest : Roomy Undo) (hash : Hash32)
+    (u : IsUndoneTo base tip tables undos after rest hash) where
+  abbrev shorter : Tip
+  shorter = record { height = tip.height - 1; hash = hash }
+
+  were_sound : IsSound base.profile base.height tip.height (maps_by tables) (seen_undo u.undo ∷ newest_first rest.items)
+  were_sound = sound_was base tip tables undos u.empty u.staged u.undo rest.items u.were
+
+  height_is : tip.height - 1 ≡ were_sound.0
+  height_is = omega (arith, were_sound.1.above)
+
+  sound_now : IsSound base.profile base.height (tip.height - 1) (maps_by after) (newest_first rest.items)
+  sound_now =
+      subst (λ n. IsSound base.profile base.height n (maps_by after) (newest_first rest.items)) (sym height_is)
+      (subst (λ m. IsSound base.profile base.height were_sound.0 m (newest_first rest.items)) (sym u.maps) were_sound.2)
+
+  writable_was : AllByRecursion IsWritable (seen_undo u.undo ∷ newest_first rest.items)
+  writable_was = subst (AllByRecursion IsWritable) (sym (newest_was base tip tables undos u.empty u.staged u.undo rest.items u.were)) u.staged.writable
+
+  pub disconnected_index : IsIndexed (index_of base shorter after rest)
+  disconnected_index = record {
+    hash = u.hash_is;
+    queue = u.queue;
+    filled = u.filled;
+    sound = sound_now;
+    writable = writable_was.1;
+  }
+
+  pub disconnected : IsDisconnected (index_of base tip tables undos) (index_of base shorter after rest)
+  disconnected = record {
+    undo = seen_undo u.undo;
+    below = newest_first rest.items;
+    undos_were = ap newest_first u.were ∙ newest_more rest.items u.undo;
+    undos = refl;
+    base = refl;
+    height = omega (arith, were_sound.1.above);
+    hash = u.hash_is;
+    maps = u.maps;
+    queue = u.queue;
   }

@@ -15,7 +15,7 @@ use Rattle.chain_names.proofs.Shown.{true_is_not_false}
 use Rattle.chain_names.specs.Fits.{AreUndoable}
 use Rattle.name_tables.specs.Tables.{HoldSame}
 use Rattle.name_tables.specs.Moving.{MayHavePlaces}
-use Rattle.chain_state.specs.Tables.{maps_by}
+use Rattle.name_tables.specs.Tables.{maps_by}
 use Rattle.name_tables.specs.Places.{spends}
 use Rattle.chain_state.specs.Work.{HasSpentPlace, HasSpentRow, may_be_empty, may_be_empty_at, IsWork, Halts}
 use Rattle.name_tables.specs.declared.tables.Tables.{Tables}
@@ -36,41 +36,49 @@ agree_row f g h v made point true is other e =
     sym (ap (λ n. f n point) row) ∙ agree_at (f h) (g h) made point (same_point made point) (other refl) e ∙ ap (λ n. g n point) row
 agree_row f g h v made point false is other e = e
 
-module _ (w : Work) (tables : Tables) (made : OutPoint) (ops : Roomy UndoOp) (empty : Roomy OutPoint)
-    (work : IsWork w) (same : HoldSame w.tables tables) (may : MayHavePlaces w.tables tables made w.height)
-    (ops_are : ops.items ≡ w.ops.items) (empty_is : empty.items ≡ w.empty.items ++ made ∷ []) (room : length ops.items + 1 ≤ empty.spare) where
+-- there was no memory for a move: the tables hold what they held, and the outpoint that was to be made may have places
+pub record IsHalted (w : Work) (tables : Tables) (ops : Roomy UndoOp) (empty : Roomy OutPoint) : Type 0 where
+  pub made : OutPoint
+  pub work : IsWork w
+  pub same : HoldSame w.tables tables
+  pub may : MayHavePlaces w.tables tables made w.height
+  pub ops_are : ops.items ≡ w.ops.items
+  pub empty_is : empty.items ≡ w.empty.items ++ made ∷ []
+  pub room : length ops.items + 1 ≤ empty.spare
+
+module _ (w : Work) (tables : Tables) (ops : Roomy UndoOp) (empty : Roomy OutPoint) (h : IsHalted w tables ops empty) where
   halted_maps : maps_by tables ≡ maps_by w.tables
-  halted_maps = λ i. record { coins = same.coins i; names = same.names i }
+  halted_maps = λ i. record { coins = h.same.coins i; names = h.same.names i }
 
   halted_filled : FilledBut (may_be_empty ops.items empty.items) (coin_places tables.coins) (λ point. is_some (coins_in tables.coins point))
   halted_filled point here free =
-      let both = ap (λ es. may_be_empty w.ops.items es point) (sym empty_is) ∙ ap (λ os. may_be_empty os empty.items point) (sym ops_are) ∙ free in
-      let any = any_point-more w.empty.items made point (or_right (list_any (spends point) w.ops.items) _ both) in
-      let before = sym (agree_at (coin_places tables.coins) (coin_places w.tables.coins) made point (same_point made point) any.1 (ap (λ f. f point) may.coins)) ∙ here in
-      ap (λ f. is_some (f point)) same.coins ∙ work.coins_filled point before (or_both _ _ (or_left _ _ both) any.0)
+      let both = ap (λ es. may_be_empty w.ops.items es point) (sym h.empty_is) ∙ ap (λ os. may_be_empty os empty.items point) (sym h.ops_are) ∙ free in
+      let any = any_point-more w.empty.items h.made point (or_right (list_any (spends point) w.ops.items) _ both) in
+      let before = sym (agree_at (coin_places tables.coins) (coin_places w.tables.coins) h.made point (same_point h.made point) any.1 (ap (λ f. f point) h.may.coins)) ∙ here in
+      ap (λ f. is_some (f point)) h.same.coins ∙ h.work.coins_filled point before (or_both _ _ (or_left _ _ both) any.0)
 
   halted_rows : (height : ℕ) → FilledBut (may_be_empty_at w.height ops.items empty.items height) (queue_places tables.queue height) (queued_in tables.queue height)
   halted_rows height point here free =
-      let both = ap (λ es. may_be_empty_at w.height w.ops.items es height point) (sym empty_is) ∙ ap (λ os. may_be_empty_at w.height os empty.items height point) (sym ops_are) ∙ free in
-      let any = row_empty-less w.height height w.ops.items w.empty.items made point both in
-      let before = sym (agree_row (queue_places tables.queue) (queue_places w.tables.queue) w.height height made point (w.height == height) refl any.2 (ap (λ q. q height point) may.queue)) ∙ here in
-      ap (λ q. q height point) same.queue ∙ work.queue_filled height point before (or_both _ _ any.0 any.1)
+      let both = ap (λ es. may_be_empty_at w.height w.ops.items es height point) (sym h.empty_is) ∙ ap (λ os. may_be_empty_at w.height os empty.items height point) (sym h.ops_are) ∙ free in
+      let any = row_empty-less w.height height w.ops.items w.empty.items h.made point both in
+      let before = sym (agree_row (queue_places tables.queue) (queue_places w.tables.queue) w.height height h.made point (w.height == height) refl any.2 (ap (λ q. q height point) h.may.queue)) ∙ here in
+      ap (λ q. q height point) h.same.queue ∙ h.work.queue_filled height point before (or_both _ _ any.0 any.1)
 
   pub halts : Halts w (record { tables = tables; ops = ops; empty = empty; height = w.height })
   halts = record {
     maps = halted_maps;
-    ops = ops_are;
+    ops = h.ops_are;
     height = refl;
     work = record {
-      queue = same.queue ∙ work.queue ∙ ap queue_of (sym same.coins);
-      fits = subst (λ os. AreUndoable w.height os (maps_by tables)) (sym ops_are) (subst (AreUndoable w.height w.ops.items) (sym halted_maps) work.fits);
-      spent_placed = subst (AllByRecursion (HasSpentPlace tables)) (sym ops_are)
-          (all-weaker (HasSpentPlace w.tables) (HasSpentPlace tables) w.ops.items (λ op has point is. may.kept point (has point is)) work.spent_placed);
-      spent_rows = subst (AllByRecursion (HasSpentRow tables)) (sym ops_are)
-          (all-weaker (HasSpentRow w.tables) (HasSpentRow tables) w.ops.items (λ op has row point is. may.rows_kept row point (has row point is)) work.spent_rows);
+      queue = h.same.queue ∙ h.work.queue ∙ ap queue_of (sym h.same.coins);
+      fits = subst (λ os. AreUndoable w.height os (maps_by tables)) (sym h.ops_are) (subst (AreUndoable w.height w.ops.items) (sym halted_maps) h.work.fits);
+      spent_placed = subst (AllByRecursion (HasSpentPlace tables)) (sym h.ops_are)
+          (all-weaker (HasSpentPlace w.tables) (HasSpentPlace tables) w.ops.items (λ op has point is. h.may.kept point (has point is)) h.work.spent_placed);
+      spent_rows = subst (AllByRecursion (HasSpentRow tables)) (sym h.ops_are)
+          (all-weaker (HasSpentRow w.tables) (HasSpentRow tables) w.ops.items (λ op has row point is. h.may.rows_kept row point (has row point is)) h.work.spent_rows);
       coins_filled = halted_filled;
       queue_filled = halted_rows;
-      names_filled = λ n. ap (λ f. f n) may.names ∙ work.names_filled n ∙ ap (λ f. is_some (entry_of (f n))) (sym same.names);
-      room = room;
+      names_filled = λ n. ap (λ f. f n) h.may.names ∙ h.work.names_filled n ∙ ap (λ f. is_some (entry_of (f n))) (sym h.same.names);
+      room = h.room;
     };
   }

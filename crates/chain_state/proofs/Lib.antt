@@ -4,7 +4,6 @@ pub mod BackLemmas
 pub mod HaltLemmas
 pub mod NameLemmas
 pub mod UndoneLemmas
-pub mod StandLemmas
 pub mod VerdictLemmas
 pub mod TransactionLemmas
 pub mod PlaceLemmas

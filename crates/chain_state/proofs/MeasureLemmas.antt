@@ -1,5 +1,5 @@
--- What a block leaves is measured, its undo record can be written, and undoing it leaves what is measured.
-use Rattle.std.proofs.Common.{◌≡◌, ℕ, zero, suc, ◌+◌, ◌-◌, ◌<◌, ◌≤◌, ◌^◌, Bool, true, false, cond, List, [], ◌∷◌, ◌++◌, length, take, refl, sym, subst, arith}
+-- The record that undoes a block can be written.
+use Rattle.std.proofs.Common.{◌≡◌, ℕ, suc, ◌+◌, ◌<◌, ◌≤◌, ◌^◌, Bool, true, false, cond, List, [], ◌∷◌, ◌++◌, length, refl, sym, subst, arith}
 use Rattle.std.specs.Prelude.{Option, Some, None}
 use Rattle.std.specs.List.{AllByRecursion}
 use Rattle.std.specs.Str.{bytes_eq}
@@ -10,11 +10,10 @@ use Rattle.block_grammar.specs.Transaction.{TxOutput, Transaction, txid_of}
 use Rattle.block_grammar.specs.Header.{Header, header_hash}
 use Rattle.name_script.specs.NameScript.{NameOperation}
 use Rattle.name_script.specs.Reading.{name_op}
-use Rattle.nmc_base.specs.Expiry.{is_expired}
 use Rattle.nmc_base.specs.Hash.{outpoint_cmp}
 use Rattle.nmc_base.specs.declared.chain_ends.Profile.{Profile}
 use Rattle.nmc_base.specs.declared.hashes.OutPoint.{OutPoint}
-use Rattle.nmc_base.proofs.ListLemmas.{all-append, all-weaker}
+use Rattle.nmc_base.proofs.ListLemmas.{all-more, all-append, all-weaker}
 use Rattle.chain_names.specs.declared.coin.Coin.{Coin}
 use Rattle.chain_names.specs.declared.coin.Coin.TheVariants.{New, Named}
 use Rattle.chain_names.specs.declared.coin.HeldCoin.{HeldCoin}
@@ -22,25 +21,20 @@ use Rattle.chain_names.specs.declared.coin.Item.{Item}
 use Rattle.chain_names.specs.declared.undo.UndoOp.{UndoOp}
 use Rattle.chain_names.specs.declared.undo.UndoOp.TheVariants.{New as undo_new, First as undo_first, Update as undo_update}
 use Rattle.chain_names.specs.Points.{same_point, point_at, changed}
-use Rattle.chain_names.specs.Coins.{Maps, entry_of, unless_expired}
+use Rattle.chain_names.specs.Coins.{Maps, entry_of}
 use Rattle.chain_names.specs.Meaning.{Means}
 use Rattle.chain_names.specs.Verdict.{Verdict, plain, commits, opens, updates, refused, verdict, NameOutput, with_output, name_outputs, made_at}
-use Rattle.chain_names.specs.Changes.{with_spent, without_entry, moved, moved_back, after_verdict, after_transaction, after_all, after_block, undo_of_verdict, undo_ops, back_op, back_ops, restored, undone}
+use Rattle.chain_names.specs.Changes.{with_spent, moved, after_verdict, after_transaction, after_all, after_block, undo_of_verdict, undo_ops}
 use Rattle.chain_names.specs.Undo.{UndoRecord}
 use Rattle.chain_names.proofs.Meanings.{verdict_means}
-use Rattle.chain_names.proofs.Points.{same_point-Decides}
 use Rattle.chain_names.specs.Expired.{points_of, IsSortedByPoint, IsGone, IsDue}
 use Rattle.chain_names.specs.Limits.{IsWithinLimitsOp, IsShortBefore, HoldsName, IsWithinLimits}
 use Rattle.chain_names.proofs.RestoredHistoryLemmas.{entry_has}
-use Rattle.chain_names.specs.Writable.{IsWritablePoint, IsWritableNew, IsWritableNamed, IsWritableBefore, IsWritableOp, IsWritableHeld, AreAscending, IsWritable}
+use Rattle.chain_names.specs.Writable.{IsWritablePoint, IsWritableNamed, IsWritableBefore, IsWritableOp, IsWritableHeld, AreAscending, IsWritable}
 use Rattle.chain_state.specs.Block.{HasFewOutputs}
-use Rattle.chain_state.specs.Measure.{IsMeasuredCoin, IsMeasuredItem, AreMeasured}
-
-abbrev AreMeasuredCoins : (OutPoint → Option Coin) → Type 0
-AreMeasuredCoins coins = (point : OutPoint) (coin : Coin) → coins point ≡ Some coin → IsMeasuredCoin point coin
-
-abbrev AreMeasuredItems : (List ℕ → List Item) → Type 0
-AreMeasuredItems names = (name : List ℕ) → AllByRecursion IsMeasuredItem (names name)
+use Rattle.chain_names.specs.Measured.{IsMeasuredCoin, IsMeasuredItem, AreItemsMeasured, AreMeasured}
+use Rattle.name_coins.proofs.MeasureLemmas.{coin_gone, coin_there}
+use Rattle.chain_names.specs.Coins.{registered_behind, opened, updated}
 
 -- ---- hashes and outpoints
 
@@ -74,37 +68,18 @@ made_fits t output few outputs =
 
 -- ---- maps that change
 
-coin_changed : (coins : OutPoint → Option Coin) (at : OutPoint) (slot : Option Coin) → AreMeasuredCoins coins → ((coin : Coin) → slot ≡ Some coin → IsMeasuredCoin at coin)
-    → AreMeasuredCoins (changed same_point coins at slot)
-coin_changed coins at slot all here point coin = by (same_point at point) refl
-  where
-    by : (b : Bool) → same_point at point ≡ b → cond b slot (coins point) ≡ Some coin → IsMeasuredCoin point coin
-    by true is e = subst (λ p. IsMeasuredCoin p coin) ((same_point-Decides at point).0 is) (here coin e)
-    by false is e = all point coin e
-
-coin_gone : (coins : OutPoint → Option Coin) (at : OutPoint) → AreMeasuredCoins coins → AreMeasuredCoins (changed same_point coins at None)
-coin_gone coins at all = coin_changed coins at None all (λ coin e. absurd (no_coin coin e))
-  where
-    no_coin : (coin : Coin) → None ≡ Some coin → ⊥
-    no_coin coin e = cc
-
-coin_there : (coins : OutPoint → Option Coin) (at : OutPoint) (made : Coin) → AreMeasuredCoins coins → IsMeasuredCoin at made → AreMeasuredCoins (changed same_point coins at (Some made))
-coin_there coins at made all here = coin_changed coins at (Some made) all (λ coin e. let same : made ≡ coin = cc in subst (IsMeasuredCoin at) same here)
-
-items_changed : (names : List ℕ → List Item) (name : List ℕ) (items : List Item) → AreMeasuredItems names → AllByRecursion IsMeasuredItem items
-    → AreMeasuredItems (changed bytes_eq names name items)
+items_changed : (names : List ℕ → List Item) (name : List ℕ) (items : List Item) → AreItemsMeasured names → AllByRecursion IsMeasuredItem items
+    → AreItemsMeasured (changed bytes_eq names name items)
 items_changed names name items all here n = by (bytes_eq name n)
   where
     by : (b : Bool) → AllByRecursion IsMeasuredItem (cond b items (names n))
     by true = here
     by false = all n
 
-moved_measured : (maps : Maps) (height : ℕ) (spent point : OutPoint) (name value : List ℕ) → height < 2 ^ 32 → IsWritablePoint point → AreMeasured maps
-    → AreMeasured (moved maps height spent point name value)
-moved_measured maps height spent point name value low fits measured = record {
-  coins = coin_there (changed same_point maps.coins spent None) point (Named name height) (coin_gone maps.coins spent measured.coins) (record { at = fits; height = low; hash = tt });
-  items = items_changed maps.names name (maps.names name ++ record { height = height; at = point; value = value } ∷ []) measured.items
-      (all-append IsMeasuredItem (maps.names name) (record { height = height; at = point; value = value } ∷ []) (measured.items name) (record { at = fits; height = low }, tt));
+moved_measured : (maps : Maps) (spent : OutPoint) (name : List ℕ) (item : Item) → IsMeasuredItem item → AreMeasured maps → AreMeasured (moved maps spent name item)
+moved_measured maps spent name item fits measured = record {
+  coins = coin_there (changed same_point maps.coins spent None) item.at (Named name item.height) (coin_gone maps.coins spent measured.coins) (record { at = fits.at; height = fits.height; hash = tt });
+  items = items_changed maps.names name (maps.names name ++ item ∷ []) measured.items (all-more IsMeasuredItem (maps.names name) item (measured.items name) fits);
 }
 
 -- ---- what undoes an operation
@@ -120,7 +95,7 @@ IsMeasuredOp (undo_update made spent coin name before) = IsWritablePoint made ×
 
 before_fits : (before : Option Item) → IsShortBefore before → IsMeasuredBefore before → IsWritableBefore before
 before_fits None short measured = tt
-before_fits (Some item) short measured = record { height = measured.height; at = measured.at; value = short }
+before_fits (Some item) short measured = record { height = measured.height; registered = measured.registered; at = measured.at; value = short }
 
 op_fits : (op : UndoOp) → IsWithinLimitsOp op → IsMeasuredOp op → IsWritableOp op
 op_fits (undo_new made) limits measured = measured
@@ -187,6 +162,10 @@ entry_measured : (items : List Item) (entry : Option Item) → AllByRecursion Is
 entry_measured items None all e = tt
 entry_measured items (Some item) all e = entry_has IsMeasuredItem items item all e
 
+behind_measured : (entry : Option Item) (height : ℕ) → height < 2 ^ 32 → IsMeasuredBefore entry → registered_behind entry height < 2 ^ 32
+behind_measured None height low measured = low
+behind_measured (Some item) height low measured = measured.registered
+
 with_spent_measured : (undo : Coin → UndoOp) (spent : Option Coin) (coin : Coin) → spent ≡ Some coin → IsMeasuredOp (undo coin)
     → AllByRecursion IsMeasuredOp (with_spent undo spent)
 with_spent_measured undo spent coin held measured = subst (λ s. AllByRecursion IsMeasuredOp (with_spent undo s)) (sym held) (measured, tt)
@@ -202,9 +181,15 @@ module _ (profile : Profile) (height : ℕ) (low : height < 2 ^ 32) where
     items = measured.items;
   }
   verdict_measured maps t (opens name value place spent) means few measured =
-      moved_measured maps height spent (point_at (txid_of t) place) name value low (made_fits t _ few means.output.outputs) measured
+      moved_measured maps spent name (opened height (point_at (txid_of t) place) value) (record { at = made_fits t _ few means.output.outputs; height = low; registered = low }) measured
   verdict_measured maps t (updates name value place spent) means few measured =
-      moved_measured maps height spent (point_at (txid_of t) place) name value low (made_fits t _ few means.output.outputs) measured
+      moved_measured maps spent name (updated (entry_of (maps.names name)) height (point_at (txid_of t) place) value)
+      (record {
+        at = made_fits t _ few means.output.outputs;
+        height = low;
+        registered = behind_measured (entry_of (maps.names name)) height low (entry_measured (maps.names name) (entry_of (maps.names name)) (measured.items name) refl);
+      })
+      measured
 
   verdict_ops : (maps : Maps) (t : Transaction) (v : Verdict) → Means profile maps height t v → HasFewOutputs t → AreMeasured maps
       → AllByRecursion IsMeasuredOp (undo_of_verdict maps (txid_of t) v)
@@ -237,22 +222,6 @@ module _ (profile : Profile) (height : ℕ) (low : height < 2 ^ 32) where
       (verdict_ops maps t v means few.0 measured)
       (all_ops ts (after_transaction profile height t maps) few.1 (verdict_measured maps t v means few.0 measured))
 
--- a coin that isn't expired was there
-pub was_there : (profile : Profile) (height : ℕ) (slot : Option Coin) (coin : Coin) → unless_expired profile height slot ≡ Some coin → slot ≡ Some coin
-was_there profile height None coin e = e
-was_there profile height (Some (New hash made)) coin e = e
-was_there profile height (Some (Named name made)) coin e = by (is_expired profile made height) e
-  where
-    by : (b : Bool) → cond b None (Some (Named name made)) ≡ Some coin → Some (Named name made) ≡ Some coin
-    by true f = absurd cc
-    by false f = f
-
-pub block_measured : (profile : Profile) (height : ℕ) (ts : List Transaction) (maps : Maps) → height < 2 ^ 32 → AllByRecursion HasFewOutputs ts → AreMeasured maps
-    → AreMeasured (after_block profile height ts maps)
-block_measured profile height ts maps low few measured =
-    let after = all_measured profile height low ts maps few measured in
-    record { coins = λ point coin e. after.coins point coin (was_there profile (suc height) _ coin e); items = after.items }
-
 pub block_writable : (profile : Profile) (height : ℕ) (ts : List Transaction) (maps : Maps) (u : UndoRecord) → height < 2 ^ 32 → AllByRecursion HasFewOutputs ts → AreMeasured maps
     → length u.block.0 ≡ 32 → IsWithinLimits u → u.ops ≡ undo_ops profile height ts maps
     → IsDue (after_all profile height ts maps).coins (after_block profile height ts maps).coins u.expired → IsWritable u
@@ -260,46 +229,3 @@ block_writable profile height ts maps u low few measured block limits ops due =
     record_writable u block limits (subst (AllByRecursion IsMeasuredOp) (sym ops) (all_ops profile height low ts maps few measured))
     (all-weaker (IsGone (after_all profile height ts maps).coins (after_block profile height ts maps).coins) IsMeasuredHeld u.expired
     (λ held gone. (all_measured profile height low ts maps few measured).coins held.at held.coin gone.now_is) due.each)
-
--- ---- the way back
-
-new_coin : (point : OutPoint) (coin : Coin) → IsWritablePoint point → IsWritableNew coin → IsMeasuredCoin point coin
-new_coin point (New hash height) at fits = record { at = at; height = fits.0; hash = fits.1 }
-new_coin point (Named name height) at fits = absurd fits
-
-named_coin : (point : OutPoint) (coin : Coin) → IsWritablePoint point → IsWritableNamed coin → IsMeasuredCoin point coin
-named_coin point (New hash height) at fits = absurd fits
-named_coin point (Named name height) at fits = record { at = at; height = fits.0; hash = tt }
-
-all-take : (P : Item → Type 0) (n : ℕ) (items : List Item) → AllByRecursion P items → AllByRecursion P (take n items)
-all-take P zero items all = tt
-all-take P (suc n) [] all = tt
-all-take P (suc n) (item ∷ items) all = (all.0, all-take P n items all.1)
-
-moved_back_measured : (maps : Maps) (point spent : OutPoint) (coin : Coin) (name : List ℕ) → IsMeasuredCoin spent coin → AreMeasured maps
-    → AreMeasured (moved_back maps point spent coin name)
-moved_back_measured maps point spent coin name fits measured = record {
-  coins = coin_there (changed same_point maps.coins point None) spent coin (coin_gone maps.coins point measured.coins) fits;
-  items = items_changed maps.names name (without_entry (maps.names name)) measured.items (all-take IsMeasuredItem (length (maps.names name) - 1) (maps.names name) (measured.items name));
-}
-
-back_op_measured : (op : UndoOp) (maps : Maps) → IsWritableOp op → AreMeasured maps → AreMeasured (back_op op maps)
-back_op_measured (undo_new made) maps fits measured = record { coins = coin_gone maps.coins made measured.coins; items = measured.items }
-back_op_measured (undo_first made spent coin name before) maps fits measured =
-    moved_back_measured maps made spent coin name (new_coin spent coin fits.spent fits.coin) measured
-back_op_measured (undo_update made spent coin name before) maps fits measured =
-    moved_back_measured maps made spent coin name (named_coin spent coin fits.spent fits.coin) measured
-
-back_ops_measured : (ops : List UndoOp) (maps : Maps) → AllByRecursion IsWritableOp ops → AreMeasured maps → AreMeasured (back_ops ops maps)
-back_ops_measured [] maps fits measured = measured
-back_ops_measured (op ∷ ops) maps fits measured = back_op_measured op (back_ops ops maps) fits.0 (back_ops_measured ops maps fits.1 measured)
-
-restored_measured : (helds : List HeldCoin) (coins : OutPoint → Option Coin) → AllByRecursion IsWritableHeld helds → AreMeasuredCoins coins → AreMeasuredCoins (restored helds coins)
-restored_measured [] coins fits measured = measured
-restored_measured (held ∷ helds) coins fits measured =
-    coin_there (restored helds coins) held.at held.coin (restored_measured helds coins fits.1 measured) (named_coin held.at held.coin fits.0.at fits.0.coin)
-
-pub undone_measured : (u : UndoRecord) (maps : Maps) → IsWritable u → AreMeasured maps → AreMeasured (undone u.ops u.expired maps)
-undone_measured u maps writable measured =
-    back_ops_measured u.ops (record { coins = restored u.expired maps.coins; names = maps.names }) writable.fits.ops
-    (record { coins = restored_measured u.expired maps.coins writable.fits.expired measured.coins; items = measured.items })

@@ -74,31 +74,35 @@ gives_up w work none = record {
   names_filled = work.names_filled;
 }
 
-pub gave_up : (start now : Work) (coins : CoinSlots) (queue : QueueSlots) (empty : Roomy OutPoint) (at : OutPoint) → now.empty.items ≡ empty.items ++ at ∷ []
-    → coins_in coins ≡ coins_in now.tables.coins
-    → coin_places coins ≡ changed same_point (coin_places now.tables.coins) at (is_some (coins_in now.tables.coins at))
-    → queued_in queue ≡ queued_in now.tables.queue
-    → queue_places queue ≡ changed nat_eq (queue_places now.tables.queue) now.height (changed same_point (queue_places now.tables.queue now.height) at (queued_in now.tables.queue now.height at))
-    → IsGivingUp start now
+-- one outpoint was taken off the list, and its places were given up
+pub record IsGivenUp (now : Work) (coins : CoinSlots) (queue : QueueSlots) (empty : Roomy OutPoint) : Type 0 where
+  pub at : OutPoint
+  pub were : now.empty.items ≡ empty.items ++ at ∷ []
+  pub coins_same : coins_in coins ≡ coins_in now.tables.coins
+  pub places : coin_places coins ≡ changed same_point (coin_places now.tables.coins) at (is_some (coins_in now.tables.coins at))
+  pub queued_same : queued_in queue ≡ queued_in now.tables.queue
+  pub rows : queue_places queue ≡ changed nat_eq (queue_places now.tables.queue) now.height (changed same_point (queue_places now.tables.queue now.height) at (queued_in now.tables.queue now.height at))
+
+pub gave_up : (start now : Work) (coins : CoinSlots) (queue : QueueSlots) (empty : Roomy OutPoint) → IsGivenUp now coins queue empty → IsGivingUp start now
     → IsGivingUp start (record { tables = record { coins = coins; names = now.tables.names; queue = queue }; ops = now.ops; empty = empty; height = now.height })
-gave_up start now coins queue empty at e coins_same places queued_same rows so_far = record {
-  same = record { coins = coins_same ∙ so_far.same.coins; names = so_far.same.names; queue = queued_same ∙ so_far.same.queue };
+gave_up start now coins queue empty g so_far = record {
+  same = record { coins = g.coins_same ∙ so_far.same.coins; names = so_far.same.names; queue = g.queued_same ∙ so_far.same.queue };
   height = so_far.height;
   coins_filled =
       subst (λ held. FilledBut (Listed empty.items) (coin_places coins) held) (λ i. λ point. is_some (coins_same_back i point))
-      (subst (λ places. FilledBut (Listed empty.items) places (λ point. is_some (coins_in now.tables.coins point))) (sym places)
-      (unplaced_coin (coin_places now.tables.coins) (λ point. is_some (coins_in now.tables.coins point)) empty.items at
-      (subst (λ es. FilledBut (Listed es) (coin_places now.tables.coins) (λ point. is_some (coins_in now.tables.coins point))) e so_far.coins_filled)));
+      (subst (λ places. FilledBut (Listed empty.items) places (λ point. is_some (coins_in now.tables.coins point))) (sym g.places)
+      (unplaced_coin (coin_places now.tables.coins) (λ point. is_some (coins_in now.tables.coins point)) empty.items g.at
+      (subst (λ es. FilledBut (Listed es) (coin_places now.tables.coins) (λ point. is_some (coins_in now.tables.coins point))) g.were so_far.coins_filled)));
   queue_filled = λ height.
-      subst (λ held. FilledBut (InRow now.height empty.items height) (queue_places queue height) (held height)) (sym queued_same)
-      (subst (λ places. FilledBut (InRow now.height empty.items height) (places height) (queued_in now.tables.queue height)) (sym rows)
-      (unplaced_row now.height (queue_places now.tables.queue) (queued_in now.tables.queue) empty.items at
-      (λ h. subst (λ es. FilledBut (InRow now.height es h) (queue_places now.tables.queue h) (queued_in now.tables.queue h)) e (so_far.queue_filled h)) height));
+      subst (λ held. FilledBut (InRow now.height empty.items height) (queue_places queue height) (held height)) (sym g.queued_same)
+      (subst (λ places. FilledBut (InRow now.height empty.items height) (places height) (queued_in now.tables.queue height)) (sym g.rows)
+      (unplaced_row now.height (queue_places now.tables.queue) (queued_in now.tables.queue) empty.items g.at
+      (λ h. subst (λ es. FilledBut (InRow now.height es h) (queue_places now.tables.queue h) (queued_in now.tables.queue h)) g.were (so_far.queue_filled h)) height));
   names_filled = so_far.names_filled;
 }
   where
     coins_same_back : coins_in now.tables.coins ≡ coins_in coins
-    coins_same_back = sym coins_same
+    coins_same_back = sym g.coins_same
 
 and_never : (b : Bool) → (b && false) ≡ false
 and_never true = refl

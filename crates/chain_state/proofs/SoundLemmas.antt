@@ -10,7 +10,7 @@ use Rattle.chain_names.specs.UndoOf.{AreUndos}
 use Rattle.chain_names.proofs.IndexLemmas.{index_sound}
 use Rattle.chain_names.proofs.RecordLemmas.{HasUndos, chain_has_undos}
 use Rattle.chain_state.specs.Chain.{Indexed}
-use Rattle.chain_state.specs.Tables.{maps_by}
+use Rattle.name_tables.specs.Tables.{maps_by}
 use Rattle.chain_state.specs.Standing.{AreValid, chain_maps, StandsForChain}
 
 -- valid blocks are accepted

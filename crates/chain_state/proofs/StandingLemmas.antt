@@ -5,6 +5,7 @@ use Rattle.block_grammar.specs.Block.{Block, IsBlock}
 use Rattle.block_grammar.specs.Transaction.{Transaction}
 use Rattle.block_grammar.proofs.BlockLaws.{block_again}
 use Rattle.nmc_base.specs.declared.chain_ends.Base.{Base}
+use Rattle.nmc_base.specs.declared.chain_ends.Tip.{Tip}
 use Rattle.nmc_base.specs.declared.chain_ends.Profile.{Profile}
 use Rattle.nmc_base.specs.declared.hashes.Hash32.{Hash32}
 use Rattle.chain_names.specs.Coins.{Maps, maps_of}
@@ -13,30 +14,30 @@ use Rattle.chain_names.specs.Index.{next_height, refused_in}
 use Rattle.chain_names.specs.Changes.{first_refused, after_all, after_block, undo_ops, undone}
 use Rattle.chain_names.specs.Undo.{UndoRecord}
 use Rattle.chain_names.proofs.BlockLemmas.{refused_in-maps, index_maps-next}
-use Rattle.chain_names.specs.Tables.{coins_in, queued_in, queue_of}
+use Rattle.chain_names.specs.Tables.{queue_of}
 use Rattle.nmc_base.specs.declared.limits.TheConstants.{LONGEST_BLOCK}
 use Rattle.chain_names.specs.Expired.{IsDue}
 use Rattle.chain_names.specs.UndoOf.{hash_read, IsUndoOf, AreUndos}
 use Rattle.chain_names.proofs.IndexLemmas.{undo_by_maps, index_undone}
-use Rattle.chain_state.specs.Tables.{maps_by}
-use Rattle.chain_state.specs.Chain.{Indexed, IsAtBase, SameIndex, StagedIndex, rule_refused, IsStagedOn, IsConnected, IsAbandoned, staged_undo, newest_hash}
+use Rattle.name_tables.specs.Tables.{maps_by}
+use Rattle.chain_state.specs.Chain.{Indexed, IsAtStart, SameIndex, StagedIndex, rule_refused, IsStagedOn, IsConnected, IsAbandoned, staged_undo, newest_hash}
 use Rattle.chain_state.specs.StageBack.{IsStagedBackOn, IsDisconnected}
 use Rattle.chain_state.specs.Standing.{hash_of, chain_maps, IsValidOn, StandsForChain}
 
 plus_none : (n : ℕ) → suc n ≡ suc (n + 0)
 plus_none n = omega arith
 
-pub base_stands : (base : Base) (c : Indexed) → IsAtBase base c → StandsForChain base [] [] c
-base_stands base c at =
-    let maps = at.maps ∙ ap (λ (n : ℕ). maps_of base.profile [] n) (plus_none base.height) in
+pub base_stands : (base : Base) (start : Log) (c : Indexed) → IsAtStart base start c → StandsForChain base start [] c
+base_stands base start c at =
+    let maps = at.maps ∙ ap (λ (n : ℕ). maps_of base.profile start n) (plus_none base.height) in
     record {
       base_is = at.base_is;
       height = omega (arith, at.height);
       hash = ap (λ (h : Hash32). h.0) at.hash;
       maps = maps;
       queue = at.queue ∙ ap (λ (m : Maps). queue_of m.coins) maps;
-      undos = subst (AreUndos base.profile [] base.height []) (sym at.undos) tt;
-      valid = record { low = at.low; starts = record { makes = tt; few = omega arith } };
+      undos = subst (AreUndos base.profile start base.height []) (sym at.undos) tt;
+      valid = at.begins;
     }
 
 -- ---- the same index
@@ -82,62 +83,70 @@ module _ (base : Base) (start : Log) (blocks : List (List ℕ)) (c : Indexed) (s
       next_alike (λ p h ts m. first_refused p h 1 ts m)
       ∙ sym (refused_in-maps base.profile (next_height base.height blocks) 1 (behind_coinbase (transactions_in bytes)) (log_of start base.height blocks))
 
-  module _ (staged : StagedIndex) (on : IsStagedOn c b staged) where
-    unrefused : refused_in base.profile (next_height base.height blocks) 1 (behind_coinbase (transactions_in bytes)) (log_of start base.height blocks) ≡ None
-    unrefused = sym refused_alike ∙ on.accepted
+-- a block that is staged on the index of a chain
+pub record IsNext (base : Base) (start : Log) (blocks : List (List ℕ)) (bytes : List ℕ) (c : Indexed) (staged : StagedIndex) : Type 0 where
+  pub stands : StandsForChain base start blocks c
+  pub block : Block
+  pub is_block : IsBlock bytes block
+  pub short : length bytes ≤ LONGEST_BLOCK
+  pub on : IsStagedOn c block staged
 
-    undo_joined : IsUndoOf base.profile start base.height bytes blocks (staged_undo staged.hash staged.whole)
-    undo_joined =
-        undo_by_maps base.profile start base.height bytes blocks unrefused (staged_undo staged.hash staged.whole)
-        (on.hash ∙ sym (ap hash_read (block_again bytes b is)))
-        (on.ops ∙ next_alike undo_ops)
-        (subst (λ (m : Maps). IsDue m.coins (after_block base.profile (next_height base.height blocks) (behind_coinbase (transactions_in bytes)) (chain_maps base start blocks)).coins staged.whole.expired.items)
-        (next_alike after_all)
-        (subst (λ (m : Maps). IsDue (after_all c.base.profile (suc c.tip.height) (behind_coinbase b.transactions) (maps_by c.tables)).coins m.coins staged.whole.expired.items)
-        (next_alike after_block) on.due))
-        on.sorted
+module _ (base : Base) (start : Log) (blocks : List (List ℕ)) (bytes : List ℕ) (c : Indexed) (staged : StagedIndex) (n : IsNext base start blocks bytes c staged) where
+  said_alike : {X : Type 0} (said : Profile → ℕ → List Transaction → Maps → X)
+      → said c.base.profile (suc c.tip.height) (behind_coinbase n.block.transactions) (maps_by c.tables)
+      ≡ said base.profile (next_height base.height blocks) (behind_coinbase (transactions_in bytes)) (chain_maps base start blocks)
+  said_alike said = next_alike base start blocks c n.stands bytes n.block n.is_block said
 
-    pub valid_next : length bytes ≤ LONGEST_BLOCK → IsValidOn base start blocks bytes
-    valid_next short = record {
-      block = b;
-      is_block = is;
-      short = short;
-      on_tip = on.on_tip ∙ s.hash;
-      low = omega (arith, on.low, s.height);
-      root = on.root;
-      unrefused = unrefused;
-    }
+  unrefused : refused_in base.profile (next_height base.height blocks) 1 (behind_coinbase (transactions_in bytes)) (log_of start base.height blocks) ≡ None
+  unrefused = sym (refused_alike base start blocks c n.stands bytes n.block n.is_block) ∙ n.on.accepted
 
-    maps_after : (new : Indexed) → IsConnected staged new → maps_by new.tables ≡ chain_maps base start (bytes ∷ blocks)
-    maps_after new connected = connected.maps ∙ on.after ∙ next_alike after_block ∙ sym (index_maps-next base.profile start base.height bytes blocks unrefused)
+  undo_joined : IsUndoOf base.profile start base.height bytes blocks (staged_undo staged.hash staged.whole)
+  undo_joined =
+      undo_by_maps base.profile start base.height bytes blocks unrefused (staged_undo staged.hash staged.whole)
+      (n.on.hash ∙ sym (ap hash_read (block_again bytes n.block n.is_block)))
+      (n.on.ops ∙ said_alike undo_ops)
+      (subst (λ (m : Maps). IsDue m.coins (after_block base.profile (next_height base.height blocks) (behind_coinbase (transactions_in bytes)) (chain_maps base start blocks)).coins staged.whole.expired.items)
+      (said_alike after_all)
+      (subst (λ (m : Maps). IsDue (after_all c.base.profile (suc c.tip.height) (behind_coinbase n.block.transactions) (maps_by c.tables)).coins m.coins staged.whole.expired.items)
+      (said_alike after_block) n.on.due))
+      n.on.sorted
 
-    pub connects : length bytes ≤ LONGEST_BLOCK → (new : Indexed) → IsConnected staged new → StandsForChain base start (bytes ∷ blocks) new
-    connects short new connected = record {
-      base_is = connected.base ∙ on.base ∙ s.base_is;
-      height = omega (arith, connected.height, ap (λ t. t.height) on.tip, s.height);
-      hash = ap (λ (h : Hash32). h.0) connected.hash ∙ on.hash ∙ sym (ap hash_read (block_again bytes b is));
-      maps = maps_after new connected;
-      queue = connected.queue ∙ ap (λ (m : Maps). queue_of m.coins) (maps_after new connected);
-      undos = subst (AreUndos base.profile start base.height (bytes ∷ blocks)) (sym (connected.undos ∙ ap (λ us. staged_undo staged.hash staged.whole ∷ us) on.undos)) (undo_joined, s.undos);
-      valid = (valid_next short, s.valid);
-    }
+  pub valid_next : IsValidOn base start blocks bytes
+  valid_next = record {
+    block = n.block;
+    is_block = n.is_block;
+    short = n.short;
+    on_tip = n.on.on_tip ∙ n.stands.hash;
+    low = omega (arith, n.on.low, n.stands.height);
+    root = n.on.root;
+    unrefused = unrefused;
+  }
+
+  maps_after : (new : Indexed) → IsConnected staged new → maps_by new.tables ≡ chain_maps base start (bytes ∷ blocks)
+  maps_after new connected = connected.maps ∙ n.on.after ∙ said_alike after_block ∙ sym (index_maps-next base.profile start base.height bytes blocks unrefused)
+
+  pub connects : (new : Indexed) → IsConnected staged new → StandsForChain base start (bytes ∷ blocks) new
+  connects new connected = record {
+    base_is = connected.base ∙ n.on.base ∙ n.stands.base_is;
+    height = omega (arith, connected.height, ap (λ t. t.height) n.on.tip, n.stands.height);
+    hash = ap (λ (h : Hash32). h.0) connected.hash ∙ n.on.hash ∙ sym (ap hash_read (block_again bytes n.block n.is_block));
+    maps = maps_after new connected;
+    queue = connected.queue ∙ ap (λ (m : Maps). queue_of m.coins) (maps_after new connected);
+    undos = subst (AreUndos base.profile start base.height (bytes ∷ blocks)) (sym (connected.undos ∙ ap (λ us. staged_undo staged.hash staged.whole ∷ us) n.on.undos)) (undo_joined, n.stands.undos);
+    valid = (valid_next, n.stands.valid);
+  }
 
 -- a staged block that is abandoned leaves the index from before
-pub abandoned_same : (c new : Indexed) (block : Block) (staged : StagedIndex) → queued_in c.tables.queue ≡ queue_of (coins_in c.tables.coins)
-    → IsStagedOn c block staged → IsAbandoned staged new → SameIndex new c
-abandoned_same c new block staged queue on abandoned =
+pub abandoned_same : (c new : Indexed) (block : Block) (staged : StagedIndex) → IsStagedOn c block staged → IsAbandoned staged new → SameIndex new c
+abandoned_same c new block staged on abandoned =
     let maps = abandoned.maps ∙ on.before in
     record {
       base = abandoned.base ∙ on.base;
       tip = abandoned.tip ∙ on.tip;
       maps = maps;
-      queue = abandoned.queue ∙ ap (λ (m : Maps). queue_of m.coins) maps ∙ sym queue;
+      queue = abandoned.queue ∙ ap (λ (m : Maps). queue_of m.coins) maps ∙ sym on.queue;
       undos = abandoned.undos ∙ on.undos;
     }
-
--- the queue is that of the coins
-pub own_queue : (base : Base) (start : Log) (blocks : List (List ℕ)) (c : Indexed) → StandsForChain base start blocks c → queued_in c.tables.queue ≡ queue_of (coins_in c.tables.coins)
-own_queue base start blocks c s = s.queue ∙ sym (ap (λ (m : Maps). queue_of m.coins) s.maps)
 
 -- ---- the chain without its newest block
 
@@ -148,29 +157,36 @@ newest_is base start [] (u ∷ us) are = absurd are
 newest_is base start (block ∷ blocks) [] are = absurd are
 newest_is base start (block ∷ blocks) (u ∷ us) are = are.0.hash
 
-module _ (old staged new : Indexed) (hash : Hash32) (on : IsStagedBackOn old hash staged) (gone : IsDisconnected staged new) where
-  old_undos : old.undos ≡ gone.undo ∷ gone.below
-  old_undos = sym on.same.undos ∙ gone.undos_were
+-- an index that lost its newest block
+pub record IsTakenOff (old new : Indexed) : Type 0 where
+  pub staged : Indexed
+  pub hash : Hash32
+  pub on : IsStagedBackOn old hash staged
+  pub gone : IsDisconnected staged new
+
+module _ (old new : Indexed) (t : IsTakenOff old new) where
+  old_undos : old.undos ≡ t.gone.undo ∷ t.gone.below
+  old_undos = sym t.on.same.undos ∙ t.gone.undos_were
 
   module _ (base : Base) (start : Log) (bytes : List ℕ) (blocks : List (List ℕ)) (s : StandsForChain base start (bytes ∷ blocks) old) where
-    undos_are : AreUndos base.profile start base.height (bytes ∷ blocks) (gone.undo ∷ gone.below)
+    undos_are : AreUndos base.profile start base.height (bytes ∷ blocks) (t.gone.undo ∷ t.gone.below)
     undos_are = subst (AreUndos base.profile start base.height (bytes ∷ blocks)) old_undos s.undos
 
-    base_same : staged.base ≡ base
-    base_same = on.same.base ∙ s.base_is
+    base_same : t.staged.base ≡ base
+    base_same = t.on.same.base ∙ s.base_is
 
     maps_below : maps_by new.tables ≡ chain_maps base start blocks
     maps_below =
-        gone.maps ∙ ap (undone gone.undo.ops gone.undo.expired) (on.same.maps ∙ s.maps)
-        ∙ index_undone base.profile start base.height bytes blocks gone.undo s.valid.0.unrefused undos_are.0
+        t.gone.maps ∙ ap (undone t.gone.undo.ops t.gone.undo.expired) (t.on.same.maps ∙ s.maps)
+        ∙ index_undone base.profile start base.height bytes blocks t.gone.undo s.valid.0.unrefused undos_are.0
 
     pub disconnects : StandsForChain base start blocks new
     disconnects = record {
-      base_is = gone.base ∙ base_same;
-      height = omega (arith, gone.height, ap (λ t. t.height) on.same.tip, s.height);
-      hash = ap (λ (h : Hash32). h.0) (gone.hash ∙ ap (λ x. newest_hash x gone.below) base_same) ∙ newest_is base start blocks gone.below undos_are.1;
+      base_is = t.gone.base ∙ base_same;
+      height = omega (arith, t.gone.height, ap (λ (tip : Tip). tip.height) t.on.same.tip, s.height);
+      hash = ap (λ (h : Hash32). h.0) (t.gone.hash ∙ ap (λ x. newest_hash x t.gone.below) base_same) ∙ newest_is base start blocks t.gone.below undos_are.1;
       maps = maps_below;
-      queue = gone.queue ∙ ap (λ (m : Maps). queue_of m.coins) maps_below;
-      undos = subst (AreUndos base.profile start base.height blocks) (sym gone.undos) undos_are.1;
+      queue = t.gone.queue ∙ ap (λ (m : Maps). queue_of m.coins) maps_below;
+      undos = subst (AreUndos base.profile start base.height blocks) (sym t.gone.undos) undos_are.1;
       valid = s.valid.1;
     }

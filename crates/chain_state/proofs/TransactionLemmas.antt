@@ -13,7 +13,7 @@ use Rattle.chain_names.specs.Verdict.{Verdict, plain, commits, opens, updates, r
 use Rattle.chain_names.specs.Changes.{Refused, refused_or, undo_of_verdict, after_transaction, after_all, undo_ops, first_refused, back_ops}
 use Rattle.chain_names.proofs.Shown.{is_refused}
 use Rattle.chain_names.proofs.UndoLemmas.{transaction_back, back_ops-append}
-use Rattle.chain_state.specs.Tables.{maps_by}
+use Rattle.name_tables.specs.Tables.{maps_by}
 use Rattle.chain_state.specs.Work.{Halts}
 use Rattle.chain_state.specs.Block.{IsReady, HasFewOutputs, Applied, Declined, AppliedAll, DeclinedAll, Stopped}
 use Rattle.chain_state.specs.declared.work.Work.{Work}
@@ -90,23 +90,21 @@ module _ (profile : Profile) (start now next : Work) (ts rest : List Transaction
       next_index : (index : ℕ) → index + 1 ≡ suc index
       next_index index = omega arith
 
-  halted : Halts now next → Stopped start next
-  halted halts = record {
+  pub stopped : Halts now next → Stopped start next
+  stopped halts = record {
     before = ap (λ os. back_ops os (maps_by next.tables)) halts.ops ∙ ap (back_ops now.ops.items) halts.maps ∙ on.back;
     height = halts.height ∙ on.height;
     work = halts.work;
   }
 
-  pub stopped : Halts now next → Stopped start next
-  stopped = halted
-
-  pub declined : (refusal : RuleRefusal) → Declined profile now next t refusal → DeclinedAll profile start next ts (index, refusal)
-  declined refusal d = record {
-    refusal_is = sym on.refusal
-        ∙ ap (λ v. refused_or index v (first_refused profile start.height (suc index) rest (after_transaction profile start.height t (maps_by now.tables))))
-        (ap Said (sym on.height) ∙ d.refusal_is);
-    stopped = halted d.halts;
-  }
+pub declined : (profile : Profile) (start now next : Work) (ts rest : List Transaction) (t : Transaction) (first : Refused) (on : IsOn profile start now ts (t ∷ rest) first.0)
+    → Declined profile now next t first.1 → DeclinedAll profile start next ts first
+declined profile start now next ts rest t first on d = record {
+  refusal_is = sym on.refusal
+      ∙ ap (λ v. refused_or first.0 v (first_refused profile start.height (suc first.0) rest (after_transaction profile start.height t (maps_by now.tables))))
+      (ap (λ height. verdict profile (maps_by now.tables) height t) (sym on.height) ∙ d.refusal_is);
+  stopped = stopped profile start now next ts rest t first.0 on d.halts;
+}
 
 pub ended : (profile : Profile) (start now : Work) (ts : List Transaction) (index : ℕ) → IsOn profile start now ts [] index → AppliedAll profile start now ts
 ended profile start now ts index on = record {
@@ -117,30 +115,12 @@ ended profile start now ts index on = record {
   ready = on.ready;
 }
 
--- ---- the same, of what is left as the loop has it
+-- ---- what is left, as the loop has it
 
-module _ (profile : Profile) (start now next : Work) (ts left rest : List Transaction) (t : Transaction) (index : ℕ) (steps : left ≡ t ∷ rest) (on : IsOn profile start now ts left index) where
-  here : IsOn profile start now ts (t ∷ rest) index
-  here = subst (λ l. IsOn profile start now ts l index) steps on
-
-  pub went_on_at : Applied profile now next t → IsOn profile start next ts rest (index + 1)
-  went_on_at = went_on profile start now next ts rest t index here
-
-  pub declined_at : (refusal : RuleRefusal) → Declined profile now next t refusal → DeclinedAll profile start next ts (index, refusal)
-  declined_at = declined profile start now next ts rest t index here
-
-  pub stopped_at : Halts now next → Stopped start next
-  stopped_at = stopped profile start now next ts rest t index here
-
-module _ (profile : Profile) (start now : Work) (ts left rest : List Transaction) (t : Transaction) (index : ℕ) (steps : left ≡ t ∷ rest) (on : IsOn profile start now ts left index) where
-  front : IsOn profile start now ts (t ∷ rest) index
-  front = subst (λ l. IsOn profile start now ts l index) steps on
-
-  pub few_here : HasFewOutputs t
-  few_here = front.few.0
-
-  pub counted_here : index + length (t ∷ rest) < 2 ^ 32
-  counted_here = front.counted
+-- the next of them is the first of those that are left
+pub front : (profile : Profile) (start now : Work) (ts left rest : List Transaction) (t : Transaction) (index : ℕ) → left ≡ t ∷ rest → IsOn profile start now ts left index
+    → IsOn profile start now ts (t ∷ rest) index
+front profile start now ts left rest t index steps on = subst (λ l. IsOn profile start now ts l index) steps on
 
 pub ended_at : (profile : Profile) (start now : Work) (ts left : List Transaction) (index : ℕ) → left ≡ [] → IsOn profile start now ts left index → AppliedAll profile start now ts
 ended_at profile start now ts left index none on = ended profile start now ts index (subst (λ l. IsOn profile start now ts l index) none on)

@@ -13,7 +13,7 @@ use Rattle.chain_names.specs.Tables.{coins_in, coin_places, queued_in, queue_pla
 use Rattle.chain_names.proofs.UndoLemmas.{back_ops-append}
 use Rattle.chain_names.proofs.Points.{same_point-Decides}
 use Rattle.chain_names.specs.Fits.{AreUndoable}
-use Rattle.chain_state.specs.Tables.{maps_by}
+use Rattle.name_tables.specs.Tables.{maps_by}
 use Rattle.chain_state.specs.Work.{HasSpentPlace, HasSpentRow, may_be_empty, may_be_empty_at, IsWork, Undoes, GoesBack, with_op}
 use Rattle.chain_state.specs.declared.work.Work.{Work}
 use Rattle.chain_state.proofs.WorkLemmas.{fits-less}

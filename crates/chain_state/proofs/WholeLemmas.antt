@@ -1,5 +1,5 @@
 -- A block's work is whole, and is undone.
-use Rattle.std.proofs.Common.{◌≡◌, ℕ, suc, ◌+◌, ◌<◌, Bool, true, false, cond, ◌&&◌, List, [], ◌∷◌, refl, sym, ap, subst, ◌∙◌}
+use Rattle.std.proofs.Common.{◌≡◌, ℕ, suc, Bool, true, false, cond, ◌&&◌, List, [], ◌∷◌, refl, sym, ap, subst, ◌∙◌}
 use Rattle.std.proofs.Math.Path.{fun_ext}
 use Rattle.std.specs.Prelude.{Option, Some, None, ◌||◌, ◌==◌}
 use Rattle.std.specs.Option.{is_some}
@@ -7,7 +7,7 @@ use Rattle.std.specs.List.{list_any, AllByRecursion}
 use Rattle.std.specs.List.Sorted.{IsStrictlySortedBy}
 use Rattle.std.specs.Cmp.{unsigned_Decides}
 use Rattle.nmc_base.specs.Roomy.{Roomy}
-use Rattle.nmc_base.specs.Expiry.{expiry_depth}
+use Rattle.nmc_base.specs.Expiry.{due_height}
 use Rattle.nmc_base.specs.declared.chain_ends.Profile.{Profile}
 use Rattle.nmc_base.specs.declared.hashes.OutPoint.{OutPoint}
 use Rattle.chain_names.specs.declared.coin.Coin.{Coin}
@@ -20,7 +20,10 @@ use Rattle.chain_names.proofs.Points.{same_point-Decides}
 use Rattle.chain_names.proofs.DueLemmas.{unless_expired-row, unless_expired-none}
 use Rattle.chain_names.proofs.Shown.{true_is_not_false}
 use Rattle.chain_names.specs.Fits.{AreUndoable}
-use Rattle.chain_state.specs.Tables.{maps_by}
+use Rattle.chain_names.specs.Coins.{Maps, unless_expired}
+use Rattle.chain_names.proofs.StandLemmas.{Stands}
+use Rattle.chain_names.proofs.FitLemmas.{standing_live}
+use Rattle.name_tables.specs.Tables.{maps_by}
 use Rattle.chain_state.specs.Block.{IsReady}
 use Rattle.name_tables.specs.Places.{spends, spends_at, is_queued_at}
 use Rattle.chain_state.specs.Work.{may_be_empty, may_be_empty_at, IsWork}
@@ -184,95 +187,106 @@ named_some : (row : ℕ) (coin : Option Coin) → is_named_at row coin ≡ true 
 named_some row None e = absurd (true_is_not_false (sym e))
 named_some row (Some coin) e = refl
 
-module _ (profile : Profile) (old : Work) (tables : Tables) (row : ℕ) (expired : Roomy HeldCoin) (ready : IsReady profile old)
-    (due : row + expiry_depth profile (suc old.height) ≡ suc old.height) (gone : Expires old.tables tables row expired.items) where
+of_the_row : (row : ℕ) (coins : OutPoint → Option Coin) (helds : List HeldCoin) → AllByRecursion (IsDueCoin coins row) helds → AllByRecursion (λ h. is_named_at row (Some h.coin) ≡ true) helds
+of_the_row row coins [] all = tt
+of_the_row row coins (held ∷ helds) all = (all.0.of_row, of_the_row row coins helds all.1)
+
+kept_named : (row height : ℕ) (coin : Option Coin) (b : Bool) → is_named_at row coin ≡ b → b ≡ false → is_named_at height coin ≡ true → is_named_at height (unless_named_at row coin) ≡ true
+kept_named row height coin true is e named = absurd (true_is_not_false e)
+kept_named row height coin false is e named = ap (λ b. is_named_at height (cond b None coin)) is ∙ named
+
+same_row : (row height : ℕ) (coin : Option Coin) → is_named_at row coin ≡ true → is_named_at height coin ≡ true → row ≡ height
+same_row row height None a b = absurd (true_is_not_false (sym a))
+same_row row height (Some (New hash made)) a b = absurd (true_is_not_false (sym a))
+same_row row height (Some (Named name made)) a b = sym ((unsigned_Decides made row).0 a) ∙ (unsigned_Decides made height).0 b
+
+-- a coin that stands isn't expired
+lives : (profile : Profile) (height : ℕ) (maps : Maps) → Stands profile height height maps → (point : OutPoint) (slot : Option Coin) → maps.coins point ≡ slot → unless_expired profile height slot ≡ slot
+lives profile height maps stands point None is = refl
+lives profile height maps stands point (Some coin) is = standing_live profile height maps point coin stands is
+
+-- the coins of the row that is due expired after the block
+pub record HasExpired (profile : Profile) (old : Work) (tables : Tables) (expired : Roomy HeldCoin) : Type 0 where
+  pub ready : IsReady profile old
+  pub row : ℕ
+  pub due : due_height profile (suc old.height) ≡ Some row
+  pub gone : Expires old.tables tables row expired.items
+
+module _ (profile : Profile) (old : Work) (tables : Tables) (expired : Roomy HeldCoin) (e : HasExpired profile old tables expired) where
   abbrev Done : Whole
   Done = record { work = record { tables = tables; ops = old.ops; empty = old.empty; height = old.height }; expired = expired }
 
   -- a coin of the row is among those that expired
-  among : (point : OutPoint) → is_named_at row (coins_in old.tables.coins point) ≡ true → (b : Bool) → list_any (is_held_at point) expired.items ≡ b → b ≡ true
+  among : (point : OutPoint) → is_named_at e.row (coins_in old.tables.coins point) ≡ true → (b : Bool) → list_any (is_held_at point) expired.items ≡ b → b ≡ true
   among point named true is = refl
   among point named false is =
-      let before = ap (λ f. f point) (sym gone.back) ∙ restored_other point expired.items (coins_in tables.coins) is ∙ ap (λ f. f point) gone.coins ∙ some_row_coin row _ named in
-      absurd (true_is_not_false (sym (named_some row _ named) ∙ ap is_some before))
+      let before = ap (λ f. f point) (sym e.gone.back) ∙ restored_other point expired.items (coins_in tables.coins) is ∙ ap (λ f. f point) e.gone.coins ∙ some_row_coin e.row _ named in
+      absurd (true_is_not_false (sym (named_some e.row _ named) ∙ ap is_some before))
 
   done_maps : maps_by tables ≡ without_expired profile (suc old.height) (maps_by old.tables)
   done_maps = λ i. record {
-    coins = (gone.coins ∙ fun_ext (λ point. sym (unless_expired-row profile old.height row (coins_in old.tables.coins point) due (ap (λ f. f point) ready.standing.live)))) i;
-    names = names_in (gone.names i);
+    coins = (e.gone.coins ∙ fun_ext (λ point. sym (unless_expired-row profile old.height e.row (coins_in old.tables.coins point) e.due (lives profile old.height (maps_by old.tables) e.ready.standing point (coins_in old.tables.coins point) refl)))) i;
+    names = names_in (e.gone.names i);
   }
 
   done_returned : maps_returned tables expired.items ≡ maps_by old.tables
-  done_returned = λ i. record { coins = gone.back i; names = names_in (gone.names i) }
-
-  of_the_row : (coins : OutPoint → Option Coin) (helds : List HeldCoin) → AllByRecursion (IsDueCoin coins row) helds → AllByRecursion (λ h. is_named_at row (Some h.coin) ≡ true) helds
-  of_the_row coins [] all = tt
-  of_the_row coins (held ∷ helds) all = (all.0.of_row, of_the_row coins helds all.1)
+  done_returned = λ i. record { coins = e.gone.back i; names = names_in (e.gone.names i) }
 
   done_filled : FilledBut (λ point. may_be_empty old.ops.items old.empty.items point || list_any (is_held_at point) expired.items) (coin_places tables.coins) (λ point. is_some (coins_in tables.coins point))
   done_filled point here free =
-      let was = ready.work.coins_filled point (ap (λ f. f point) (sym gone.places) ∙ here) (or_left _ _ free) in
-      ap (λ f. is_some (f point)) gone.coins
-      ∙ named_is_named row (coins_in old.tables.coins point) (is_named_at row (coins_in old.tables.coins point)) refl
-      (not_named point (is_named_at row (coins_in old.tables.coins point)) refl (or_right (may_be_empty old.ops.items old.empty.items point) _ free)) was
+      let was = e.ready.work.coins_filled point (ap (λ f. f point) (sym e.gone.places) ∙ here) (or_left _ _ free) in
+      ap (λ f. is_some (f point)) e.gone.coins
+      ∙ named_is_named e.row (coins_in old.tables.coins point) (is_named_at e.row (coins_in old.tables.coins point)) refl
+      (not_named point (is_named_at e.row (coins_in old.tables.coins point)) refl (or_right (may_be_empty old.ops.items old.empty.items point) _ free)) was
     where
-      not_named : (point : OutPoint) (b : Bool) → is_named_at row (coins_in old.tables.coins point) ≡ b → list_any (is_held_at point) expired.items ≡ false → b ≡ false
+      not_named : (point : OutPoint) (b : Bool) → is_named_at e.row (coins_in old.tables.coins point) ≡ b → list_any (is_held_at point) expired.items ≡ false → b ≡ false
       not_named point true is none = absurd (true_is_not_false (sym (among point is (list_any (is_held_at point) expired.items) refl) ∙ none))
       not_named point false is none = refl
 
-  kept_named : (height : ℕ) (coin : Option Coin) (b : Bool) → is_named_at row coin ≡ b → b ≡ false → is_named_at height coin ≡ true → is_named_at height (unless_named_at row coin) ≡ true
-  kept_named height coin true is e named = absurd (true_is_not_false e)
-  kept_named height coin false is e named = ap (λ b. is_named_at height (cond b None coin)) is ∙ named
-
-  same_row : (height : ℕ) (coin : Option Coin) → is_named_at row coin ≡ true → is_named_at height coin ≡ true → row ≡ height
-  same_row height None a b = absurd (true_is_not_false (sym a))
-  same_row height (Some (New hash made)) a b = absurd (true_is_not_false (sym a))
-  same_row height (Some (Named name made)) a b = sym ((unsigned_Decides made row).0 a) ∙ (unsigned_Decides made height).0 b
-
   done_rows : (height : ℕ) → FilledBut (λ point. may_be_empty_at old.height old.ops.items old.empty.items height point || list_any (is_queued_at height point) expired.items) (queue_places tables.queue height) (queued_in tables.queue height)
   done_rows height point here free =
-      let was = ap (λ q. q height point) (sym ready.work.queue) ∙ ready.work.queue_filled height point (ap (λ q. q height point) (sym gone.rows) ∙ here) (or_left _ _ free) in
-      ap (λ q. q height point) gone.queue ∙ ap (λ f. is_named_at height (f point)) gone.coins
-      ∙ kept_named height (coins_in old.tables.coins point) (is_named_at row (coins_in old.tables.coins point)) refl
-      (not_of_row (is_named_at row (coins_in old.tables.coins point)) refl was (or_right (may_be_empty_at old.height old.ops.items old.empty.items height point) _ free)) was
+      let was = ap (λ q. q height point) (sym e.ready.work.queue) ∙ e.ready.work.queue_filled height point (ap (λ q. q height point) (sym e.gone.rows) ∙ here) (or_left _ _ free) in
+      ap (λ q. q height point) e.gone.queue ∙ ap (λ f. is_named_at height (f point)) e.gone.coins
+      ∙ kept_named e.row height (coins_in old.tables.coins point) (is_named_at e.row (coins_in old.tables.coins point)) refl
+      (not_of_row (is_named_at e.row (coins_in old.tables.coins point)) refl was (or_right (may_be_empty_at old.height old.ops.items old.empty.items height point) _ free)) was
     where
-      not_of_row : (b : Bool) → is_named_at row (coins_in old.tables.coins point) ≡ b → is_named_at height (coins_in old.tables.coins point) ≡ true
+      not_of_row : (b : Bool) → is_named_at e.row (coins_in old.tables.coins point) ≡ b → is_named_at height (coins_in old.tables.coins point) ≡ true
           → list_any (is_queued_at height point) expired.items ≡ false → b ≡ false
       not_of_row true is named none =
-          let row_is = same_row height (coins_in old.tables.coins point) is named in
-          let nowhere = sym (queued_all row expired.items point (of_the_row (coins_in old.tables.coins) expired.items gone.each)) ∙ ap (λ n. list_any (is_queued_at n point) expired.items) row_is ∙ none in
+          let row_is = same_row e.row height (coins_in old.tables.coins point) is named in
+          let nowhere = sym (queued_all e.row expired.items point (of_the_row e.row (coins_in old.tables.coins) expired.items e.gone.each)) ∙ ap (λ n. list_any (is_queued_at n point) expired.items) row_is ∙ none in
           absurd (true_is_not_false (sym (among point is (list_any (is_held_at point) expired.items) refl) ∙ nowhere))
       not_of_row false is named none = refl
 
-  can_return : (helds : List HeldCoin) → AllByRecursion (IsDueCoin (coins_in old.tables.coins) row) helds → AllByRecursion (CanReturn tables row) helds
+  can_return : (helds : List HeldCoin) → AllByRecursion (IsDueCoin (coins_in old.tables.coins) e.row) helds → AllByRecursion (CanReturn tables e.row) helds
   can_return [] all = tt
   can_return (held ∷ helds) all =
       let was = all.0.held_is in
-      let named = ap (is_named_at row) was ∙ all.0.of_row in (
+      let named = ap (is_named_at e.row) was ∙ all.0.of_row in (
         record {
           of_row = all.0.of_row;
-          place = ap (λ f. f held.at) gone.places ∙ coin-placed old.tables.coins held.at held.coin was;
-          row_place = ap (λ q. q row held.at) gone.rows ∙ queued-placed old.tables.queue row held.at (ap (λ q. q row held.at) ready.work.queue ∙ named);
-          free = λ other apart. ap (λ f. is_named_at other (f held.at)) gone.coins ∙ ap (is_named_at other) (some_row_coin row (coins_in old.tables.coins held.at) named);
+          place = ap (λ f. f held.at) e.gone.places ∙ coin-placed old.tables.coins held.at held.coin was;
+          row_place = ap (λ q. q e.row held.at) e.gone.rows ∙ queued-placed old.tables.queue e.row held.at (ap (λ q. q e.row held.at) e.ready.work.queue ∙ named);
+          free = λ other apart. ap (λ f. is_named_at other (f held.at)) e.gone.coins ∙ ap (is_named_at other) (some_row_coin e.row (coins_in old.tables.coins held.at) named);
         },
         can_return helds all.1,
       )
 
-  gone_each : (helds : List HeldCoin) → AllByRecursion (IsDueCoin (coins_in old.tables.coins) row) helds → AllByRecursion (IsGone (coins_in old.tables.coins) (coins_in tables.coins)) helds
+  gone_each : (helds : List HeldCoin) → AllByRecursion (IsDueCoin (coins_in old.tables.coins) e.row) helds → AllByRecursion (IsGone (coins_in old.tables.coins) (coins_in tables.coins)) helds
   gone_each [] all = tt
   gone_each (held ∷ helds) all =
       let was = all.0.held_is in (
         record {
           now_is = was;
-          next_is = ap (λ f. f held.at) gone.coins ∙ named_gone row (coins_in old.tables.coins held.at) (ap (is_named_at row) was ∙ all.0.of_row);
+          next_is = ap (λ f. f held.at) e.gone.coins ∙ named_gone e.row (coins_in old.tables.coins held.at) (ap (is_named_at e.row) was ∙ all.0.of_row);
         },
         gone_each helds all.1,
       )
 
   gone_all : (point : OutPoint) (coin : Coin) → coins_in old.tables.coins point ≡ Some coin → coins_in tables.coins point ≡ None → list_any (is_held_at point) expired.items ≡ true
   gone_all point coin now next =
-      gone.all point (ap (λ q. q row point) ready.work.queue
-      ∙ lost_named row (coins_in old.tables.coins point) coin now (ap (λ f. f point) (sym gone.coins) ∙ next) _ refl)
+      e.gone.all point (ap (λ q. q e.row point) e.ready.work.queue
+      ∙ lost_named e.row (coins_in old.tables.coins point) coin now (ap (λ f. f point) (sym e.gone.coins) ∙ next) _ refl)
 
   pub finished : Finishes profile old Done
   finished = record {
@@ -280,20 +294,20 @@ module _ (profile : Profile) (old : Work) (tables : Tables) (row : ℕ) (expired
     ops = refl;
     maps = done_maps;
     before = ap (back_ops old.ops.items) done_returned;
-    due = record { each = gone_each expired.items gone.each; all = gone_all };
-    sorted = gone.sorted;
+    due = record { each = gone_each expired.items e.gone.each; all = gone_all };
+    sorted = e.gone.sorted;
     whole = record {
-      queue = gone.queue;
-      fits = subst (AreUndoable old.height old.ops.items) (sym done_returned) ready.work.fits;
-      spent_placed = subst (λ places. AllByRecursion (λ o. (point : OutPoint) → spends point o ≡ true → places point ≡ true) old.ops.items) (sym gone.places) ready.work.spent_placed;
-      spent_rows = subst (λ rows. AllByRecursion (λ o. (height : ℕ) (point : OutPoint) → spends_at height point o ≡ true → rows height point ≡ true) old.ops.items) (sym gone.rows) ready.work.spent_rows;
+      queue = e.gone.queue;
+      fits = subst (AreUndoable old.height old.ops.items) (sym done_returned) e.ready.work.fits;
+      spent_placed = subst (λ places. AllByRecursion (λ o. (point : OutPoint) → spends point o ≡ true → places point ≡ true) old.ops.items) (sym e.gone.places) e.ready.work.spent_placed;
+      spent_rows = subst (λ rows. AllByRecursion (λ o. (height : ℕ) (point : OutPoint) → spends_at height point o ≡ true → rows height point ≡ true) old.ops.items) (sym e.gone.rows) e.ready.work.spent_rows;
       coins_filled = done_filled;
       queue_filled = done_rows;
-      names_filled = subst AreNamesFilled (sym gone.names) ready.work.names_filled;
-      none_empty = ready.none_empty;
-      room = ready.work.room;
-      row = row;
-      returns = can_return expired.items gone.each;
+      names_filled = subst AreNamesFilled (sym e.gone.names) e.ready.work.names_filled;
+      none_empty = e.ready.none_empty;
+      room = e.ready.work.room;
+      row = e.row;
+      returns = can_return expired.items e.gone.each;
     };
   }
 
@@ -303,13 +317,13 @@ or_false : (b : Bool) → (b || false) ≡ b
 or_false true = refl
 or_false false = refl
 
-pub finished_none : (profile : Profile) (old : Work) (expired : Roomy HeldCoin) → IsReady profile old → suc old.height < expiry_depth profile (suc old.height) → expired.items ≡ []
+pub finished_none : (profile : Profile) (old : Work) (expired : Roomy HeldCoin) → IsReady profile old → due_height profile (suc old.height) ≡ None → expired.items ≡ []
     → Finishes profile old (record { work = old; expired = expired })
 unfolding IsStrictlySortedBy
-finished_none profile old expired ready high none = record {
+finished_none profile old expired ready undue none = record {
   height = refl;
   ops = refl;
-  maps = λ i. record { coins = fun_ext (λ point. sym (unless_expired-none profile old.height (coins_in old.tables.coins point) high)) i; names = names_in old.tables.names };
+  maps = λ i. record { coins = fun_ext (λ point. sym (unless_expired-none profile old.height (coins_in old.tables.coins point) undue (lives profile old.height (maps_by old.tables) ready.standing point (coins_in old.tables.coins point) refl))) i; names = names_in old.tables.names };
   before = ap (λ es. back_ops old.ops.items (maps_returned old.tables es)) none;
   due = record {
     each = subst (AllByRecursion (IsGone (coins_in old.tables.coins) (coins_in old.tables.coins))) (sym none) tt;

@@ -22,7 +22,7 @@ use Rattle.chain_names.proofs.Filled.{filled-weaker}
 use Rattle.chain_names.proofs.Shown.{true_is_not_false}
 use Rattle.chain_names.proofs.UndoLemmas.{back_ops-append}
 use Rattle.chain_names.specs.Fits.{IsUndoable, AreUndoable}
-use Rattle.chain_state.specs.Tables.{maps_by}
+use Rattle.name_tables.specs.Tables.{maps_by}
 use Rattle.name_tables.specs.Places.{spends, spends_at}
 use Rattle.chain_state.specs.Work.{HasSpentPlace, HasSpentRow, may_be_empty, may_be_empty_at, IsWork, Advances, with_commitment}
 use Rattle.chain_state.specs.declared.work.Work.{Work}
@@ -75,76 +75,82 @@ filled-made touched places held k filled q = made_at_filled touched places held 
 none_queued : (u : ℕ) → is_named_at u None ≡ false
 none_queued u = refl
 
-module _ (w : Work) (made : OutPoint) (hash : Hash20) (coins : CoinSlots) (ops : Roomy UndoOp) (empty : Roomy OutPoint)
-    (work : IsWork w) (fresh : coins_in w.tables.coins made ≡ None)
-    (coins_are : coins_in coins ≡ changed same_point (coins_in w.tables.coins) made (Some (New hash w.height)))
-    (places_are : coin_places coins ≡ changed same_point (coin_places w.tables.coins) made true)
-    (ops_are : ops.items ≡ w.ops.items ++ undo_new made ∷ [])
-    (empty_is : empty.items ≡ w.empty.items)
-    (room : length ops.items + 1 ≤ empty.spare) where
+-- a commitment was put into the tables, and the operation that undoes it was noted
+pub record IsCommit (w : Work) (coins : CoinSlots) (ops : Roomy UndoOp) (empty : Roomy OutPoint) : Type 0 where
+  pub made : OutPoint
+  pub hash : Hash20
+  pub work : IsWork w
+  pub fresh : coins_in w.tables.coins made ≡ None
+  pub coins_are : coins_in coins ≡ changed same_point (coins_in w.tables.coins) made (Some (New hash w.height))
+  pub places_are : coin_places coins ≡ changed same_point (coin_places w.tables.coins) made true
+  pub ops_are : ops.items ≡ w.ops.items ++ undo_new made ∷ []
+  pub empty_is : empty.items ≡ w.empty.items
+  pub room : length ops.items + 1 ≤ empty.spare
+
+module _ (w : Work) (coins : CoinSlots) (ops : Roomy UndoOp) (empty : Roomy OutPoint) (m : IsCommit w coins ops empty) where
   abbrev Committed : Work
   Committed = record { tables = record { coins = coins; names = w.tables.names; queue = w.tables.queue }; ops = ops; empty = empty; height = w.height }
 
-  commit_maps : maps_by Committed.tables ≡ with_commitment (maps_by w.tables) w.height made hash
-  commit_maps = λ i. record { coins = coins_are i; names = names_in w.tables.names }
+  commit_maps : maps_by Committed.tables ≡ with_commitment (maps_by w.tables) w.height m.made m.hash
+  commit_maps = λ i. record { coins = m.coins_are i; names = names_in w.tables.names }
 
   commit_queue : queued_in w.tables.queue ≡ queue_of (coins_in coins)
   commit_queue =
-      work.queue ∙ sym (queue_of-still (coins_in w.tables.coins) made (Some (New hash w.height)) (λ u. ap (is_named_at u) fresh) (λ u. refl)) ∙ ap queue_of (sym coins_are)
+      m.work.queue ∙ sym (queue_of-still (coins_in w.tables.coins) m.made (Some (New m.hash w.height)) (λ u. ap (is_named_at u) m.fresh) (λ u. refl)) ∙ ap queue_of (sym m.coins_are)
 
-  commit_back : back_op (undo_new made) (maps_by Committed.tables) ≡ maps_by w.tables
+  commit_back : back_op (undo_new m.made) (maps_by Committed.tables) ≡ maps_by w.tables
   commit_back =
-      ap (back_op (undo_new made)) commit_maps
-      ∙ (λ i. record { coins = changed_back same_point-Decides (coins_in w.tables.coins) made None (Some (New hash w.height)) fresh i; names = names_in w.tables.names })
+      ap (back_op (undo_new m.made)) commit_maps
+      ∙ (λ i. record { coins = changed_back same_point-Decides (coins_in w.tables.coins) m.made None (Some (New m.hash w.height)) m.fresh i; names = names_in w.tables.names })
 
   commit_fits : AreUndoable w.height ops.items (maps_by Committed.tables)
   commit_fits =
-      subst (λ os. AreUndoable w.height os (maps_by Committed.tables)) (sym ops_are)
-      (fits-more w.height w.ops.items (undo_new made) (maps_by Committed.tables)
-      (subst (AreUndoable w.height w.ops.items) (sym commit_back) work.fits)
+      subst (λ os. AreUndoable w.height os (maps_by Committed.tables)) (sym m.ops_are)
+      (fits-more w.height w.ops.items (undo_new m.made) (maps_by Committed.tables)
+      (subst (AreUndoable w.height w.ops.items) (sym commit_back) m.work.fits)
       (record {
-        coin = New hash w.height;
-        held = ap (λ f. f made) coins_are ∙ changed_at same_point-Decides (coins_in w.tables.coins) made (Some (New hash w.height));
+        coin = New m.hash w.height;
+        held = ap (λ f. f m.made) m.coins_are ∙ changed_at same_point-Decides (coins_in w.tables.coins) m.made (Some (New m.hash w.height));
         unnamed = λ u. refl;
       }))
 
   place_stays : (op : UndoOp) → HasSpentPlace w.tables op → HasSpentPlace Committed.tables op
-  place_stays op has point spent = ap (λ f. f point) places_are ∙ place-kept (coin_places w.tables.coins) made point (has point spent)
+  place_stays op has point spent = ap (λ f. f point) m.places_are ∙ place-kept (coin_places w.tables.coins) m.made point (has point spent)
 
   commit_places : AllByRecursion (HasSpentPlace Committed.tables) ops.items
   commit_places =
-      subst (AllByRecursion (HasSpentPlace Committed.tables)) (sym ops_are)
-      (all-more (HasSpentPlace Committed.tables) w.ops.items (undo_new made)
-      (all-weaker (HasSpentPlace w.tables) (HasSpentPlace Committed.tables) w.ops.items place_stays work.spent_placed)
+      subst (AllByRecursion (HasSpentPlace Committed.tables)) (sym m.ops_are)
+      (all-more (HasSpentPlace Committed.tables) w.ops.items (undo_new m.made)
+      (all-weaker (HasSpentPlace w.tables) (HasSpentPlace Committed.tables) w.ops.items place_stays m.work.spent_placed)
       (λ point spent. absurd (true_is_not_false (sym spent))))
 
   commit_rows : AllByRecursion (HasSpentRow Committed.tables) ops.items
   commit_rows =
-      subst (AllByRecursion (HasSpentRow Committed.tables)) (sym ops_are)
-      (all-more (HasSpentRow Committed.tables) w.ops.items (undo_new made) work.spent_rows (λ height point spent. absurd (true_is_not_false (sym spent))))
+      subst (AllByRecursion (HasSpentRow Committed.tables)) (sym m.ops_are)
+      (all-more (HasSpentRow Committed.tables) w.ops.items (undo_new m.made) m.work.spent_rows (λ height point spent. absurd (true_is_not_false (sym spent))))
 
-  commit_held : (λ point. is_some (coins_in coins point)) ≡ changed same_point (λ point. is_some (coins_in w.tables.coins point)) made true
-  commit_held = ap (λ f. λ point. is_some (f point)) coins_are ∙ changed_mapped same_point is_some (coins_in w.tables.coins) made (Some (New hash w.height))
+  commit_held : (λ point. is_some (coins_in coins point)) ≡ changed same_point (λ point. is_some (coins_in w.tables.coins point)) m.made true
+  commit_held = ap (λ f. λ point. is_some (f point)) m.coins_are ∙ changed_mapped same_point is_some (coins_in w.tables.coins) m.made (Some (New m.hash w.height))
 
   commit_filled : FilledBut (may_be_empty ops.items empty.items) (coin_places coins) (λ point. is_some (coins_in coins point))
   commit_filled =
-      rw ops_are
-      (rw empty_is
-      (subst (λ places. FilledBut (may_be_empty (w.ops.items ++ undo_new made ∷ []) w.empty.items) places (λ point. is_some (coins_in coins point))) (sym places_are)
-      (subst (λ held. FilledBut (may_be_empty (w.ops.items ++ undo_new made ∷ []) w.empty.items) (changed same_point (coin_places w.tables.coins) made true) held) (sym commit_held)
-      (filled-weaker _ _ _ _ (empty-weaker w.ops.items (undo_new made) w.empty.items) (filled-made _ _ _ made work.coins_filled)))))
+      rw m.ops_are
+      (rw m.empty_is
+      (subst (λ places. FilledBut (may_be_empty (w.ops.items ++ undo_new m.made ∷ []) w.empty.items) places (λ point. is_some (coins_in coins point))) (sym m.places_are)
+      (subst (λ held. FilledBut (may_be_empty (w.ops.items ++ undo_new m.made ∷ []) w.empty.items) (changed same_point (coin_places w.tables.coins) m.made true) held) (sym commit_held)
+      (filled-weaker _ _ _ _ (empty-weaker w.ops.items (undo_new m.made) w.empty.items) (filled-made _ _ _ m.made m.work.coins_filled)))))
 
   commit_row_filled : (height : ℕ) → FilledBut (may_be_empty_at w.height ops.items empty.items height) (queue_places w.tables.queue height) (queued_in w.tables.queue height)
   commit_row_filled height =
-      rw ops_are
-      (rw empty_is (filled-weaker _ _ _ _ (empty_at-weaker w.height w.ops.items (undo_new made) w.empty.items height) (work.queue_filled height)))
+      rw m.ops_are
+      (rw m.empty_is (filled-weaker _ _ _ _ (empty_at-weaker w.height w.ops.items (undo_new m.made) w.empty.items height) (m.work.queue_filled height)))
 
-  pub commit_advances : Advances w Committed (undo_new made ∷ []) (with_commitment (maps_by w.tables) w.height made hash)
+  pub commit_advances : Advances w Committed (undo_new m.made ∷ []) (with_commitment (maps_by w.tables) w.height m.made m.hash)
   commit_advances = record {
     maps = commit_maps;
-    ops = ops_are;
+    ops = m.ops_are;
     height = refl;
-    empty = empty_is;
+    empty = m.empty_is;
     work = record {
       queue = commit_queue;
       fits = commit_fits;
@@ -152,7 +158,7 @@ module _ (w : Work) (made : OutPoint) (hash : Hash20) (coins : CoinSlots) (ops :
       spent_rows = commit_rows;
       coins_filled = commit_filled;
       queue_filled = commit_row_filled;
-      names_filled = work.names_filled;
-      room = room;
+      names_filled = m.work.names_filled;
+      room = m.room;
     };
   }

@@ -8,8 +8,8 @@ use Rattle.chain_names.specs.Changes.{undo_ops, back_ops}
 use Rattle.chain_names.specs.Tables.{coins_in, queued_in, queue_of}
 use Rattle.chain_names.proofs.BlockLemmas.{all_back}
 use Rattle.name_tables.specs.Tables.{AreFilled}
-use Rattle.chain_state.specs.Tables.{maps_by}
-use Rattle.chain_state.specs.Block.{AppliedAll, Stopped}
+use Rattle.name_tables.specs.Tables.{maps_by}
+use Rattle.chain_state.specs.Block.{AppliedAll}
 use Rattle.chain_state.specs.Cost.{owed_for, all_touched}
 use Rattle.chain_state.specs.Work.{maps_before}
 use Rattle.chain_state.specs.Worked.{HandsBack}
@@ -24,18 +24,10 @@ applied_back profile old done ts applied =
     ∙ ap (back_ops (undo_ops profile old.height ts (maps_by old.tables))) applied.maps
     ∙ all_back profile old.height 1 ts (maps_by old.tables) applied.accepted
 
-pub stopped_back : (old done : Work) (t : Tables) → Stopped old done → maps_by t ≡ maps_before done → queued_in t.queue ≡ queue_of (coins_in t.coins) → AreFilled t
+-- the work is undone, and the tables are handed back
+pub handed_back : (old done : Work) (t : Tables) → maps_before done ≡ maps_by old.tables → maps_by t ≡ maps_before done → queued_in t.queue ≡ queue_of (coins_in t.coins) → AreFilled t
     → HandsBack old t
-stopped_back old done t stopped maps queue filled = record { maps = maps ∙ stopped.before; queue = queue; filled = filled }
-
--- there was no memory for the coins that expired
-pub unfinished_back : (profile : Profile) (old done same : Work) (ts : List Transaction) (t : Tables) → AppliedAll profile old done ts → same ≡ done → maps_by t ≡ maps_before same
-    → queued_in t.queue ≡ queue_of (coins_in t.coins) → AreFilled t → HandsBack old t
-unfinished_back profile old done same ts t applied same_is maps queue filled = record {
-  maps = maps ∙ ap maps_before same_is ∙ applied_back profile old done ts applied;
-  queue = queue;
-  filled = filled;
-}
+handed_back old done t before maps queue filled = record { maps = maps ∙ before; queue = queue; filled = filled }
 
 pub whole_paid : (start applied finished : ℕ) (ts : List Transaction) (w : Work) (whole : Whole) → applied + owed_for w.ops.items ≤ start + 8 * all_touched ts → whole.work.ops ≡ w.ops
     → finished ≤ applied + 1 + 2 * length whole.work.ops.items + 4 * length whole.expired.items

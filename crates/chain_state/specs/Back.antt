@@ -11,8 +11,7 @@ use Rattle.chain_names.specs.Undo.{UndoRecord}
 use Rattle.chain_names.specs.Sound.{IsSound}
 use Rattle.chain_names.specs.declared.undo.Undo.{Undo}
 use Rattle.chain_names.specs.Writable.{IsWritable}
-use Rattle.chain_state.specs.Measure.{AreMeasured}
-use Rattle.chain_state.specs.Tables.{maps_by}
+use Rattle.name_tables.specs.Tables.{maps_by}
 use Rattle.chain_state.specs.Whole.{IsWhole}
 use Rattle.chain_state.specs.Chain.{index_of, newest_hash}
 use Rattle.name_tables.specs.declared.tables.Tables.{Tables}
@@ -31,5 +30,4 @@ pub record IsStagedBack (base : Base) (tip : Tip) (tables : Tables) (undos : Roo
       → IsWhole (block_work tables ops expired empty tip.height)
   pub hash : tip.hash ≡ newest_hash base (undo ∷ below)
   pub sound : IsSound base.profile base.height tip.height (maps_by tables) (undo ∷ below)
-  pub measured : AreMeasured (maps_by tables)
   pub writable : AllByRecursion IsWritable (undo ∷ below)

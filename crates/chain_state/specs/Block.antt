@@ -1,5 +1,5 @@
 -- What the transactions of a block did to the tables.
-use Rattle.std.specs.Prelude.{◌≡◌, ◌≢◌, ℕ, suc, ◌≤◌, ◌^◌, List, [], ◌++◌, length, Option, Some, None, Result, Ok, Err}
+use Rattle.std.specs.Prelude.{◌≡◌, ◌≢◌, ℕ, ◌≤◌, ◌^◌, List, [], ◌++◌, length, Option, Some, None, Result, Ok, Err}
 use Rattle.block_grammar.specs.Transaction.{Transaction, txid_of}
 use Rattle.nmc_base.specs.declared.chain_ends.Profile.{Profile}
 use Rattle.nmc_base.specs.Heights.{highest}
@@ -7,7 +7,8 @@ use Rattle.nmc_base.specs.declared.no_memory.NoMemory.{NoMemory}
 use Rattle.chain_names.specs.declared.refusal.RuleRefusal.{RuleRefusal}
 use Rattle.chain_names.specs.Verdict.{refused, verdict}
 use Rattle.chain_names.specs.Changes.{undo_of_verdict, after_transaction, after_all, undo_ops, first_refused, back_ops}
-use Rattle.chain_state.specs.Tables.{maps_by, IsStanding}
+use Rattle.chain_names.proofs.StandLemmas.{Stands}
+use Rattle.name_tables.specs.Tables.{maps_by}
 use Rattle.chain_state.specs.Work.{IsWork, Halts}
 use Rattle.chain_state.specs.declared.work.Work.{Work}
 
@@ -16,7 +17,7 @@ pub record IsReady (profile : Profile) (w : Work) : Type 0 where
   pub work : IsWork w
   pub none_empty : w.empty.items ≡ []
   pub low : w.height ≤ highest
-  pub standing : IsStanding profile w.height (suc w.height) (maps_by w.tables)
+  pub standing : Stands profile w.height w.height (maps_by w.tables)
 
 abbrev pub HasFewOutputs : Transaction → Type 0
 HasFewOutputs t = length t.outputs ≤ 2 ^ 32

@@ -1,5 +1,5 @@
 -- The index of a chain: its base and tip, what its tables say, and what undoes its blocks.
-use Rattle.std.specs.Prelude.{◌≡◌, suc, ◌<◌, ◌≤◌, List, [], ◌∷◌, map, reverse, Option, None}
+use Rattle.std.specs.Prelude.{◌≡◌, suc, ◌+◌, length, ◌<◌, List, [], ◌∷◌, Option, None}
 use Rattle.block_grammar.specs.Block.{Block}
 use Rattle.block_grammar.specs.Merkle.{block_root}
 use Rattle.block_grammar.specs.Header.{header_hash}
@@ -9,20 +9,19 @@ use Rattle.nmc_base.specs.declared.chain_ends.Tip.{Tip}
 use Rattle.nmc_base.specs.Roomy.{Roomy}
 use Rattle.nmc_base.specs.declared.hashes.Hash32.{Hash32}
 use Rattle.chain_names.specs.Coins.{maps_of}
-use Rattle.chain_names.specs.Log.{behind_coinbase}
+use Rattle.chain_names.specs.Log.{Log, behind_coinbase}
 use Rattle.chain_names.specs.Changes.{Refused, first_refused, after_all, after_block, undo_ops}
 use Rattle.chain_names.specs.Tables.{coins_in, queued_in, queue_of}
 use Rattle.chain_names.specs.Undo.{UndoRecord}
 use Rattle.std.specs.List.{AllByRecursion}
 use Rattle.chain_names.specs.Expired.{IsDue, IsSortedByPoint}
-use Rattle.chain_names.specs.Sound.{IsSound}
-use Rattle.chain_names.specs.Seen.{seen_undo}
-use Rattle.chain_state.specs.declared.parts.Parts.{Parts}
+use Rattle.chain_names.specs.Sound.{IsBeginning, IsSound}
+use Rattle.name_tables.specs.declared.parts.Parts.{Parts}
 use Rattle.chain_names.specs.declared.undo.Undo.{Undo}
 use Rattle.chain_names.specs.Writable.{IsWritable}
-use Rattle.chain_state.specs.Measure.{AreMeasured}
+use Rattle.name_tables.specs.Parts.{newest_first, tables_of}
 use Rattle.name_tables.specs.Tables.{AreFilled}
-use Rattle.chain_state.specs.Tables.{maps_by}
+use Rattle.name_tables.specs.Tables.{maps_by}
 use Rattle.chain_state.specs.Whole.{IsWhole, maps_before_block}
 use Rattle.name_tables.specs.declared.tables.Tables.{Tables}
 use Rattle.chain_state.specs.declared.whole.Whole.{Whole}
@@ -33,13 +32,6 @@ pub record Indexed : Type 0 where
   pub tables : Tables
   -- what undoes its blocks, the newest first
   pub undos : List UndoRecord
-
--- the records as the code keeps them, the oldest first, without the room of their lists
-abbrev pub newest_first : List Undo → List UndoRecord
-newest_first undos = reverse (map seen_undo undos)
-
-abbrev pub tables_of : Parts → Tables
-tables_of parts = record { coins = parts.coins; names = parts.names; queue = parts.queue }
 
 abbrev pub indexed_of : Base → Tip → Parts → Indexed
 indexed_of base tip parts = record { base = base; tip = tip; tables = tables_of parts; undos = newest_first parts.undos.items }
@@ -57,6 +49,10 @@ abbrev pub newest_hash : Base → List UndoRecord → Hash32
 newest_hash base [] = base.hash
 newest_hash base (undo ∷ undos) = undo.block
 
+-- the tip of kept parts: the hash is that of the newest record, and as many blocks stand on the base as there are records
+abbrev pub kept_tip : Base → Parts → Tip
+kept_tip base parts = record { height = base.height + length parts.undos.items; hash = newest_hash base (newest_first parts.undos.items) }
+
 -- A sound index: the tip is that of its newest record, the queue is that of the coins, each place holds something, coins,
 -- histories and records are sound with the base, and each record can be written.
 pub record IsIndexed (c : Indexed) : Type 0 where
@@ -64,7 +60,6 @@ pub record IsIndexed (c : Indexed) : Type 0 where
   pub queue : queued_in c.tables.queue ≡ queue_of (coins_in c.tables.coins)
   pub filled : AreFilled c.tables
   pub sound : IsSound c.base.profile c.base.height c.tip.height (maps_by c.tables) c.undos
-  pub measured : AreMeasured (maps_by c.tables)
   pub writable : AllByRecursion IsWritable c.undos
 
 -- the same index: base, tip, the maps of coins, names and queue, and what undoes the blocks
@@ -75,15 +70,19 @@ pub record SameIndex (a b : Indexed) : Type 0 where
   pub queue : queued_in a.tables.queue ≡ queued_in b.tables.queue
   pub undos : a.undos ≡ b.undos
 
--- the index of a base alone, without coins and names
-pub record IsAtBase (base : Base) (c : Indexed) : Type 0 where
-  pub low : base.height ≤ highest
+-- the index of a base alone, with the coins and names of its start list
+pub record IsAtStart (base : Base) (start : Log) (c : Indexed) : Type 0 where
+  pub begins : IsBeginning base.profile start base.height
   pub base_is : c.base ≡ base
   pub height : c.tip.height ≡ base.height
   pub hash : c.tip.hash ≡ base.hash
-  pub maps : maps_by c.tables ≡ maps_of base.profile [] (suc base.height)
+  pub maps : maps_by c.tables ≡ maps_of base.profile start (suc base.height)
   pub queue : queued_in c.tables.queue ≡ queue_of (coins_in c.tables.coins)
   pub undos : c.undos ≡ []
+
+-- without coins and names
+abbrev pub IsAtBase : Base → Indexed → Type 0
+IsAtBase base c = IsAtStart base [] c
 
 -- ---- a block that is staged
 
@@ -109,8 +108,6 @@ pub record IsStagedIndex (s : StagedIndex) : Type 0 where
   pub whole : IsWhole s.whole
   pub sound_before : IsSound s.base.profile s.base.height s.tip.height (maps_before_block s.whole) s.undos
   pub sound_after : IsSound s.base.profile s.base.height (suc s.tip.height) (maps_by s.whole.work.tables) (staged_undo s.hash s.whole ∷ s.undos)
-  pub measured_before : AreMeasured (maps_before_block s.whole)
-  pub measured_after : AreMeasured (maps_by s.whole.work.tables)
   pub writable : AllByRecursion IsWritable (staged_undo s.hash s.whole ∷ s.undos)
 
 -- ---- what staging a block answers
@@ -129,6 +126,7 @@ pub record IsStagedOn (c : Indexed) (block : Block) (s : StagedIndex) : Type 0 w
   pub tip : s.tip ≡ c.tip
   pub hash : s.hash.0 ≡ header_hash block.header
   pub before : maps_before_block s.whole ≡ maps_by c.tables
+  pub queue : queued_in c.tables.queue ≡ queue_of (coins_in c.tables.coins)
   pub after : maps_by s.whole.work.tables ≡ after_block c.base.profile (suc c.tip.height) (behind_coinbase block.transactions) (maps_by c.tables)
   -- what undoes it: its operations in order, and each coin that is expired in the next block, by their outpoints
   pub ops : s.whole.work.ops.items ≡ undo_ops c.base.profile (suc c.tip.height) (behind_coinbase block.transactions) (maps_by c.tables)

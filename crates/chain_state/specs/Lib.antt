@@ -1,10 +1,8 @@
-pub mod Tables
 pub mod Work
 pub mod Cost
 pub mod Block
 pub mod Whole
 pub mod Worked
-pub mod Measure
 pub mod Chain
 pub mod Stage
 pub mod Back

@@ -36,6 +36,10 @@ pub record StagesWell (old : Indexed) (block : Block) (s : StagedIndex) : Type 0
 abbrev pub commit_steps : StagedIndex → ℕ
 commit_steps s = 2 * length s.whole.work.ops.items + 2 * length s.whole.expired.items
 
+-- the steps that giving it up takes at most
+abbrev pub abandon_steps : StagedIndex → ℕ
+abandon_steps s = 8 * length s.whole.work.ops.items + 2 * length s.whole.expired.items
+
 -- where a block was staged, with its commit: eight steps for each input, each output and each coin that became due, and eight
 abbrev pub IsCheap : Block → StageOutcome → ℕ → ℕ → Type 0
 IsCheap block (Staged s) before after = after + commit_steps s ≤ before + 8 * (touched_by block + length s.whole.expired.items) + 8

@@ -4,7 +4,7 @@ use Rattle.nmc_base.specs.declared.hashes.Hash32.{Hash32}
 use Rattle.chain_names.specs.Changes.{undone}
 use Rattle.chain_names.specs.Tables.{coins_in, queued_in, queue_of}
 use Rattle.chain_names.specs.Undo.{UndoRecord}
-use Rattle.chain_state.specs.Tables.{maps_by}
+use Rattle.name_tables.specs.Tables.{maps_by}
 use Rattle.chain_state.specs.Chain.{Indexed, SameIndex, newest_hash}
 use Rattle.chain_state.specs.declared.back.BackRefusal.{BackRefusal}
 use Rattle.chain_state.specs.declared.back.BackRefusal.TheVariants.{AtBase, NotTip, JournalFull}

@@ -11,7 +11,7 @@ use Rattle.chain_names.specs.Index.{index_maps, next_height, refused_in}
 use Rattle.chain_names.specs.Tables.{queued_in, queue_of}
 use Rattle.chain_names.specs.Sound.{IsBeginning}
 use Rattle.chain_names.specs.UndoOf.{hash_in, AreUndos}
-use Rattle.chain_state.specs.Tables.{maps_by}
+use Rattle.name_tables.specs.Tables.{maps_by}
 use Rattle.chain_state.specs.Chain.{Indexed}
 
 -- the hash of the newest block, or of the base

@@ -9,7 +9,7 @@ use Rattle.chain_names.specs.Changes.{restored, back_ops, without_expired}
 use Rattle.chain_names.specs.Tables.{coins_in, coin_places, names_in, queued_in, queue_places, queue_of, FilledBut, AreNamesFilled}
 use Rattle.chain_names.specs.Fits.{AreUndoable}
 use Rattle.name_tables.specs.Tables.{AreFilled}
-use Rattle.chain_state.specs.Tables.{maps_by}
+use Rattle.name_tables.specs.Tables.{maps_by}
 use Rattle.chain_state.specs.Work.{HasSpentPlace, HasSpentRow, may_be_empty, may_be_empty_at}
 use Rattle.name_tables.specs.Expiring.{CanReturn}
 use Rattle.chain_names.specs.Expired.{is_held_at, IsDue, IsSortedByPoint}

@@ -6,6 +6,7 @@ use Rattle.nmc_base.specs.declared.hashes.OutPoint.{OutPoint}
 use Rattle.nmc_base.specs.declared.hashes.Hash20.{Hash20}
 use Rattle.chain_names.specs.declared.coin.Coin.{Coin}
 use Rattle.chain_names.specs.declared.coin.Coin.TheVariants.{New}
+use Rattle.chain_names.specs.declared.coin.Item.{Item}
 use Rattle.chain_names.specs.declared.undo.UndoOp.{UndoOp}
 use Rattle.chain_names.specs.declared.undo.UndoOp.TheVariants.{First as undo_first, Update as undo_update}
 use Rattle.chain_names.specs.Points.{same_point, changed}
@@ -18,7 +19,7 @@ use Rattle.name_tables.specs.declared.tables.Tables.{Tables}
 use Rattle.name_tables.specs.declared.moving.Shift.{Shift}
 use Rattle.chain_state.specs.declared.work.Work.{Work}
 use Rattle.name_tables.specs.Moving.{Shifts}
-use Rattle.chain_state.specs.Tables.{maps_by}
+use Rattle.name_tables.specs.Tables.{maps_by}
 
 -- ---- places
 
@@ -74,8 +75,8 @@ with_commitment maps height made hash = record { coins = changed same_point maps
 -- ---- names that move
 
 -- the tables moved a name, and there is room for what undoes it
-pub record ShiftsOnly (old new : Work) (spent made : OutPoint) (name value : List ℕ) (left : Shift) : Type 0 where
-  pub shifts : Shifts old.tables new.tables spent made name value old.height left
+pub record ShiftsOnly (old new : Work) (spent : OutPoint) (name : List ℕ) (item : Item) (left : Shift) : Type 0 where
+  pub shifts : Shifts old.tables new.tables spent name item left
   pub ops : new.ops.items ≡ old.ops.items
   pub spare : 1 ≤ new.ops.spare
   pub height : new.height ≡ old.height
@@ -105,6 +106,7 @@ pub record GoesBack (old new : Work) (maps : Maps) (ops : List UndoOp) : Type 0 
 pub record IsNameUndo (height : ℕ) (op : UndoOp) (made spent : OutPoint) (coin : Coin) (name : List ℕ) : Type 0 where
   pub back : (maps : Maps) → back_op op maps ≡ moved_back maps made spent coin name
   pub fits : (maps : Maps) → IsUndoable height op maps → IsMadeNamed height made spent maps
+  pub allows : (maps : Maps) → IsMadeNamed height made spent maps → IsUndoable height op maps
   pub spends : (point : OutPoint) → spends point op ≡ same_point spent point
   pub spends_at : (row : ℕ) (point : OutPoint) → spends_at row point op ≡ (is_named_at row (Some coin) && same_point spent point)
 

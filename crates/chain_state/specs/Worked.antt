@@ -5,7 +5,7 @@ use Rattle.nmc_base.specs.declared.chain_ends.Profile.{Profile}
 use Rattle.chain_names.specs.Changes.{first_refused}
 use Rattle.chain_names.specs.Tables.{coins_in, queued_in, queue_of}
 use Rattle.name_tables.specs.Tables.{AreFilled}
-use Rattle.chain_state.specs.Tables.{maps_by}
+use Rattle.name_tables.specs.Tables.{maps_by}
 use Rattle.chain_state.specs.Block.{AppliedAll}
 use Rattle.chain_state.specs.Cost.{all_touched}
 use Rattle.chain_state.specs.Whole.{Finishes}

@@ -1,10 +1,10 @@
-ghost use Rattle.std.specs.Prelude.{◌≡◌, ◌+◌, ◌≤◌, ◌≢◌, []};
-ghost use Rattle.chain_state.specs.StageBack.{StagesBack, IsBackCheap, IsDisconnected, back_commit_steps};
+ghost use Rattle.std.specs.Prelude.{◌≡◌, ◌+◌, ◌*◌, ◌≤◌, ◌≢◌, []};
+ghost use Rattle.chain_state.specs.StageBack.{StagesBack, IsBackCheap, IsDisconnected, back_commit_steps, newest_work};
 ghost use Rattle.chain_state.specs.Chain.{SameIndex};
+ghost use Rattle.name_tables.specs.Parts.{newest_first};
 ghost use Rattle.chain_state.specs.Chain as index;
 
 use crate::chain::Chain;
-use crate::stage::split;
 use crate::whole::Whole;
 use crate::work::Work;
 use chain_names::Undo;
@@ -58,8 +58,8 @@ pub enum BackOutcome {
 }
 
 /// The hash of the newest of the blocks that these records undo, or of the base.
-fn newest_hash(base: &Base, undos: &[Undo]) -> Hash32
-    ensures { result ≡ index.newest_hash base.now (index.newest_first undos.now) }
+pub(crate) fn newest_hash(base: &Base, undos: &[Undo]) -> Hash32
+    ensures { result ≡ index.newest_hash base.now (newest_first undos.now) }
 {
     match undos.last() {
         Some(undo) => undo.block,
@@ -89,7 +89,7 @@ impl Chain {
             return BackOutcome::Refused(self, BackRefusal::NotTip { tip });
         }
         let Chain { base, tip, parts } = self;
-        let (tables, undos) = split(parts);
+        let (tables, undos) = parts.split();
         let mut tables = tables;
         let Some(undo) = undos.as_slice().last() else {
             unreachable!()
@@ -141,7 +141,8 @@ impl StagedBack {
 
     /// The chain as it was, with the block. It can't fail, and takes no memory.
     pub fn abandon<L: Ledger>(self, steps: &mut Steps<L>) -> Chain
-        ensures { SameIndex result self }
+        ensures same { SameIndex result self }
+        ensures cost { steps.new ≤ steps.old + 2 * newest_work self.undos }
     {
         let StagedBack {
             base,

@@ -1,13 +1,20 @@
 ghost use Rattle.std.specs.Prelude.{◌≡◌, ◌+◌, ◌≤◌, IfOk};
 ghost use Rattle.nmc_base.specs.declared.limits.TheConstants.{HIGHEST_HEIGHT};
 ghost use Rattle.name_tables.specs.Tables.{AreFilled};
-ghost use Rattle.chain_state.specs.Chain.{IsAtBase, IsIndexed, IsConnected, IsAbandoned, ArePartsOf, index_of, tables_of};
-ghost use Rattle.chain_state.specs.Stage.{commit_steps};
+ghost use Rattle.block_grammar.specs.Block.{Block};
+ghost use Rattle.chain_state.specs.Chain.{Indexed, IsAtBase, indexed_of, kept_tip, IsIndexed, SameIndex, IsStagedOn, IsConnected, IsAbandoned, ArePartsOf, index_of};
+ghost use Rattle.name_tables.specs.Parts.{newest_first, tables_of};
+ghost use Rattle.std.specs.List.{AllByRecursion};
+ghost use Rattle.chain_names.specs.Sound.{IsSound};
+ghost use Rattle.chain_names.specs.Tables.{coins_in, queued_in, queue_of};
+ghost use Rattle.chain_names.specs.Writable.{IsWritable};
+ghost use Rattle.name_tables.specs.Tables.{maps_by};
+ghost use Rattle.chain_state.specs.Stage.{abandon_steps, commit_steps};
 
-use crate::parts::Parts;
+use crate::back::newest_hash;
 use crate::whole::Whole;
 use chain_names::Undo;
-use name_tables::Tables;
+use name_tables::{Parts, Tables};
 use nmc_base::{Base, Hash32, NoMemory, RoomyList, Steps, Tip};
 use std::alloc::Global;
 use std::marker::Model;
@@ -67,17 +74,28 @@ impl Chain {
         Ok(Chain::joined(base, tip, tables, RoomyList::new(alloc)))
     }
 
+    /// The chain of parts that were kept: its tip has the hash of the newest record, and stands as many blocks above the base
+    /// as there are records.
+    pub fn from_parts(base: Base, parts: Parts) -> Chain
+        requires queue { queued_in parts.queue ≡ queue_of (coins_in parts.coins) }
+        requires filled { AreFilled (tables_of parts) }
+        requires sound { IsSound base.profile base.height (kept_tip base parts).height (maps_by (tables_of parts)) (newest_first parts.undos.items) }
+        requires writable { AllByRecursion IsWritable (newest_first parts.undos.items) }
+        ensures { result ≡ indexed_of base (kept_tip base parts) parts }
+    {
+        let tip = Tip {
+            height: base.height + parts.undos.len() as u32,
+            hash: newest_hash(&base, parts.undos.as_slice()),
+        };
+        Chain { base, tip, parts }
+    }
+
     /// The chain that has these tables, and these records of what undoes its blocks.
     pub(crate) fn joined(base: Base, tip: Tip, tables: Tables, undos: RoomyList<Undo>) -> Chain
         requires { IsIndexed (index_of base tip tables undos) }
         ensures { result ≡ index_of base tip tables undos }
     {
-        let parts = Parts {
-            coins: tables.coins,
-            names: tables.names,
-            queue: tables.queue,
-            undos,
-        };
+        let parts = Parts::of(tables, undos);
         Chain { base, tip, parts }
     }
 
@@ -136,7 +154,10 @@ impl StagedChain {
 
     /// The chain as it was before the block. It can't fail, and takes no memory.
     pub fn abandon<L: Ledger>(self, steps: &mut Steps<L>) -> Chain
-        ensures { IsAbandoned self result }
+        ensures abandoned { IsAbandoned self result }
+        // It is the index that the block was staged on.
+        ensures same { (c : Indexed) (block : Block) → IsStagedOn c block self → SameIndex result c }
+        ensures cost { steps.new ≤ steps.old + abandon_steps self }
     {
         let tables = self.whole.abandon(steps);
         Chain::joined(self.base, self.tip, tables, self.undos)

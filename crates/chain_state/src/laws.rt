@@ -10,8 +10,8 @@ ghost use Rattle.chain_names.specs.Log.{Log};
 ghost use Rattle.chain_names.specs.Undo.{UndoRecord};
 ghost use Rattle.chain_names.specs.Sound.{IsSound};
 ghost use Rattle.chain_names.specs.UndoOf.{AreUndos};
-ghost use Rattle.chain_state.specs.Tables.{maps_by};
-ghost use Rattle.chain_state.specs.Chain.{Indexed, IsIndexed, IsAtBase, SameIndex, StagedIndex, IsStagedOn, IsConnected, IsAbandoned};
+ghost use Rattle.name_tables.specs.Tables.{maps_by};
+ghost use Rattle.chain_state.specs.Chain.{Indexed, IsIndexed, IsAtStart, SameIndex, StagedIndex, IsStagedOn, IsConnected, IsAbandoned};
 ghost use Rattle.chain_state.specs.Stage.{IsRefusal};
 ghost use Rattle.chain_state.specs.StageBack.{IsStagedBackOn, IsBackRefusal, IsDisconnected};
 ghost use Rattle.chain_state.specs.declared.stage.Refusal.{Refusal};
@@ -19,9 +19,11 @@ ghost use Rattle.chain_state.specs.declared.back.BackRefusal.{BackRefusal};
 ghost use Rattle.chain_state.specs.Standing.{IsValidOn, AreValid, StandsForChain, chain_maps};
 ghost use Rattle.chain_state.specs.Refusals.{RefusesConnect, RefusesDisconnect, MayDisconnect};
 
-/// The index of a base stands for the chain of no blocks, with the empty start list.
+/// The index of a base with a start list is sound, and stands for the chain of no blocks.
 pub fn base_stands()
-    ensures { (base : Base) (c : Indexed) → IsAtBase base c → StandsForChain base [] [] c }
+    ensures sound { (base : Base) (start : Log) (c : Indexed) → IsAtStart base start c
+        → IsSound c.base.profile c.base.height c.tip.height (maps_by c.tables) c.undos }
+    ensures stands { (base : Base) (start : Log) (c : Indexed) → IsAtStart base start c → StandsForChain base start [] c }
 {}
 
 /// The same index stands for the same chain: what is handed back where nothing was staged, and what an abandoned

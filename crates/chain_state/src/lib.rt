@@ -6,7 +6,6 @@ mod block;
 mod chain;
 mod laws;
 mod live;
-mod parts;
 mod stage;
 mod view;
 mod whole;
@@ -19,6 +18,5 @@ pub use laws::{
     base_stands, chains_are_sound, connecting_again_redoes, connects_follow, connects_stand,
     disconnecting_undoes, disconnects_follow, disconnects_stand, one_index, same_stands,
 };
-pub use name_tables::Tables;
-pub use parts::Parts;
+pub use name_tables::{Parts, Tables};
 pub use stage::{Refusal, StageOutcome};

@@ -2,12 +2,10 @@ ghost use Rattle.std.specs.Prelude.{◌≡◌, ◌<◌, map, IfOk, IfErr, IsOk};
 ghost use Rattle.nmc_base.specs.declared.limits.TheConstants.{HIGHEST_HEIGHT};
 ghost use Rattle.block_grammar.specs.Transaction.{txid_of};
 ghost use Rattle.block_reader.specs.Rows.{seen_row};
-ghost use Rattle.chain_state.specs.Chain.{tables_of};
 ghost use Rattle.chain_state.specs.Stage.{Begins, HasIdsAndRoot, StagesNames, Stages, IsCheap};
 
 use crate::block::{behind_coinbase, ids_behind};
 use crate::chain::{Chain, StagedChain};
-use crate::parts::Parts;
 use crate::work::Work;
 use crate::worked::Worked;
 use block_reader::{Block, root_of, txids};
@@ -41,25 +39,6 @@ pub enum StageOutcome {
     Staged(StagedChain),
     Refused(Chain, Refusal),
     NoMemory(Chain),
-}
-
-/// The tables among the parts of a chain, and what undoes its blocks.
-pub(crate) fn split(parts: Parts) -> (Tables, RoomyList<Undo>)
-    ensures tables { result.0 ≡ tables_of parts }
-    ensures undos { result.1 ≡ parts.undos }
-{
-    let Parts {
-        coins,
-        names,
-        queue,
-        undos,
-    } = parts;
-    let tables = Tables {
-        coins,
-        names,
-        queue,
-    };
-    (tables, undos)
 }
 
 impl Work {
@@ -119,7 +98,7 @@ impl Chain {
         // The count says that an index of a transaction fits its number.
         let _count = block.count();
         let Chain { base, tip, parts } = self;
-        let (tables, undos) = split(parts);
+        let (tables, undos) = parts.split();
         let mut undos = undos;
         let work = match Work::begin(alloc, tables, tip.height + 1, &mut undos) {
             Ok(work) => work,

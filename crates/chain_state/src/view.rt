@@ -3,7 +3,7 @@ ghost use Rattle.chain_names.specs.declared.coin.Item.{Item};
 ghost use Rattle.chain_names.specs.Coins.{entry_of};
 ghost use Rattle.chain_names.specs.Tables.{names_in};
 ghost use Rattle.nmc_base.specs.Heights.{highest};
-ghost use Rattle.chain_state.specs.Tables.{maps_by};
+ghost use Rattle.name_tables.specs.Tables.{maps_by};
 
 use chain_names::Coin;
 use name_rules::{CoinRef, NameView};

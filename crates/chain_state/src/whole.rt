@@ -4,7 +4,7 @@ ghost use Rattle.nmc_base.specs.Heights.{highest};
 ghost use Rattle.chain_names.specs.Tables.{coins_in, queued_in, queue_of};
 ghost use Rattle.chain_state.specs.Block.{IsReady};
 ghost use Rattle.name_tables.specs.Tables.{AreFilled};
-ghost use Rattle.chain_state.specs.Tables.{maps_by};
+ghost use Rattle.name_tables.specs.Tables.{maps_by};
 ghost use Rattle.chain_state.specs.Whole.{IsWhole, Finishes, Commits, maps_before_block};
 
 use crate::work::Work;
@@ -29,17 +29,6 @@ pub(crate) struct Committed {
     pub(crate) expired: RoomyList<HeldCoin>,
 }
 
-/// The height at which the names were given their values whose coins are due after a block at this height, or None where
-/// there is no such height.
-pub(crate) fn due_row(profile: Profile, height: u32) -> Option<u32>
-    requires { height ≤ highest }
-    ensures some { IfSome result (λ row. row + expiry_depth profile (suc height) ≡ suc height) }
-    ensures none { IfNone result (suc height < expiry_depth profile (suc height)) }
-{
-    let next = height + 1;
-    next.checked_sub(profile.depth(next))
-}
-
 impl Work {
     /// Takes the coins away that are expired in the next block. Where memory runs out, the work is handed back as it was.
     pub(crate) fn finish<L: Ledger>(
@@ -54,7 +43,7 @@ impl Work {
         ensures cost { IfOk result (λ whole. steps.new ≤ steps.old + 1 + 2 * length whole.work.ops.items + 4 * length whole.expired.items) }
     {
         let mut work = self;
-        match due_row(profile, work.height) {
+        match profile.due(work.height + 1) {
             None => {
                 let expired = RoomyList::new(alloc);
                 Ok(Whole { work, expired })

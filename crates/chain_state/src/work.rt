@@ -1,14 +1,16 @@
 ghost use Rattle.std.specs.Prelude.{◌≡◌, ◌+◌, ◌*◌, ◌≤◌, ◌∷◌, [], length, None, Some, IfOk, OnOk, OnErr};
 ghost use Rattle.chain_names.specs.declared.undo.UndoOp.TheVariants.{New as undo_new};
 ghost use Rattle.chain_names.specs.declared.coin.Coin.{Coin};
-ghost use Rattle.chain_names.specs.Tables.{coins_in, queued_in, queue_of};
+ghost use Rattle.chain_names.specs.Coins.{entry_of, opened, updated};
+ghost use Rattle.chain_names.specs.Tables.{coins_in, names_in, queued_in, queue_of};
+ghost use Rattle.name_tables.specs.Moving.{given};
 ghost use Rattle.chain_names.specs.Changes.{back_op, back_ops, moved, moved_back};
 ghost use Rattle.name_tables.specs.Tables.{HoldSame, AreFilled};
-ghost use Rattle.chain_state.specs.Tables.{maps_by};
+ghost use Rattle.name_tables.specs.Tables.{maps_by};
 ghost use Rattle.chain_state.specs.Work.{IsWork, Advances, Halts, ShiftsOnly, GoesBack, Undoes, maps_before, with_commitment, with_op, undo_of_opening, undo_of_update};
 
 use chain_names::{Coin, UndoOp};
-use name_tables::{Shift, Tables};
+use name_tables::{Move, Shift, Tables};
 use nmc_base::{Hash20, NoMemory, OutPoint, RoomyList, Steps};
 use std::alloc::Global;
 use std::sync::ledger::Ledger;
@@ -55,6 +57,7 @@ impl Work {
     fn shift<L: Ledger>(
         &mut self,
         alloc: Global,
+        kind: Move,
         spent: &OutPoint,
         made: &OutPoint,
         name: &[u8],
@@ -64,7 +67,7 @@ impl Work {
         requires work { IsWork self.old }
         requires held { (coin : Coin) × (coins_in self.old.tables.coins spent.now ≡ Some coin) }
         requires fresh { coins_in self.old.tables.coins made.now ≡ None }
-        ensures ok { IfOk result (λ s. ShiftsOnly self.old self.new spent.now made.now name.now value.now s) }
+        ensures ok { let item = given kind (entry_of (names_in self.old.tables.names name.now)) self.old.height made.now value.now in IfOk result (λ s. ShiftsOnly self.old self.new spent.now name.now item s) }
         ensures err { OnErr result (Halts self.old self.new) }
         ensures cost { OnOk result (steps.new ≤ steps.old + 9) }
     {
@@ -73,7 +76,7 @@ impl Work {
         self.ops.reserve(1)?;
         match self
             .tables
-            .shift(alloc, spent, made, name, value, self.height, steps)
+            .shift(alloc, kind, spent, made, name, value, self.height, steps)
         {
             Ok(shift) => Ok(shift),
             Err(error) => {
@@ -96,11 +99,11 @@ impl Work {
         requires work { IsWork self.old }
         requires held { (coin : Coin) × (coins_in self.old.tables.coins spent.now ≡ Some coin) }
         requires fresh { coins_in self.old.tables.coins made.now ≡ None }
-        ensures ok { OnOk result (Advances self.old self.new (undo_of_opening (maps_by self.old.tables) made.now spent.now name.now) (moved (maps_by self.old.tables) self.old.height spent.now made.now name.now value.now)) }
+        ensures ok { OnOk result (Advances self.old self.new (undo_of_opening (maps_by self.old.tables) made.now spent.now name.now) (moved (maps_by self.old.tables) spent.now name.now (opened self.old.height made.now value.now))) }
         ensures err { OnErr result (Halts self.old self.new) }
         ensures cost { OnOk result (steps.new ≤ steps.old + 9) }
     {
-        let shift = self.shift(alloc, spent, made, name, value, steps)?;
+        let shift = self.shift(alloc, Move::Opening, spent, made, name, value, steps)?;
         self.ops.push(UndoOp::First {
             made: *made,
             spent: *spent,
@@ -124,11 +127,11 @@ impl Work {
         requires work { IsWork self.old }
         requires held { (coin : Coin) × (coins_in self.old.tables.coins spent.now ≡ Some coin) }
         requires fresh { coins_in self.old.tables.coins made.now ≡ None }
-        ensures ok { OnOk result (Advances self.old self.new (undo_of_update (maps_by self.old.tables) made.now spent.now name.now) (moved (maps_by self.old.tables) self.old.height spent.now made.now name.now value.now)) }
+        ensures ok { OnOk result (Advances self.old self.new (undo_of_update (maps_by self.old.tables) made.now spent.now name.now) (moved (maps_by self.old.tables) spent.now name.now (updated (entry_of (names_in self.old.tables.names name.now)) self.old.height made.now value.now))) }
         ensures err { OnErr result (Halts self.old self.new) }
         ensures cost { OnOk result (steps.new ≤ steps.old + 9) }
     {
-        let shift = self.shift(alloc, spent, made, name, value, steps)?;
+        let shift = self.shift(alloc, Move::Update, spent, made, name, value, steps)?;
         self.ops.push(UndoOp::Update {
             made: *made,
             spent: *spent,

@@ -66,7 +66,7 @@ module _ (g : StagingBack) where
     stands_below : (blocks : List (List ℕ)) → blocks ≢ [] → StandsForChain g.chain.base g.chain.start blocks g.index → (new : Indexed) → IsDisconnected staged new
         → StandsForChain g.chain.base g.chain.start (drop 1 blocks) new
     stands_below [] some t new gone = absurd (some refl)
-    stands_below (block ∷ blocks) some t new gone = disconnects g.index staged new g.hash on gone g.chain.base g.chain.start block blocks t
+    stands_below (block ∷ blocks) some t new gone = disconnects g.index new (record { staged = staged; hash = g.hash; on = on; gone = gone }) g.chain.base g.chain.start block blocks t
 
     abandoned : (same : Indexed) → SameIndex same staged → StandsFor same g.chain
     abandoned same alike = stays same (same_after same staged g.index alike on.same)

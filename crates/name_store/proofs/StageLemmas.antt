@@ -21,7 +21,7 @@ use Rattle.name_store.specs.Stages.{IsFullWith, HoldsIn, IsRefusedFor, LacksMemo
 use Rattle.name_store.specs.GivenUp.{GivesUp}
 use Rattle.name_store.proofs.ChainTips.{chain_tip, index_tip, rule_of_bytes}
 use Rattle.chain_commands.proofs.ConnectRefusals.{IsOnTip, IsUnbroken, no_block_refused, off_tip_refused, too_high, memory_taken, root_refused, rule_broken, full_refused, is_valid}
-use Rattle.chain_state.proofs.StandingLemmas.{same_stands, valid_next, connects, abandoned_same, own_queue}
+use Rattle.chain_state.proofs.StandingLemmas.{same_stands, valid_next, connects, abandoned_same}
 use Rattle.chain_state.proofs.RefusalLemmas.{refuses_by_chain}
 
 -- an index that stands for a chain, the bytes of a block on it, and the length of the journal's area with the most that it may have
@@ -98,16 +98,16 @@ module _ (g : Staging) where
 
     module _ (staged : StagedIndex) (on : IsStagedOn g.index k.block staged) where
       valid_on : IsValidOn g.chain.base g.chain.start g.chain.blocks g.bytes
-      valid_on = valid_next g.chain.base g.chain.start g.chain.blocks g.index g.stands g.bytes k.block k.is_block staged on k.short
+      valid_on = valid_next g.chain.base g.chain.start g.chain.blocks g.bytes g.index staged (record { stands = g.stands; block = k.block; is_block = k.is_block; short = k.short; on = on })
 
       abandoned_stands : (same : Indexed) → IsAbandoned staged same → StandsFor same g.chain
       abandoned_stands same abandoned =
-          stays same (abandoned_same g.index same k.block staged (own_queue g.chain.base g.chain.start g.chain.blocks g.index g.stands) on abandoned)
+          stays same (abandoned_same g.index same k.block staged on abandoned)
 
       pub staged_for : (IsFull → ⊥) → StagesFor g.area g.most g.chain g.bytes (Staged staged)
       staged_for fits = record {
         valid = valid_staged valid_on fits;
-        commits = λ new connected. connects g.chain.base g.chain.start g.chain.blocks g.index g.stands g.bytes k.block k.is_block staged on k.short new connected;
+        commits = λ new connected. connects g.chain.base g.chain.start g.chain.blocks g.bytes g.index staged (record { stands = g.stands; block = k.block; is_block = k.is_block; short = k.short; on = on }) new connected;
         abandons = abandoned_stands;
       }
 

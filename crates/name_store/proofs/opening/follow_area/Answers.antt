@@ -16,7 +16,7 @@ returns-clause-follows g c =
     c.read_all.ensures.follows (on_base c.args.base []) (record {
       commands = [];
       allowed = tt;
-      stands = base_stands c.args.base c.in-Ok.chain c.in-Ok.ensures;
+      stands = base_stands c.args.base [] c.in-Ok.chain c.in-Ok.ensures;
       reached_is = ap (λ (s : Stand). s.length) c.requires.gate;
       read = λ told. none_read (on_base c.args.base []) area (c.requires.area told);
     })

@@ -7,7 +7,7 @@ use Rattle.name_store.proofs.staging.stage_hash.Goals as goal
 pub returns-then-is_full-clause-stages : goal.returns-then-is_full-clause-stages
 returns-then-is_full-clause-stages g c = λ chain s.
     full_for (record { area = c.args.area; most = c.args.most; index = c.args.chain; chain = chain; hash = c.args.hash; stands = s }) c.in-StagedBack.staged c.in-StagedBack.ensures.stages
-    c.abandon.result c.abandon.ensures (omega (arith, c.if-is_full.true, c.saturating_sub-is_full.ensures))
+    c.abandon.result c.abandon.ensures.same (omega (arith, c.if-is_full.true, c.saturating_sub-is_full.ensures))
 
 pub returns-else-is_full-clause-stages : goal.returns-else-is_full-clause-stages
 returns-else-is_full-clause-stages g c = λ chain s.

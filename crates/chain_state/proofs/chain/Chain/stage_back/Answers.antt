@@ -3,8 +3,11 @@ use Rattle.std.specs.Prelude.{Some, slice_get}
 use Rattle.nmc_base.specs.Roomy.{Roomy}
 use Rattle.chain_names.specs.declared.undo.Undo.{Undo}
 use Rattle.chain_names.specs.Seen.{seen_undo}
-use Rattle.chain_state.specs.Chain.{Indexed, SameIndex, indexed_of, index_of, newest_first}
+use Rattle.chain_state.specs.Chain.{Indexed, SameIndex, indexed_of, index_of}
+use Rattle.name_tables.specs.Parts.{newest_first}
 use Rattle.name_tables.specs.Tables.{AreFilled}
+use Rattle.name_tables.specs.Room.{HasRoom}
+use Rattle.name_tables.specs.declared.tables.Tables.{Tables}
 use Rattle.chain_state.specs.StageBack.{IsBackRefusal, IsStagedBackOn, back_commit_steps, newest_work}
 use Rattle.chain_state.specs.declared.back.BackRefusal.TheVariants.{AtBase, NotTip}
 use Rattle.chain_state.proofs.DisconnectLemmas.{EndsIn, ends_in, none_last, newest_is, at_the_base, back_cheap, not_the_tip, staged_back, stage_again, same_again, newest_none, is_the_tip, room_for}
@@ -26,7 +29,8 @@ invariant_of-result g c =
     let from : c.split-tables.result.0 ≡ (indexed_of s.base s.tip s.parts).tables = c.split-tables.ensures.tables in
     staged_back (indexed_of s.base s.tip s.parts) c.self.invariant (seen_undo undo) (newest_first ends.front) (sym same ∙ newest_is undos.items undo ends)
     c.make_room.new.self c.in-Ok.empty
-    (room_for c.split-tables.result.0 c.make_room.new.self c.in-Ok.empty from c.as_slice-2.ensures c.as_slice-3.ensures c.in-Ok.ensures.ok) undos same
+    (room_for (indexed_of s.base s.tip s.parts).tables c.make_room.new.self c.in-Ok.empty c.as_slice-2.ensures c.as_slice-3.ensures
+    (subst (λ (t : Tables). HasRoom t c.make_room.new.self c.as_slice-2.result.now c.as_slice-3.result.now c.in-Ok.empty) from c.in-Ok.ensures.ok)) undos same
 
 pub joined-requires : goal.joined-requires
 joined-requires g c =

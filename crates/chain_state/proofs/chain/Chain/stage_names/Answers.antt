@@ -6,7 +6,11 @@ use Rattle.block_grammar.specs.Header.{header_hash}
 use Rattle.chain_names.specs.Log.{behind_coinbase}
 use Rattle.chain_names.proofs.OutputLemmas.{fewer_behind}
 use Rattle.chain_names.specs.declared.undo.Undo.{Undo}
-use Rattle.chain_state.specs.Chain.{rule_refused, Indexed, SameIndex, indexed_of, staged_of, newest_first}
+use Rattle.chain_state.specs.Chain.{rule_refused, Indexed, SameIndex, indexed_of, staged_of}
+use Rattle.name_tables.specs.Parts.{newest_first}
+use Rattle.chain_names.specs.Measured.{AreMeasured}
+use Rattle.name_tables.specs.Tables.{maps_by}
+use Rattle.name_tables.specs.declared.tables.Tables.{Tables}
 use Rattle.chain_state.specs.Stage.{StagesWell}
 use Rattle.chain_state.proofs.ChainLemmas.{begun_ready, staged_index, staged_well, back_maps, refused_by, returned_index, returned_same, unused_index}
 use Rattle.chain_state.proofs.CostLemmas.{staged_cost}
@@ -38,6 +42,7 @@ invariant_of-result g c =
           c.split-tables.result.0 c.split-tables.ensures.tables c.in-Ok.work c.in-Ok.ensures.ok works.done c.behind_coinbase-txs.result works.applied
           c.hash-hash.result c.in-Whole.whole works.finishes c.begin.new.undos
           (ap newest_first (c.begin.ensures.undos ∙ ap (λ (l : Roomy Undo). l.items) c.split-tables.ensures.undos))
+          (subst (λ (t : Tables). AreMeasured (maps_by t)) c.split-tables.ensures.tables c.split-tables.ensures.measured)
           (subst (λ ts. count_outputs ts < 2 ^ 32) (sym (c.behind_coinbase-txs.ensures ∙ ap behind_coinbase c.txs.ensures.value))
           (omega (arith, fewer_behind c.args.block.now.transactions, c.txs.ensures.few_outputs)))
           (ap length (c.hash-hash.ensures ∙ ap header_hash c.header.ensures) ∙ length-header_hash _),

@@ -1,5 +1,7 @@
 use Rattle.chain_state.proofs.ChainLemmas.{few_each}
-use Rattle.chain_state.proofs.WorkedLemmas.{unfinished_back, whole_paid}
+use Rattle.std.proofs.Common.{ap, ◌∙◌}
+use Rattle.chain_state.specs.Work.{maps_before}
+use Rattle.chain_state.proofs.WorkedLemmas.{applied_back, handed_back, whole_paid}
 use Rattle.chain_state.proofs.work.Work.do_all.Goals as goal
 
 pub apply_all-requires-clause-outputs : goal.apply_all-requires-clause-outputs
@@ -7,8 +9,8 @@ apply_all-requires-clause-outputs g c = few_each c.args.txs c.requires.outputs
 
 pub returns-in-Err-finish-clause-works : goal.returns-in-Err-finish-clause-works
 returns-in-Err-finish-clause-works g c =
-    unfinished_back c.args.profile c.args.self c.apply_all.new.self c.in-Err-finish.work c.args.txs c.abandon-in-Err-finish.result
-    (rw c.in-Ok-None.field-0-is at c.in-Ok-None.ensures.applies) c.in-Err-finish.ensures.err
+    handed_back c.args.self c.in-Err-finish.work c.abandon-in-Err-finish.result
+    (ap maps_before c.in-Err-finish.ensures.err ∙ applied_back c.args.profile c.args.self c.apply_all.new.self c.args.txs (rw c.in-Ok-None.field-0-is at c.in-Ok-None.ensures.applies))
     c.abandon-in-Err-finish.ensures.before c.abandon-in-Err-finish.ensures.queue c.abandon-in-Err-finish.ensures.filled
 
 pub returns-in-Ok-clause-works : goal.returns-in-Ok-clause-works

@@ -12,8 +12,16 @@ loop-at-smaller g c = grind (arith, common_steps, ap length c.in-Some.ensures.so
 
 pub loop-at-preserved : goal.loop-at-preserved
 loop-at-preserved g c = (
-  gave_up _ c.loop-at.self c.unplace.new.self c.unplace-in-Some.new.self c.pop.new.self c.in-Some.at c.in-Some.ensures.some
-      c.unplace.ensures.coins c.unplace.ensures.places c.unplace-in-Some.ensures.queued c.unplace-in-Some.ensures.places c.loop-at.invariant.0,
+  gave_up _ c.loop-at.self c.unplace.new.self c.unplace-in-Some.new.self c.pop.new.self
+      (record {
+        at = c.in-Some.at;
+        were = c.in-Some.ensures.some;
+        coins_same = c.unplace.ensures.coins;
+        places = c.unplace.ensures.places;
+        queued_same = c.unplace-in-Some.ensures.queued;
+        rows = c.unplace-in-Some.ensures.places;
+      })
+      c.loop-at.invariant.0,
   omega (arith, c.loop-at.invariant.1, c.unplace.ensures.cost, c.unplace-in-Some.ensures.cost, one_more _ _ _ c.in-Some.ensures.some),
 )
 

@@ -1,4 +1,6 @@
-use Rattle.std.proofs.Common.{refl, arith}
+use Rattle.std.proofs.Common.{◌≡◌, refl, sym, ◌∙◌, arith}
+use Rattle.chain_names.specs.Changes.{moved_back}
+use Rattle.name_tables.specs.Tables.{maps_by}
 use Rattle.chain_state.specs.Work.{with_op}
 use Rattle.chain_state.proofs.BackLemmas.{unmoved_work}
 use Rattle.chain_state.proofs.UndoneLemmas.{spent_free, spent_place, spent_row}
@@ -17,15 +19,33 @@ shift_back-requires-clause-row g c = spent_row c.args.self.now c.args.made c.arg
 pub returns-clause-back : goal.returns-clause-back
 returns-clause-back g c =
     let back = c.shift_back.ensures.back in
-    let is = c.requires.is_undo in
+    let before = with_op c.args.self.now c.requires.op in
+    let maps : maps_by c.shift_back.new.self ≡ moved_back (maps_by c.args.self.now.tables) c.args.made c.args.spent c.args.coin c.args.name.now = λ i. record { coins = back.coins i; names = back.names i } in
     record {
-      maps_are = λ i. record { coins = back.coins i; names = back.names i };
+      maps_are = maps;
       ops_are = refl;
       height = refl;
-      work = unmoved_work (with_op c.args.self.now c.requires.op) c.args.self.now.ops.items c.requires.op c.args.made c.args.spent c.args.coin c.args.name.now
-          c.shift_back.new.self.coins c.shift_back.new.self.names c.shift_back.new.self.queue c.args.self.now.ops c.push.new.self
-          c.requires.work refl refl c.push.ensures.items c.push.ensures.spare is.back is.fits is.spends is.spends_at
-          back.coins back.places back.names back.names_filled back.queue back.rows;
+      work = unmoved_work before (record { tables = c.shift_back.new.self; ops = c.args.self.now.ops; empty = c.push.new.self; height = before.height })
+          (record {
+            made = c.args.made;
+            spent = c.args.spent;
+            coin = c.args.coin;
+            name = c.args.name.now;
+            op = c.requires.op;
+            is_undo = c.requires.is_undo;
+            undone = record {
+              work = c.requires.work;
+              ops_were = refl;
+              empty_is = c.push.ensures.items;
+              spare_is = c.push.ensures.spare;
+              height = refl;
+              places = back.places;
+              rows = back.rows;
+              queue = back.queue;
+              names_filled = back.names_filled;
+              maps = maps ∙ sym (c.requires.is_undo.back (maps_by c.args.self.now.tables));
+            };
+          });
     }
 
 pub returns-clause-emptied : goal.returns-clause-emptied

@@ -1,7 +1,20 @@
+use Rattle.chain_names.specs.Coins.{entry_of, registered_behind}
+use Rattle.chain_names.specs.Tables.{names_in}
 use Rattle.chain_state.proofs.NameLemmas.{updated}
 use Rattle.chain_state.proofs.work.Work.update.Goals as goal
 
 pub returns-clause-ok : goal.returns-clause-ok
 returns-clause-ok g c =
-    updated c.args.self.now c.shift.new.self c.args.made.now c.args.spent.now c.args.name.now c.args.value.now c.in_ok-shift.shift c.push.new.self
-    c.requires.work c.requires.fresh c.in_ok-shift.ensures.ok c.push.ensures.items
+    updated c.args.self.now c.shift.new.self c.push.new.self
+    (record {
+      made = c.args.made.now;
+      spent = c.args.spent.now;
+      name = c.args.name.now;
+      value = c.args.value.now;
+      registered = registered_behind (entry_of (names_in c.args.self.now.tables.names c.args.name.now)) c.args.self.now.height;
+      left = c.in_ok-shift.shift;
+      work = c.requires.work;
+      fresh = c.requires.fresh;
+      shifts = c.in_ok-shift.ensures.ok;
+    })
+    c.push.ensures.items
