@@ -6,19 +6,20 @@ use Rattle.std.specs.declared.cmp.Ordering.{Ordering}
 use Rattle.std.specs.declared.cmp.Ordering.TheVariants.{Less, Equal, Greater}
 use Rattle.nmc_base.specs.declared.hashes.OutPoint.{OutPoint}
 use Rattle.nmc_base.specs.Hash.{outpoint_cmp}
+use Rattle.chain_names.specs.declared.coin.Coin.{Coin}
 use Rattle.chain_names.specs.declared.coin.HeldCoin.{HeldCoin}
 use Rattle.block_grammar.proofs.Readers.{Took}
 use Rattle.block_grammar.specs.Combinators.{◌>>=◌, then_from, map_from, many_from}
-use Rattle.block_grammar.proofs.ReaderLaws.{ok_is, ok_err, pair_text, PairFits, ManyFit}
+use Rattle.block_grammar.proofs.ReaderLaws.{ok_is, ok_err, PairFits}
 use Rattle.undo_records.specs.declared.fault.FaultKind.TheVariants.{Unsorted}
 use Rattle.undo_records.specs.Reading.{Reads, point_from, named_coin_from, is_less, is_after, later_point_from, held_from, coins_from}
-use Rattle.undo_records.specs.Text.{point_text, coin_text, held_text}
-use Rattle.chain_names.specs.Writable.{IsWritablePoint, IsWritableNamed, IsWritableHeld, IsAfter, AreAscending}
+use Rattle.undo_records.specs.Text.{point_text, held_text}
+use Rattle.chain_names.specs.Writable.{IsWritablePoint, IsWritableHeld, IsAfter, AreAscending}
 use Rattle.undo_records.specs.Faults.{last_point}
-use Rattle.undo_records.proofs.Laws.{Spot, Flaw, NoFlaw, Core, Ends, PairFlaw, in_first, in_second, then_core, then_ends, map_core, map_ends, said_core, TagFlaw, ManyFlaw, many_core, many_ends}
-use Rattle.undo_records.proofs.Choices.{CheckFlaw, Passes, checked_core}
-use Rattle.undo_records.proofs.FieldLaws.{point_core, point_ends, IsOtherAt}
-use Rattle.undo_records.proofs.PartLaws.{named_coin_core, named_coin_ends}
+use Rattle.undo_records.proofs.Laws.{Spot, Part, Core, Ends, PairFlaw, in_first, in_second, then_part, then_core, then_ends, IsSeenBy, seen_core, seen_ends, IsSaid, said_core, many_part, many_core, many_ends}
+use Rattle.undo_records.proofs.Choices.{CheckFlaw, checked_part, checked_core}
+use Rattle.undo_records.proofs.FieldLaws.{point_part, point_core, point_ends}
+use Rattle.undo_records.proofs.PartLaws.{named_coin_part, named_coin_core, named_coin_ends}
 
 -- ---- one coin
 
@@ -38,58 +39,84 @@ pub is_after_at : (last : Option OutPoint) (point : OutPoint) → IsAfter last p
 is_after_at None point fits = refl
 is_after_at (Some before) point fits = is_less_at (outpoint_cmp before point) fits
 
-abbrev pub LaterFits : Option OutPoint → OutPoint → Type 0
+abbrev LaterFits : Option OutPoint → OutPoint → Type 0
 LaterFits last point = IsWritablePoint point × IsAfter last point
 
-abbrev pub LaterFlaw : Option OutPoint → Flaw
-LaterFlaw last = CheckFlaw point_text IsWritablePoint Unsorted (is_after last)
+abbrev later_part : Option OutPoint → Part OutPoint
+later_part last = record { text = point_text; Fits = LaterFits last; Flawed = CheckFlaw point_part Unsorted (is_after last); read = later_point_from last }
 
-later_core : (last : Option OutPoint) → Core point_text (LaterFits last) (LaterFlaw last) (later_point_from last)
+later_is : (last : Option OutPoint) → IsSaid (checked_part Unsorted (is_after last) point_part) (later_part last)
 unfolding later_point_from
-later_core last =
-    said_core point_text point_text (Passes IsWritablePoint (is_after last)) (LaterFits last) (later_point_from last) (later_point_from last) (λ bytes. refl) (λ x fits. refl)
-    (λ x fits. (fits.0, after_is last x fits.1)) (λ x fits. (fits.0, is_after_at last x fits.1)) (LaterFlaw last) (LaterFlaw last) (λ bytes e f. f) (λ bytes e f. f)
-    (checked_core point_text IsWritablePoint point_from Unsorted (is_after last) point_core)
+later_is last = record {
+  read = λ bytes. refl;
+  spell = λ x fits. refl;
+  to = λ x fits. (fits.0, after_is last x fits.1);
+  from = λ x fits. (fits.0, is_after_at last x fits.1);
+  flaw_to = λ bytes e f. f;
+  flaw_from = λ bytes e f. f;
+}
 
-abbrev pub CoinFlaw : Flaw
-CoinFlaw = TagFlaw (IsOtherAt (2 ∷ []))
-
-abbrev pub HeldFlaw : Option OutPoint → Flaw
-HeldFlaw last = PairFlaw point_text (LaterFits last) (LaterFlaw last) (λ _. CoinFlaw)
+later_core : (last : Option OutPoint) → Core (later_part last)
+later_core last = said_core (checked_part Unsorted (is_after last) point_part) (later_part last) (later_is last) (checked_core point_part (λ bytes e f. f) Unsorted (is_after last) point_core)
 
 abbrev pub HeldFits : Option OutPoint → HeldCoin → Type 0
 HeldFits last held = IsWritableHeld held × IsAfter last held.at
 
-held_core : (last : Option OutPoint) → Core held_text (HeldFits last) (HeldFlaw last) (held_from last)
+abbrev held_parts : Option OutPoint → Part (OutPoint × Coin)
+held_parts last = then_part (later_part last) (λ _. named_coin_part)
+
+-- a coin of a name behind an outpoint that is greater than the one before
+abbrev pub held_part : Option OutPoint → Part HeldCoin
+held_part last = record { text = held_text; Fits = HeldFits last; Flawed = (held_parts last).Flawed; read = held_from last }
+
+abbrev held_of : OutPoint × Coin → HeldCoin
+held_of x = record { at = x.0; coin = x.1 }
+
+abbrev of_held : HeldCoin → OutPoint × Coin
+of_held held = (held.at, held.coin)
+
+held_is : (last : Option OutPoint) → IsSeenBy held_of of_held (held_parts last) (held_part last)
 unfolding held_text held_from
-held_core last =
-    map_core (λ x. record { at = x.0; coin = x.1 }) (λ (h : HeldCoin). (h.at, h.coin)) (pair_text point_text (λ _. coin_text)) (PairFits (LaterFits last) (λ _. IsWritableNamed))
-    (then_from (later_point_from last) (λ _. named_coin_from)) held_text (HeldFits last)
-    (λ h fits. refl) (λ x fits. refl) (λ x fits. (record { at = fits.0.0; coin = fits.1 }, fits.0.1)) (λ h fits. ((fits.0.at, fits.1), fits.0.coin)) (HeldFlaw last)
-    (then_core point_text (LaterFits last) (LaterFlaw last) (later_point_from last) (λ _. coin_text) (λ _. IsWritableNamed) (λ _. CoinFlaw) (λ _. named_coin_from) (later_core last) (λ _ _. named_coin_core))
+held_is last = record {
+  read = λ bytes. refl;
+  back = λ h fits. refl;
+  spell = λ x fits. refl;
+  to = λ x fits. (record { at = fits.0.0; coin = fits.1 }, fits.0.1);
+  from = λ h fits. ((fits.0.at, fits.1), fits.0.coin);
+  flaw_to = λ bytes e f. f;
+  flaw_from = λ bytes e f. f;
+}
+
+pub held_core : (last : Option OutPoint) → Core (held_part last)
+held_core last = seen_core held_of of_held (held_parts last) (held_part last) (held_is last) (then_core (later_part last) (λ _. named_coin_part) (later_core last) (λ _ _. named_coin_core))
 
 -- the same, whatever the order
 pub loose_held_from : Reads HeldCoin
 loose_held_from = map_from (λ x. record { at = x.0; coin = x.1 }) (then_from point_from (λ _. named_coin_from))
 
-abbrev pub LooseFlaw : Flaw
-LooseFlaw = PairFlaw point_text IsWritablePoint NoFlaw (λ _. CoinFlaw)
+abbrev loose_parts : Part (OutPoint × Coin)
+loose_parts = then_part point_part (λ _. named_coin_part)
 
-loose_held_core : Core held_text IsWritableHeld LooseFlaw loose_held_from
-unfolding held_text loose_held_from
-loose_held_core =
-    map_core (λ x. record { at = x.0; coin = x.1 }) (λ (h : HeldCoin). (h.at, h.coin)) (pair_text point_text (λ _. coin_text)) (PairFits IsWritablePoint (λ _. IsWritableNamed))
-    (then_from point_from (λ _. named_coin_from)) held_text IsWritableHeld
-    (λ h fits. refl) (λ x fits. refl) (λ x fits. record { at = fits.0; coin = fits.1 }) (λ h fits. (fits.at, fits.coin)) LooseFlaw
-    (then_core point_text IsWritablePoint NoFlaw point_from (λ _. coin_text) (λ _. IsWritableNamed) (λ _. CoinFlaw) (λ _. named_coin_from) point_core (λ _ _. named_coin_core))
+abbrev pub loose_held_part : Part HeldCoin
+loose_held_part = record { text = held_text; Fits = IsWritableHeld; Flawed = loose_parts.Flawed; read = loose_held_from }
 
-loose_held_ends : Ends held_text IsWritableHeld loose_held_from
+loose_held_is : IsSeenBy held_of of_held loose_parts loose_held_part
 unfolding held_text loose_held_from
-loose_held_ends =
-    map_ends (λ x. record { at = x.0; coin = x.1 }) (λ (h : HeldCoin). (h.at, h.coin)) (pair_text point_text (λ _. coin_text)) (PairFits IsWritablePoint (λ _. IsWritableNamed))
-    (then_from point_from (λ _. named_coin_from)) held_text IsWritableHeld
-    (λ h fits. refl) (λ x fits. refl) (λ x fits. record { at = fits.0; coin = fits.1 }) (λ h fits. (fits.at, fits.coin))
-    (then_ends point_text IsWritablePoint NoFlaw point_from (λ _. coin_text) (λ _. IsWritableNamed) (λ _. CoinFlaw) (λ _. named_coin_from) point_core point_ends (λ _ _. named_coin_ends))
+loose_held_is = record {
+  read = λ bytes. refl;
+  back = λ h fits. refl;
+  spell = λ x fits. refl;
+  to = λ x fits. record { at = fits.0; coin = fits.1 };
+  from = λ h fits. (fits.at, fits.coin);
+  flaw_to = λ bytes e f. f;
+  flaw_from = λ bytes e f. f;
+}
+
+loose_held_core : Core loose_held_part
+loose_held_core = seen_core held_of of_held loose_parts loose_held_part loose_held_is (then_core point_part (λ _. named_coin_part) point_core (λ _ _. named_coin_core))
+
+loose_held_ends : Ends loose_held_part
+loose_held_ends = seen_ends held_of of_held loose_parts loose_held_part loose_held_is (then_ends point_part (λ _. named_coin_part) point_core point_ends (λ _ _. named_coin_ends))
 
 -- ---- many coins, in order
 
@@ -113,18 +140,19 @@ pub record CoinsFlaw (last : Option OutPoint) (n : ℕ) (bytes : List ℕ) (e : 
   pub fewer : length before < n
   pub inner : List ℕ
   pub parts : bytes ≡ flat_map held_text before ++ inner
-  pub flaw : HeldFlaw (last_after last before) inner e
+  pub flaw : (held_part (last_after last before)).Flawed inner e
 
 abbrev pub CoinsFit : Option OutPoint → ℕ → List HeldCoin → Type 0
 CoinsFit last n coins = (length coins ≡ n) × (AllByRecursion IsWritableHeld coins × AreAscending last coins)
 
-abbrev TailFlaw : ℕ → HeldCoin → Flaw
-TailFlaw n held = CoinsFlaw (Some held.at) n
+-- so many coins, in order
+abbrev pub coins_part : Option OutPoint → ℕ → Part (List HeldCoin)
+coins_part last n = record { text = flat_map held_text; Fits = CoinsFit last n; Flawed = CoinsFlaw last n; read = coins_from last n }
 
-abbrev TailFit : ℕ → HeldCoin → List HeldCoin → Type 0
-TailFit n held = CoinsFit (Some held.at) n
+abbrev tail_part : ℕ → HeldCoin → Part (List HeldCoin)
+tail_part n held = coins_part (Some held.at) n
 
-coins_to : (last : Option OutPoint) (n : ℕ) (bytes : List ℕ) (e : Spot) → PairFlaw held_text (HeldFits last) (HeldFlaw last) (TailFlaw n) bytes e → CoinsFlaw last (suc n) bytes e
+coins_to : (last : Option OutPoint) (n : ℕ) (bytes : List ℕ) (e : Spot) → PairFlaw (held_part last) (tail_part n) bytes e → CoinsFlaw last (suc n) bytes e
 coins_to last n bytes e (in_first f) = record { before = []; fits = tt; in_order = tt; fewer = omega arith; inner = bytes; parts = refl; flaw = f }
 coins_to last n bytes e (in_second held mid fits parts f) = record {
   before = held ∷ f.before;
@@ -136,12 +164,12 @@ coins_to last n bytes e (in_second held mid fits parts f) = record {
   flaw = f.flaw;
 }
 
-coins_of : (last : Option OutPoint) (n : ℕ) (bytes : List ℕ) (e : Spot) → CoinsFlaw last (suc n) bytes e → PairFlaw held_text (HeldFits last) (HeldFlaw last) (TailFlaw n) bytes e
+coins_of : (last : Option OutPoint) (n : ℕ) (bytes : List ℕ) (e : Spot) → CoinsFlaw last (suc n) bytes e → PairFlaw (held_part last) (tail_part n) bytes e
 coins_of last n bytes e f = go f.before f.fits f.in_order f.fewer f.inner f.parts f.flaw
   where
     go : (before : List HeldCoin) → AllByRecursion IsWritableHeld before → AreAscending last before → length before < suc n → (inner : List ℕ) → bytes ≡ flat_map held_text before ++ inner
-        → HeldFlaw (last_after last before) inner e → PairFlaw held_text (HeldFits last) (HeldFlaw last) (TailFlaw n) bytes e
-    go [] fits in_order fewer inner parts flaw = in_first (subst (λ (t : List ℕ). HeldFlaw last t e) (sym parts) flaw)
+        → (held_part (last_after last before)).Flawed inner e → PairFlaw (held_part last) (tail_part n) bytes e
+    go [] fits in_order fewer inner parts flaw = in_first (subst (λ (t : List ℕ). (held_part last).Flawed t e) (sym parts) flaw)
     go (held ∷ more) fits in_order fewer inner parts flaw =
         in_second held (flat_map held_text more ++ inner) (fits.0, in_order.0) (parts ∙ append_assoc (held_text held) (flat_map held_text more) inner)
         (record { before = more; fits = fits.1; in_order = in_order.1; fewer = omega (arith, fewer); inner = inner; parts = refl; flaw = flaw })
@@ -163,12 +191,24 @@ unfolding parted
 cons_back last n [] fits = absurd (omega (arith, fits.0))
 cons_back last n (held ∷ more) fits = refl
 
-cons_from : (last : Option OutPoint) (n : ℕ) (coins : List HeldCoin) → CoinsFit last (suc n) coins → PairFits (HeldFits last) (TailFit n) (parted coins)
+cons_from : (last : Option OutPoint) (n : ℕ) (coins : List HeldCoin) → CoinsFit last (suc n) coins → PairFits (HeldFits last) (λ held. CoinsFit (Some held.at) n) (parted coins)
 unfolding parted
 cons_from last n [] fits = absurd (omega (arith, fits.0))
 cons_from last n (held ∷ more) fits = ((fits.1.0.0, fits.1.1.0), (omega (arith, fits.0), (fits.1.0.1, fits.1.1.1)))
 
-pub coins_core : (last : Option OutPoint) (n : ℕ) → Core (flat_map held_text) (CoinsFit last n) (CoinsFlaw last n) (coins_from last n)
+coins_is : (last : Option OutPoint) (n : ℕ) → IsSeenBy (λ (p : HeldCoin × List HeldCoin). p.0 ∷ p.1) parted (then_part (held_part last) (tail_part n)) (coins_part last (suc n))
+unfolding coins_from
+coins_is last n = record {
+  read = λ bytes. refl;
+  back = cons_back last n;
+  spell = λ p fits. refl;
+  to = λ p fits. (ap suc fits.1.0, ((fits.0.0, fits.1.1.0), (fits.0.1, fits.1.1.1)));
+  from = cons_from last n;
+  flaw_to = coins_to last n;
+  flaw_from = coins_of last n;
+}
+
+pub coins_core : (last : Option OutPoint) (n : ℕ) → Core (coins_part last n)
 unfolding coins_from
 coins_core last zero = record {
   takes = λ bytes z fits e.
@@ -180,20 +220,15 @@ coins_core last zero = record {
   behind = λ bytes e fits h. absurd (ok_err (coins_from last 0 bytes) ([], bytes) e refl h);
 }
 coins_core last (suc n) =
-    said_core (flat_map held_text) (flat_map held_text) (CoinsFit last (suc n)) (CoinsFit last (suc n)) (coins_from last (suc n)) (coins_from last (suc n)) (λ bytes. refl) (λ x fits. refl) (λ x fits. fits) (λ x fits. fits)
-    (PairFlaw held_text (HeldFits last) (HeldFlaw last) (TailFlaw n)) (CoinsFlaw last (suc n)) (coins_to last n) (coins_of last n)
-    (map_core (λ (p : HeldCoin × List HeldCoin). p.0 ∷ p.1) parted (pair_text held_text (λ _. flat_map held_text)) (PairFits (HeldFits last) (TailFit n)) (then_from (held_from last) (λ held. coins_from (Some held.at) n))
-    (flat_map held_text) (CoinsFit last (suc n)) (cons_back last n) (λ p fits. refl) (λ p fits. (ap suc fits.1.0, ((fits.0.0, fits.1.1.0), (fits.0.1, fits.1.1.1)))) (cons_from last n)
-    (PairFlaw held_text (HeldFits last) (HeldFlaw last) (TailFlaw n))
-    (then_core held_text (HeldFits last) (HeldFlaw last) (held_from last) (λ _. flat_map held_text) (TailFit n) (TailFlaw n) (λ held. coins_from (Some held.at) n)
-    (held_core last) (λ held _. coins_core (Some held.at) n)))
+    seen_core (λ (p : HeldCoin × List HeldCoin). p.0 ∷ p.1) parted (then_part (held_part last) (tail_part n)) (coins_part last (suc n)) (coins_is last n)
+    (then_core (held_part last) (tail_part n) (held_core last) (λ held _. coins_core (Some held.at) n))
 
 -- whatever the order
-pub loose_coins_core : (n : ℕ) → Core (flat_map held_text) (ManyFit IsWritableHeld n) (ManyFlaw held_text IsWritableHeld LooseFlaw n) (many_from loose_held_from n)
-loose_coins_core = many_core held_text IsWritableHeld loose_held_from sample_coin LooseFlaw loose_held_core
+pub loose_coins_core : (n : ℕ) → Core (many_part loose_held_part n)
+loose_coins_core = many_core loose_held_part sample_coin loose_held_core
 
-pub loose_coins_ends : (n : ℕ) → Ends (flat_map held_text) (ManyFit IsWritableHeld n) (many_from loose_held_from n)
-loose_coins_ends = many_ends held_text IsWritableHeld loose_held_from sample_coin LooseFlaw loose_held_core loose_held_ends
+pub loose_coins_ends : (n : ℕ) → Ends (many_part loose_held_part n)
+loose_coins_ends = many_ends loose_held_part sample_coin loose_held_core loose_held_ends
 
 -- ---- the same answers, where nothing is out of order
 

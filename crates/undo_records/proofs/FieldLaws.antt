@@ -7,16 +7,15 @@ use Rattle.std.proofs.lemmas.List.{length-append}
 use Rattle.nmc_base.specs.declared.hashes.OutPoint.{OutPoint}
 use Rattle.block_grammar.specs.Fields.{number_at, piece_at}
 use Rattle.block_grammar.proofs.Readers.{IsBytes, Took, IsWide, wide16, wide32, number_reads, piece_reads}
-use Rattle.block_grammar.specs.Combinators.{then_from}
-use Rattle.block_grammar.proofs.ReaderLaws.{ok_is, err_is, bind_err, pair_text, PairFits}
+use Rattle.block_grammar.proofs.ReaderLaws.{ok_is, err_is, bind_err}
 use Rattle.block_grammar.proofs.FieldLaws.{itself, HasLength, IsBelow, zeros, length-zeros, IsBytes-append, IsBytes-replicate}
 use Rattle.undo_records.specs.declared.fault.FaultKind.TheVariants.{BadTag}
-use Rattle.undo_records.specs.Reading.{Reads, number_from, piece_from, tagged_from, byte_from, name_from, checked_from, value_length_from, value_from, point_from}
+use Rattle.undo_records.specs.Reading.{Reads, number_from, piece_from, tagged_from, byte_from, name_from, value_length_from, value_from, point_from}
 use Rattle.undo_records.specs.Text.{point_text, name_text}
 use Rattle.chain_names.specs.Writable.{IsWritablePoint, IsWritableName}
 use Rattle.undo_records.specs.Faults.{IsProperFront, IsOther, IsLongLength}
-use Rattle.undo_records.proofs.Laws.{Spot, ended, Flaw, NoFlaw, Core, Ends, PairFlaw, in_first, in_second, then_core, then_ends, map_core, map_ends, said_core, said_ends, flaw_core, TagFlaw}
-use Rattle.undo_records.proofs.Choices.{no_cut, choice_from, ChoiceFlaw, unknown, behind_tag, choice_core, choice_ends, CheckFlaw, Passes, checked_core}
+use Rattle.undo_records.proofs.Laws.{Spot, ended, NoFlaw, Part, Core, Ends, PairFlaw, in_first, in_second, then_part, then_core, then_ends, IsSeenBy, seen_core, seen_ends, IsSaid, said_core, said_ends, TagFlaw}
+use Rattle.undo_records.proofs.Choices.{no_cut, choice_from, ChoiceFlaw, unknown, behind_tag, Choice, behind_part, choice_part, choice_core, choice_ends, checked_part, checked_core}
 
 -- ---- so many bytes, whatever they are
 
@@ -40,7 +39,10 @@ filled n bytes lt = omega (arith, lt, length-append bytes (0 ∷ zeros (n - suc 
 at_end : (bytes : List ℕ) (e : Spot) → ended ≡ e → (front : List ℕ) × (bytes ≡ front ++ e.1)
 at_end bytes e is = (bytes, sym (append-nil bytes) ∙ ap (λ (s : Spot). bytes ++ s.1) is)
 
-pub piece_core : (n : ℕ) → Core itself (HasLength n) NoFlaw (piece_from n)
+abbrev pub piece_part : ℕ → Part (List ℕ)
+piece_part n = record { text = itself; Fits = HasLength n; Flawed = NoFlaw; read = piece_from n }
+
+pub piece_core : (n : ℕ) → Core (piece_part n)
 piece_core n = record {
   takes = λ bytes x fits e.
       let w = fewer_ok (ltb (length bytes) n) (take n bytes, drop n bytes) x e in
@@ -57,7 +59,7 @@ piece_core n = record {
         let same : (take n (x ++ rest), drop n (x ++ rest)) ≡ (x, rest) = cc in
         rw lt (ap (λ (y : List ℕ × List ℕ). Ok y) same)
 
-pub piece_ends : (n : ℕ) → Ends itself (HasLength n) (piece_from n)
+pub piece_ends : (n : ℕ) → Ends (piece_part n)
 piece_ends n = record {
   short = λ bytes front. let lt : ltb (length bytes) n ≡ true = lt-ltb (length bytes) n (omega (arith, front.fits, proper_length front.value bytes front.next front.more front.text_is)) in rw lt refl;
   begun = λ bytes fits h.
@@ -72,6 +74,9 @@ piece_ends n = record {
 IsBytes-zeros : (n : ℕ) → IsBytes (zeros n)
 IsBytes-zeros n = IsBytes-replicate n 0 (omega arith)
 
+abbrev number_part : Width → ℕ → Part ℕ
+number_part w limit = record { text = to_le_bytes w; Fits = IsBelow limit; Flawed = NoFlaw; read = number_from w }
+
 module _ (w : Width) (limit : ℕ) (wide : IsWide w limit) where
   number_some : (bytes : List ℕ) (x : ℕ × List ℕ) → number_at w bytes ≡ Some x → number_from w bytes ≡ Ok x
   number_some bytes x e =
@@ -83,7 +88,7 @@ module _ (w : Width) (limit : ℕ) (wide : IsWide w limit) where
             rw le (ap (λ (y : ℕ × List ℕ). Ok y) same)
       ]
 
-  pub number_core : Core (to_le_bytes w) (IsBelow limit) NoFlaw (number_from w)
+  pub number_core : Core (number_part w limit)
   number_core = record {
     takes = λ bytes x fits e.
         let o = fewer_ok (ltb (length bytes) (byte_len w)) (from_le_bytes w (take (byte_len w) bytes), drop (byte_len w) bytes) x e in
@@ -94,7 +99,7 @@ module _ (w : Width) (limit : ℕ) (wide : IsWide w limit) where
     behind = λ bytes e fits h. at_end bytes e (fewer_err (ltb (length bytes) (byte_len w)) (from_le_bytes w (take (byte_len w) bytes), drop (byte_len w) bytes) e h).1;
   }
 
-  pub number_ends : Ends (to_le_bytes w) (IsBelow limit) (number_from w)
+  pub number_ends : Ends (number_part w limit)
   number_ends = record {
     short = λ bytes front.
         let lt : ltb (length bytes) (byte_len w) ≡ true = lt-ltb (length bytes) (byte_len w) (omega (arith, wide.len front.value, proper_length (to_le_bytes w front.value) bytes front.next front.more front.text_is)) in
@@ -109,16 +114,22 @@ module _ (w : Width) (limit : ℕ) (wide : IsWide w limit) where
     sample_fits = wide.below (zeros (byte_len w)) (IsBytes-zeros (byte_len w));
   }
 
-pub core32 : Core (to_le_bytes w32) (IsBelow (2 ^ 32)) NoFlaw (number_from w32)
+abbrev pub part32 : Part ℕ
+part32 = number_part w32 (2 ^ 32)
+
+pub core32 : Core part32
 core32 = number_core w32 (2 ^ 32) wide32
 
-pub ends32 : Ends (to_le_bytes w32) (IsBelow (2 ^ 32)) (number_from w32)
+pub ends32 : Ends part32
 ends32 = number_ends w32 (2 ^ 32) wide32
 
-core16 : Core (to_le_bytes w16) (IsBelow (2 ^ 16)) NoFlaw (number_from w16)
+abbrev part16 : Part ℕ
+part16 = number_part w16 (2 ^ 16)
+
+core16 : Core part16
 core16 = number_core w16 (2 ^ 16) wide16
 
-ends16 : Ends (to_le_bytes w16) (IsBelow (2 ^ 16)) (number_from w16)
+ends16 : Ends part16
 ends16 = number_ends w16 (2 ^ 16) wide16
 
 -- ---- a length in one byte, and names
@@ -130,7 +141,10 @@ no_middle : (bytes : List ℕ) (n b : ℕ) (more : List ℕ) → n ∷ [] ≡ by
 no_middle [] n b more e = refl
 no_middle (x ∷ bytes) n b more e = let h : suc zero ≡ length (x ∷ (bytes ++ b ∷ more)) = ap length e in absurd (omega (arith, h, length-append bytes (b ∷ more)))
 
-byte_core : Core byte_text (IsBelow 256) NoFlaw byte_from
+abbrev byte_part : Part ℕ
+byte_part = record { text = byte_text; Fits = IsBelow 256; Flawed = NoFlaw; read = byte_from }
+
+byte_core : Core byte_part
 unfolding byte_text
 byte_core = record {
   takes = takes;
@@ -154,7 +168,7 @@ byte_core = record {
     stops [] e fits h = inl (sym (err_is ended e h))
     stops (first ∷ rest) e fits h = absurd cc
 
-byte_ends : Ends byte_text (IsBelow 256) byte_from
+byte_ends : Ends byte_part
 unfolding byte_text
 byte_ends = record {
   short = λ bytes front. rw (no_middle bytes front.value front.next front.more front.text_is) refl;
@@ -171,25 +185,31 @@ abbrev of_name : List ℕ → ℕ × List ℕ
 of_name name = (length name, name)
 
 -- neither of two parts has a flaw
-pub no_pair : {A : Type 0} (text1 : A → List ℕ) (Fits1 : A → Type 0) (bytes : List ℕ) (e : Spot) → PairFlaw text1 Fits1 NoFlaw (λ _. NoFlaw) bytes e → NoFlaw bytes e
-no_pair text1 Fits1 bytes e (in_first f) = f
-no_pair text1 Fits1 bytes e (in_second x mid fits parts f) = f
+pub no_pair : {A B : Type 0} (p : Part A) (q : A → Part B) (bytes : List ℕ) (e : Spot) → ((bytes : List ℕ) (e : Spot) → p.Flawed bytes e → ⊥)
+    → ((x : A) (bytes : List ℕ) (e : Spot) → (q x).Flawed bytes e → ⊥) → PairFlaw p q bytes e → ⊥
+no_pair p q bytes e none1 none2 (in_first f) = none1 bytes e f
+no_pair p q bytes e none1 none2 (in_second x mid fits parts f) = none2 x mid e f
 
-pub name_core : Core name_text IsWritableName NoFlaw name_from
-unfolding byte_text name_from
-name_core =
-    map_core (λ (x : ℕ × List ℕ). x.1) of_name (pair_text byte_text (λ _. itself)) (PairFits (IsBelow 256) HasLength) (then_from byte_from piece_from) name_text IsWritableName
-    (λ name fits. refl) (λ x fits. rw fits.1 refl) (λ x fits. omega (arith, fits.0, fits.1)) (λ name fits. (omega (arith, fits), refl)) NoFlaw
-    (flaw_core (pair_text byte_text (λ _. itself)) (PairFits (IsBelow 256) HasLength) (PairFlaw byte_text (IsBelow 256) NoFlaw (λ _. NoFlaw)) NoFlaw (then_from byte_from piece_from)
-    (no_pair byte_text (IsBelow 256)) (λ bytes e f. absurd f)
-    (then_core byte_text (IsBelow 256) NoFlaw byte_from (λ _. itself) HasLength (λ _. NoFlaw) piece_from byte_core (λ n _. piece_core n)))
+abbrev pub name_part : Part (List ℕ)
+name_part = record { text = name_text; Fits = IsWritableName; Flawed = NoFlaw; read = name_from }
 
-pub name_ends : Ends name_text IsWritableName name_from
+name_is : IsSeenBy (λ (x : ℕ × List ℕ). x.1) of_name (then_part byte_part piece_part) name_part
 unfolding byte_text name_from
-name_ends =
-    map_ends (λ (x : ℕ × List ℕ). x.1) of_name (pair_text byte_text (λ _. itself)) (PairFits (IsBelow 256) HasLength) (then_from byte_from piece_from) name_text IsWritableName
-    (λ name fits. refl) (λ x fits. rw fits.1 refl) (λ x fits. omega (arith, fits.0, fits.1)) (λ name fits. (omega (arith, fits), refl))
-    (then_ends byte_text (IsBelow 256) NoFlaw byte_from (λ _. itself) HasLength (λ _. NoFlaw) piece_from byte_core byte_ends (λ n _. piece_ends n))
+name_is = record {
+  read = λ bytes. refl;
+  back = λ name fits. refl;
+  spell = λ x fits. rw fits.1 refl;
+  to = λ x fits. omega (arith, fits.0, fits.1);
+  from = λ name fits. (omega (arith, fits), refl);
+  flaw_to = λ bytes e f. no_pair byte_part piece_part bytes e (λ bytes e f. f) (λ x bytes e f. f) f;
+  flaw_from = λ bytes e f. absurd f;
+}
+
+pub name_core : Core name_part
+name_core = seen_core (λ (x : ℕ × List ℕ). x.1) of_name (then_part byte_part piece_part) name_part name_is (then_core byte_part piece_part byte_core (λ n _. piece_core n))
+
+pub name_ends : Ends name_part
+name_ends = seen_ends (λ (x : ℕ × List ℕ). x.1) of_name (then_part byte_part piece_part) name_part name_is (then_ends byte_part piece_part byte_core byte_ends (λ n _. piece_ends n))
 
 -- ---- values
 
@@ -208,29 +228,28 @@ short_enough n = leb n 1023
 FitsLength : ℕ → Type 0
 FitsLength n = n ≤ 1023
 
-length_flaw : Flaw
-length_flaw = CheckFlaw (to_le_bytes w16) (IsBelow (2 ^ 16)) BadTag short_enough
+abbrev length_part : Part ℕ
+length_part = record { text = to_le_bytes w16; Fits = FitsLength; Flawed = TagFlaw IsLongAt; read = value_length_from }
 
-length_to : (bytes : List ℕ) (e : Spot) → length_flaw bytes e → TagFlaw IsLongAt bytes e
-unfolding length_flaw
-length_to bytes e f = record {
-  rest = bytes;
-  flaw = (record { number = f.value; more = f.rest; text = f.parts; long = leb-false f.value 1023 f.fails; fits = f.fits }, refl);
-  is = f.is;
+length_is : IsSaid (checked_part BadTag short_enough part16) length_part
+unfolding FitsLength value_length_from
+length_is = record {
+  read = λ bytes. refl;
+  spell = λ x fits. refl;
+  to = λ x fits. leb-true x 1023 fits.1;
+  from = λ x fits. (omega (arith, fits), le-leb x 1023 fits);
+  flaw_to = λ bytes e f. record {
+    rest = bytes;
+    flaw = (record { number = f.value; more = f.rest; text = f.parts; long = leb-false f.value 1023 f.fails; fits = f.fits }, refl);
+    is = f.is;
+  };
+  flaw_from = λ bytes e f.
+      let long = f.flaw.0 in
+      record { value = long.number; rest = long.more; fits = long.fits; parts = long.text; fails = lt-leb long.number 1023 long.long; is = ap (λ (l : List ℕ). (BadTag, l)) (sym f.flaw.1) ∙ f.is };
 }
 
-length_of : (bytes : List ℕ) (e : Spot) → TagFlaw IsLongAt bytes e → length_flaw bytes e
-unfolding length_flaw
-length_of bytes e f =
-    let long = f.flaw.0 in
-    record { value = long.number; rest = long.more; fits = long.fits; parts = long.text; fails = lt-leb long.number 1023 long.long; is = ap (λ (l : List ℕ). (BadTag, l)) (sym f.flaw.1) ∙ f.is }
-
-length_core : Core (to_le_bytes w16) FitsLength (TagFlaw IsLongAt) value_length_from
-unfolding FitsLength length_flaw value_length_from
-length_core =
-    said_core (to_le_bytes w16) (to_le_bytes w16) (Passes (IsBelow (2 ^ 16)) short_enough) FitsLength (checked_from BadTag short_enough (number_from w16)) value_length_from (λ bytes. refl)
-    (λ x fits. refl) (λ x fits. leb-true x 1023 fits.1) (λ x fits. (omega (arith, fits), le-leb x 1023 fits)) length_flaw (TagFlaw IsLongAt) length_to length_of
-    (checked_core (to_le_bytes w16) (IsBelow (2 ^ 16)) (number_from w16) BadTag short_enough core16)
+length_core : Core length_part
+length_core = said_core (checked_part BadTag short_enough part16) length_part length_is (checked_core part16 (λ bytes e f. f) BadTag short_enough core16)
 
 number_cut : (bytes : List ℕ) → value_length_from bytes ≡ Err ended → number_from w16 bytes ≡ Err ended
 unfolding value_length_from
@@ -254,7 +273,7 @@ pair_bytes b lt = IsBytes-append (b ∷ []) (zeros 1) (one b lt) (IsBytes-zeros 
     one b lt zero = lt
     one b lt (suc i) = omega arith
 
-length_ends : Ends (to_le_bytes w16) FitsLength value_length_from
+length_ends : Ends length_part
 unfolding FitsLength value_length_from
 length_ends = record {
   short = λ bytes front.
@@ -277,25 +296,30 @@ length_ends = record {
 abbrev of_value : List ℕ → ℕ × List ℕ
 of_value value = (length value, value)
 
-first_flaw : (bytes : List ℕ) (e : Spot) → PairFlaw (to_le_bytes w16) FitsLength (TagFlaw IsLongAt) (λ _. NoFlaw) bytes e → TagFlaw IsLongAt bytes e
+first_flaw : (bytes : List ℕ) (e : Spot) → PairFlaw length_part piece_part bytes e → TagFlaw IsLongAt bytes e
 first_flaw bytes e (in_first f) = f
 first_flaw bytes e (in_second x mid fits parts f) = absurd f
 
-pub value_core : Core value_text FitsValue (TagFlaw IsLongAt) value_from
-unfolding FitsLength value_from
-value_core =
-    map_core (λ (x : ℕ × List ℕ). x.1) of_value (pair_text (to_le_bytes w16) (λ _. itself)) (PairFits FitsLength HasLength) (then_from value_length_from piece_from) value_text FitsValue
-    (λ value fits. refl) (λ x fits. rw fits.1 refl) (λ x fits. omega (arith, fits.0, fits.1)) (λ value fits. (fits, refl)) (TagFlaw IsLongAt)
-    (flaw_core (pair_text (to_le_bytes w16) (λ _. itself)) (PairFits FitsLength HasLength) (PairFlaw (to_le_bytes w16) FitsLength (TagFlaw IsLongAt) (λ _. NoFlaw)) (TagFlaw IsLongAt)
-    (then_from value_length_from piece_from) first_flaw (λ bytes e f. in_first f)
-    (then_core (to_le_bytes w16) FitsLength (TagFlaw IsLongAt) value_length_from (λ _. itself) HasLength (λ _. NoFlaw) piece_from length_core (λ n _. piece_core n)))
+abbrev pub value_part : Part (List ℕ)
+value_part = record { text = value_text; Fits = FitsValue; Flawed = TagFlaw IsLongAt; read = value_from }
 
-pub value_ends : Ends value_text FitsValue value_from
+value_is : IsSeenBy (λ (x : ℕ × List ℕ). x.1) of_value (then_part length_part piece_part) value_part
 unfolding FitsLength value_from
-value_ends =
-    map_ends (λ (x : ℕ × List ℕ). x.1) of_value (pair_text (to_le_bytes w16) (λ _. itself)) (PairFits FitsLength HasLength) (then_from value_length_from piece_from) value_text FitsValue
-    (λ value fits. refl) (λ x fits. rw fits.1 refl) (λ x fits. omega (arith, fits.0, fits.1)) (λ value fits. (fits, refl))
-    (then_ends (to_le_bytes w16) FitsLength (TagFlaw IsLongAt) value_length_from (λ _. itself) HasLength (λ _. NoFlaw) piece_from length_core length_ends (λ n _. piece_ends n))
+value_is = record {
+  read = λ bytes. refl;
+  back = λ value fits. refl;
+  spell = λ x fits. rw fits.1 refl;
+  to = λ x fits. omega (arith, fits.0, fits.1);
+  from = λ value fits. (fits, refl);
+  flaw_to = first_flaw;
+  flaw_from = λ bytes e f. in_first f;
+}
+
+pub value_core : Core value_part
+value_core = seen_core (λ (x : ℕ × List ℕ). x.1) of_value (then_part length_part piece_part) value_part value_is (then_core length_part piece_part length_core (λ n _. piece_core n))
+
+pub value_ends : Ends value_part
+value_ends = seen_ends (λ (x : ℕ × List ℕ). x.1) of_value (then_part length_part piece_part) value_part value_is (then_ends length_part piece_part length_core length_ends (λ n _. piece_ends n))
 
 -- ---- outpoints
 
@@ -305,37 +329,49 @@ of_point point = (point.txid.0, point.index)
 abbrev point_of : List ℕ × ℕ → OutPoint
 point_of x = record { txid = record { 0 = x.0 }; index = x.1 }
 
-pub point_core : Core point_text IsWritablePoint NoFlaw point_from
-unfolding point_text point_from
-point_core =
-    map_core point_of of_point (pair_text itself (λ _. to_le_bytes w32)) (PairFits (HasLength 32) (λ _. IsBelow (2 ^ 32))) (then_from (piece_from 32) (λ _. number_from w32)) point_text IsWritablePoint
-    (λ point fits. refl) (λ x fits. refl) (λ x fits. record { txid = fits.0; index = fits.1 }) (λ point fits. (fits.txid, fits.index)) NoFlaw
-    (flaw_core (pair_text itself (λ _. to_le_bytes w32)) (PairFits (HasLength 32) (λ _. IsBelow (2 ^ 32))) (PairFlaw itself (HasLength 32) NoFlaw (λ _. NoFlaw)) NoFlaw
-    (then_from (piece_from 32) (λ _. number_from w32)) (no_pair itself (HasLength 32)) (λ bytes e f. absurd f)
-    (then_core itself (HasLength 32) NoFlaw (piece_from 32) (λ _. to_le_bytes w32) (λ _. IsBelow (2 ^ 32)) (λ _. NoFlaw) (λ _. number_from w32) (piece_core 32) (λ _ _. core32)))
+abbrev pub point_part : Part OutPoint
+point_part = record { text = point_text; Fits = IsWritablePoint; Flawed = NoFlaw; read = point_from }
 
-pub point_ends : Ends point_text IsWritablePoint point_from
+abbrev point_parts : Part (List ℕ × ℕ)
+point_parts = then_part (piece_part 32) (λ _. part32)
+
+point_is : IsSeenBy point_of of_point point_parts point_part
 unfolding point_text point_from
-point_ends =
-    map_ends point_of of_point (pair_text itself (λ _. to_le_bytes w32)) (PairFits (HasLength 32) (λ _. IsBelow (2 ^ 32))) (then_from (piece_from 32) (λ _. number_from w32)) point_text IsWritablePoint
-    (λ point fits. refl) (λ x fits. refl) (λ x fits. record { txid = fits.0; index = fits.1 }) (λ point fits. (fits.txid, fits.index))
-    (then_ends itself (HasLength 32) NoFlaw (piece_from 32) (λ _. to_le_bytes w32) (λ _. IsBelow (2 ^ 32)) (λ _. NoFlaw) (λ _. number_from w32) (piece_core 32) (piece_ends 32) (λ _ _. ends32))
+point_is = record {
+  read = λ bytes. refl;
+  back = λ point fits. refl;
+  spell = λ x fits. refl;
+  to = λ x fits. record { txid = fits.0; index = fits.1 };
+  from = λ point fits. (fits.txid, fits.index);
+  flaw_to = λ bytes e f. no_pair (piece_part 32) (λ _. part32) bytes e (λ bytes e f. f) (λ x bytes e f. f) f;
+  flaw_from = λ bytes e f. absurd f;
+}
+
+pub point_core : Core point_part
+point_core = seen_core point_of of_point point_parts point_part point_is (then_core (piece_part 32) (λ _. part32) (piece_core 32) (λ _ _. core32))
+
+pub point_ends : Ends point_part
+point_ends = seen_ends point_of of_point point_parts point_part point_is (then_ends (piece_part 32) (λ _. part32) (piece_core 32) (piece_ends 32) (λ _ _. ends32))
 
 -- ---- behind a tag
 
 abbrev pub IsOtherAt : List ℕ → List ℕ → List ℕ → Type 0
 IsOtherAt tags bytes rest = IsOther tags bytes × (rest ≡ bytes)
 
-module _ {A : Type 0} (tag : ℕ) (text : A → List ℕ) (Fits : A → Type 0) (read : Reads A) where
-  one_pick : ℕ → Option (Reads A)
-  one_pick first = cond (eqb first tag) (Some read) None
+-- what stands behind a byte that must be this one
+abbrev pub tagged_part : {A : Type 0} → ℕ → Part A → Part A
+tagged_part tag p = record { text = λ x. tag ∷ p.text x; Fits = p.Fits; Flawed = TagFlaw (IsOtherAt (tag ∷ [])); read = tagged_from tag p.read }
 
-  pick_is : (first : ℕ) (found : Reads A) → one_pick first ≡ Some found → (first ≡ tag) × (read ≡ found)
+module _ {A : Type 0} (tag : ℕ) (p : Part A) (no_flaw : (bytes : List ℕ) (e : Spot) → p.Flawed bytes e → ⊥) where
+  one_pick : ℕ → Option (Reads A)
+  one_pick first = cond (eqb first tag) (Some p.read) None
+
+  pick_is : (first : ℕ) (found : Reads A) → one_pick first ≡ Some found → (first ≡ tag) × (p.read ≡ found)
   unfolding one_pick
   pick_is first found e =
       elim (cases_Bool (eqb first tag)) [
         | inl same ↦
-            let is : Some read ≡ Some found = rw same at e in
+            let is : Some p.read ≡ Some found = rw same at e in
             (eqb-true first tag same, some_is is)
         | inr other ↦
             let none : None ≡ Some found = rw other at e in
@@ -345,11 +381,11 @@ module _ {A : Type 0} (tag : ℕ) (text : A → List ℕ) (Fits : A → Type 0) 
       some_is : {x y : Reads A} → Some x ≡ Some y → x ≡ y
       some_is e = cc
 
-  pick_tag : one_pick tag ≡ Some read
+  pick_tag : one_pick tag ≡ Some p.read
   unfolding one_pick
   pick_tag = let same : eqb tag tag ≡ true = eq-eqb tag tag refl in rw same refl
 
-  tagged_is : (bytes : List ℕ) → tagged_from tag read bytes ≡ choice_from one_pick bytes
+  tagged_is : (bytes : List ℕ) → tagged_from tag p.read bytes ≡ choice_from one_pick bytes
   unfolding one_pick
   tagged_is [] = refl
   tagged_is (first ∷ rest) =
@@ -358,41 +394,50 @@ module _ {A : Type 0} (tag : ℕ) (text : A → List ℕ) (Fits : A → Type 0) 
         | inr other ↦ rw other refl
       ]
 
-  tagged_to : (bytes : List ℕ) (e : Spot) → ChoiceFlaw one_pick (λ _. NoFlaw) bytes e → TagFlaw (IsOtherAt (tag ∷ [])) bytes e
+  tagged_to : (bytes : List ℕ) (e : Spot) → ChoiceFlaw one_pick (λ _. p.Flawed) bytes e → TagFlaw (IsOtherAt (tag ∷ [])) bytes e
   unfolding one_pick
   tagged_to bytes e (unknown first more parts none is) =
       record { rest = bytes; flaw = (record { first = first; more = more; text = parts; other = (λ same. absurd (known same none), tt) }, refl); is = is }
     where
       known : first ≡ tag → one_pick first ≡ None → ⊥
-      known same none = let t : eqb first tag ≡ true = eq-eqb first tag same in let some : Some read ≡ None = rw t at none in absurd cc
-  tagged_to bytes e (behind_tag first more found parts is f) = absurd f
+      known same none = let t : eqb first tag ≡ true = eq-eqb first tag same in let some : Some p.read ≡ None = rw t at none in absurd cc
+  tagged_to bytes e (behind_tag first more found parts is f) = absurd (no_flaw more e f)
 
-  tagged_of : (bytes : List ℕ) (e : Spot) → TagFlaw (IsOtherAt (tag ∷ [])) bytes e → ChoiceFlaw one_pick (λ _. NoFlaw) bytes e
+  tagged_of : (bytes : List ℕ) (e : Spot) → TagFlaw (IsOtherAt (tag ∷ [])) bytes e → ChoiceFlaw one_pick (λ _. p.Flawed) bytes e
   unfolding one_pick
   tagged_of bytes e f =
       let other = f.flaw.0 in
       let differs : eqb other.first tag ≡ false = ne_eqb other.first tag other.other.0 in
       unknown other.first other.more other.text (rw differs refl) (ap (λ (l : List ℕ). (BadTag, l)) (sym f.flaw.1) ∙ f.is)
 
-  at_core : Core text Fits NoFlaw read → (first : ℕ) (found : Reads A) → one_pick first ≡ Some found → Core text (λ x. (tag ≡ first) × Fits x) NoFlaw found
+  abbrev one_choice : Choice A
+  one_choice = record { tag_of = λ _. tag; behind = p.text; Fits = p.Fits; pick = one_pick; FlawAt = λ _. p.Flawed }
+
+  behind_is : (first : ℕ) → first ≡ tag → IsSaid p (behind_part one_choice first p.read)
+  behind_is first same = record {
+    read = λ bytes. refl;
+    spell = λ x fits. refl;
+    to = λ x fits. (sym same, fits);
+    from = λ x fits. fits.1;
+    flaw_to = λ bytes e f. f;
+    flaw_from = λ bytes e f. f;
+  }
+
+  at_core : Core p → (first : ℕ) (found : Reads A) → one_pick first ≡ Some found → Core (behind_part one_choice first found)
   at_core r first found e =
       let w = pick_is first found e in
-      subst (λ (f : Reads A). Core text (λ x. (tag ≡ first) × Fits x) NoFlaw f) w.1
-      (said_core text text Fits (λ x. (tag ≡ first) × Fits x) read read (λ bytes. refl) (λ x fits. refl) (λ x fits. (sym w.0, fits)) (λ x fits. fits.1) NoFlaw NoFlaw (λ bytes e f. f) (λ bytes e f. f) r)
+      subst (λ (f : Reads A). Core (behind_part one_choice first f)) w.1 (said_core p (behind_part one_choice first p.read) (behind_is first w.0) r)
 
-  at_ends : Ends text Fits read → (first : ℕ) (found : Reads A) → one_pick first ≡ Some found → Ends text (λ x. (tag ≡ first) × Fits x) found
+  at_ends : Ends p → (first : ℕ) (found : Reads A) → one_pick first ≡ Some found → Ends (behind_part one_choice first found)
   at_ends s first found e =
       let w = pick_is first found e in
-      subst (λ (f : Reads A). Ends text (λ x. (tag ≡ first) × Fits x) f) w.1
-      (said_ends text text Fits (λ x. (tag ≡ first) × Fits x) read read (λ bytes. refl) (λ x fits. refl) (λ x fits. (sym w.0, fits)) (λ x fits. fits.1) s)
+      subst (λ (f : Reads A). Ends (behind_part one_choice first f)) w.1 (said_ends p (behind_part one_choice first p.read) (behind_is first w.0) s)
 
-  pub tagged_core : Core text Fits NoFlaw read → Core (λ x. tag ∷ text x) Fits (TagFlaw (IsOtherAt (tag ∷ []))) (tagged_from tag read)
-  tagged_core r =
-      said_core (λ x. tag ∷ text x) (λ x. tag ∷ text x) Fits Fits (choice_from one_pick) (tagged_from tag read) tagged_is (λ x fits. refl) (λ x fits. fits) (λ x fits. fits)
-      (ChoiceFlaw one_pick (λ _. NoFlaw)) (TagFlaw (IsOtherAt (tag ∷ []))) tagged_to tagged_of
-      (choice_core (λ _. tag) text Fits one_pick (λ x fits. (read, pick_tag)) (λ _. NoFlaw) (at_core r))
+  said_tagged : IsSaid (choice_part one_choice) (tagged_part tag p)
+  said_tagged = record { read = tagged_is; spell = λ x fits. refl; to = λ x fits. fits; from = λ x fits. fits; flaw_to = tagged_to; flaw_from = tagged_of }
 
-  pub tagged_ends : Ends text Fits read → Ends (λ x. tag ∷ text x) Fits (tagged_from tag read)
-  tagged_ends s =
-      said_ends (λ x. tag ∷ text x) (λ x. tag ∷ text x) Fits Fits (choice_from one_pick) (tagged_from tag read) tagged_is (λ x fits. refl) (λ x fits. fits) (λ x fits. fits)
-      (choice_ends (λ _. tag) text Fits one_pick (λ x fits. (read, pick_tag)) (at_ends s) s.sample s.sample_fits)
+  pub tagged_core : Core p → Core (tagged_part tag p)
+  tagged_core r = said_core (choice_part one_choice) (tagged_part tag p) said_tagged (choice_core one_choice (λ x fits. (p.read, pick_tag)) (at_core r))
+
+  pub tagged_ends : Ends p → Ends (tagged_part tag p)
+  tagged_ends s = said_ends (choice_part one_choice) (tagged_part tag p) said_tagged (choice_ends one_choice (λ x fits. (p.read, pick_tag)) (at_ends s) s.sample s.sample_fits)

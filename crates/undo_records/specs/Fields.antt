@@ -48,7 +48,7 @@ seen_coin (found_new hash height) = New hash height
 seen_coin (found_named name height) = Named name.now height
 
 abbrev pub seen_item : FoundItem → Item
-seen_item item = record { height = item.height; at = item.at; value = item.value.now }
+seen_item item = record { height = item.height; registered = item.registered; at = item.at; value = item.value.now }
 
 abbrev pub seen_before : Option FoundItem → Option Item
 seen_before None = None

@@ -1,3 +1,4 @@
+pub mod Versions
 pub mod Text
 pub mod Reading
 pub mod Fields

@@ -1,4 +1,4 @@
--- The readers of the parts of an undo record: what was read and the bytes after it; or the kind of the first fault, and
+-- The readers of the parts of an undo record, in each version of the text: what was read and the bytes after it; or the kind of the first fault, and
 -- the bytes from its place on.
 use Rattle.std.specs.Prelude.{ℕ, zero, suc, ◌==◌, Bool, true, false, nat_lt, nat_le, if◌then◌else◌, List, [], ◌∷◌, length, take, drop, Option, Some, None, Ok, Err}
 use Rattle.std.specs.Int.{Width, w16, w32, byte_len, from_le_bytes}
@@ -18,6 +18,8 @@ use Rattle.block_grammar.specs.Combinators.{◌>>=◌, Reader, then_from, map_fr
 use Rattle.undo_records.specs.declared.fault.FaultKind.{FaultKind}
 use Rattle.undo_records.specs.declared.fault.FaultKind.TheVariants.{Cut, BadTag, Unsorted}
 use Rattle.chain_names.specs.Writable.{Change, change_of}
+use Rattle.undo_records.specs.declared.version.Version.{Version}
+use Rattle.undo_records.specs.declared.version.Version.TheVariants.{One, Two}
 
 abbrev pub Reads : Type 0 → Type 0
 Reads A = Reader FaultKind A
@@ -70,24 +72,29 @@ new_coin_from = tagged_from 1 (map_from (λ x. New (record { 0 = x.1 }) x.0) (th
 unfoldable pub named_coin_from : Reads Coin
 named_coin_from = tagged_from 2 (map_from (λ x. Named x.1 x.0) (then_from (number_from w32) (λ _. name_from)))
 
-unfoldable pub item_from : Reads Item
-item_from = map_from (λ x. record { height = x.0; at = x.1.0; value = x.1.1 })
-    (then_from (number_from w32) (λ _. then_from point_from (λ _. value_from)))
+-- a registration height, which version 1 leaves out: it is read with 0
+abbrev pub registered_from : Version → Reads ℕ
+registered_from One bytes = Ok (0, bytes)
+registered_from Two bytes = number_from w32 bytes
+
+unfoldable pub item_from : Version → Reads Item
+item_from version = map_from (λ x. record { height = x.0; registered = x.1.0; at = x.1.1.0; value = x.1.1.1 })
+    (then_from (number_from w32) (λ _. then_from (registered_from version) (λ _. then_from point_from (λ _. value_from))))
 
 -- the item before, if there was one
-unfoldable pub before_from : Reads (Option Item)
-before_from [] = Err (Cut, [])
-before_from (first ∷ rest) =
+unfoldable pub before_from : Version → Reads (Option Item)
+before_from version [] = Err (Cut, [])
+before_from version (first ∷ rest) =
     if first == 0 then Ok (None, rest)
-    else (if first == 1 then map_from (λ item. Some item) item_from rest
+    else (if first == 1 then map_from (λ item. Some item) (item_from version) rest
     else Err (BadTag, first ∷ rest))
 
 -- ---- operations
 
 -- a change that spends a coin of this kind
-unfoldable pub change_from : Reads Coin → Reads Change
-change_from coin_from = map_from (λ x. change_of x.0 x.1.0 x.1.1.0 x.1.1.1.0 x.1.1.1.1)
-    (then_from point_from (λ _. then_from point_from (λ _. then_from coin_from (λ _. then_from name_from (λ _. before_from)))))
+unfoldable pub change_from : Version → Reads Coin → Reads Change
+change_from version coin_from = map_from (λ x. change_of x.0 x.1.0 x.1.1.0 x.1.1.1.0 x.1.1.1.1)
+    (then_from point_from (λ _. then_from point_from (λ _. then_from coin_from (λ _. then_from name_from (λ _. before_from version)))))
 
 abbrev pub first_of : Change → UndoOp
 first_of c = First c.made c.spent c.coin c.name c.before
@@ -95,17 +102,17 @@ first_of c = First c.made c.spent c.coin c.name c.before
 abbrev pub update_of : Change → UndoOp
 update_of c = Update c.made c.spent c.coin c.name c.before
 
-unfoldable pub op_from : Reads UndoOp
-op_from [] = Err (Cut, [])
-op_from (first ∷ rest) =
+unfoldable pub op_from : Version → Reads UndoOp
+op_from version [] = Err (Cut, [])
+op_from version (first ∷ rest) =
     if first == 0x51 then map_from (λ point. op_new point) point_from rest
-    else (if first == 0x52 then map_from first_of (change_from new_coin_from) rest
-    else (if first == 0x53 then map_from update_of (change_from named_coin_from) rest
+    else (if first == 0x52 then map_from first_of (change_from version new_coin_from) rest
+    else (if first == 0x53 then map_from update_of (change_from version named_coin_from) rest
     else Err (BadTag, first ∷ rest)))
 
 -- operations behind their number
-unfoldable pub ops_from : Reads (List UndoOp)
-ops_from = map_from (λ x. x.1) (then_from (number_from w32) (many_from op_from))
+unfoldable pub ops_from : Version → Reads (List UndoOp)
+ops_from version = map_from (λ x. x.1) (then_from (number_from w32) (many_from (op_from version)))
 
 -- ---- expired coins
 
@@ -137,6 +144,6 @@ expired_from = map_from (λ x. x.1) (then_from (number_from w32) (coins_from Non
 
 -- ---- the record
 
-unfoldable pub undo_from : Reads UndoRecord
-undo_from = map_from (λ x. record { block = record { 0 = x.0 }; ops = x.1.0; expired = x.1.1 })
-    (then_from (piece_from 32) (λ _. then_from ops_from (λ _. expired_from)))
+unfoldable pub undo_from : Version → Reads UndoRecord
+undo_from version = map_from (λ x. record { block = record { 0 = x.0 }; ops = x.1.0; expired = x.1.1 })
+    (then_from (piece_from 32) (λ _. then_from (ops_from version) (λ _. expired_from)))

@@ -1,4 +1,4 @@
--- The text of the record that undoes a block. Numbers stand with their low byte first.
+-- The text of the record that undoes a block, in each of its versions. Numbers stand with their low byte first.
 use Rattle.std.specs.Prelude.{ℕ, List, [], ◌∷◌, ◌++◌, length, Option, Some, None}
 use Rattle.std.specs.List.{flat_map}
 use Rattle.std.specs.Int.{w16, w32, to_le_bytes}
@@ -11,6 +11,8 @@ use Rattle.chain_names.specs.declared.undo.UndoOp.{UndoOp}
 use Rattle.chain_names.specs.declared.undo.UndoOp.TheVariants.{New as op_new, First, Update}
 use Rattle.chain_names.specs.Undo.{UndoRecord}
 use Rattle.chain_names.specs.Writable.{Change, change_of}
+use Rattle.undo_records.specs.declared.version.Version.{Version}
+use Rattle.undo_records.specs.declared.version.Version.TheVariants.{One, Two}
 
 -- +---------+---------+
 -- | txid 32 | index 4 |
@@ -29,26 +31,32 @@ unfoldable pub coin_text : Coin → List ℕ
 coin_text (New hash height) = 1 ∷ (to_le_bytes w32 height ++ hash.0)
 coin_text (Named name height) = 2 ∷ (to_le_bytes w32 height ++ name_text name)
 
--- +----------+-------------+----------+-------+
--- | height 4 | outpoint 36 | length 2 | value |
--- +----------+-------------+----------+-------+
-unfoldable pub item_text : Item → List ℕ
-item_text item = to_le_bytes w32 item.height ++ (point_text item.at ++ (to_le_bytes w16 (length item.value) ++ item.value))
+-- a registration height, which version 1 leaves out
+abbrev pub registered_text : Version → ℕ → List ℕ
+registered_text One registered = []
+registered_text Two registered = to_le_bytes w32 registered
+
+-- +----------+------------------------------------+-------------+----------+-------+
+-- | height 4 | registration height 4 (version 2)  | outpoint 36 | length 2 | value |
+-- +----------+------------------------------------+-------------+----------+-------+
+unfoldable pub item_text : Version → Item → List ℕ
+item_text version item =
+    to_le_bytes w32 item.height ++ (registered_text version item.registered ++ (point_text item.at ++ (to_le_bytes w16 (length item.value) ++ item.value)))
 
 -- 00, or 01 and the item before
-unfoldable pub before_text : Option Item → List ℕ
-before_text None = 0 ∷ []
-before_text (Some item) = 1 ∷ item_text item
+unfoldable pub before_text : Version → Option Item → List ℕ
+before_text version None = 0 ∷ []
+before_text version (Some item) = 1 ∷ item_text version item
 
-unfoldable pub change_text : Change → List ℕ
-change_text c = point_text c.made ++ (point_text c.spent ++ (coin_text c.coin ++ (name_text c.name ++ before_text c.before)))
+unfoldable pub change_text : Version → Change → List ℕ
+change_text version c = point_text c.made ++ (point_text c.spent ++ (coin_text c.coin ++ (name_text c.name ++ before_text version c.before)))
 
 -- The tag is the first opcode of the name script that the operation is: OP_1, OP_2 or OP_3 (Namecoin's OP_NAME_NEW,
 -- OP_NAME_FIRSTUPDATE and OP_NAME_UPDATE).
-unfoldable pub op_text : UndoOp → List ℕ
-op_text (op_new made) = 0x51 ∷ point_text made
-op_text (First made spent coin name before) = 0x52 ∷ change_text (change_of made spent coin name before)
-op_text (Update made spent coin name before) = 0x53 ∷ change_text (change_of made spent coin name before)
+unfoldable pub op_text : Version → UndoOp → List ℕ
+op_text version (op_new made) = 0x51 ∷ point_text made
+op_text version (First made spent coin name before) = 0x52 ∷ change_text version (change_of made spent coin name before)
+op_text version (Update made spent coin name before) = 0x53 ∷ change_text version (change_of made spent coin name before)
 
 unfoldable pub held_text : HeldCoin → List ℕ
 held_text held = point_text held.at ++ coin_text held.coin
@@ -56,7 +64,7 @@ held_text held = point_text held.at ++ coin_text held.coin
 -- +---------------+-------------------+------------+-----------------+---------------+
 -- | block hash 32 | operation count 4 | operations | expired count 4 | expired coins |
 -- +---------------+-------------------+------------+-----------------+---------------+
-unfoldable pub undo_text : UndoRecord → List ℕ
-undo_text undo =
-    undo.block.0 ++ (to_le_bytes w32 (length undo.ops) ++ (flat_map op_text undo.ops
+unfoldable pub undo_text : Version → UndoRecord → List ℕ
+undo_text version undo =
+    undo.block.0 ++ (to_le_bytes w32 (length undo.ops) ++ (flat_map (op_text version) undo.ops
     ++ (to_le_bytes w32 (length undo.expired) ++ flat_map held_text undo.expired)))

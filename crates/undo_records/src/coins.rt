@@ -1,13 +1,14 @@
 //! The readers of coins and items.
 
 ghost use Rattle.std.specs.Prelude.{◌≡◌};
-ghost use Rattle.undo_records.specs.Reading.{new_coin_from, named_coin_from, item_from, before_from, later_point_from};
+ghost use Rattle.undo_records.specs.Reading.{new_coin_from, named_coin_from, registered_from, item_from, before_from};
 ghost use Rattle.undo_records.specs.Fields.{seen, seen_coin, seen_item, seen_before};
 
 use crate::fault::{Fault, FaultKind, cut};
 use crate::fields::{digest_at, name_at, point_at, u32_at, value_at};
 use crate::found::{FoundCoin, FoundItem};
-use nmc_base::{Hash20, OutPoint};
+use crate::version::Version;
+use nmc_base::Hash20;
 
 /// The tag of a commitment's coin.
 pub(crate) const NEW: u8 = 1;
@@ -65,20 +66,41 @@ pub(crate) fn named_coin_at<'a>(bytes: &'a [u8]) -> Result<(FoundCoin<'a>, &'a [
     Ok((FoundCoin::Named { name, height }, rest))
 }
 
+/// A registration height, which version 1 leaves out.
+fn registered_at<'a>(version: Version, bytes: &'a [u8]) -> Result<(u32, &'a [u8]), Fault<'a>>
+    ensures { seen (λ x. (x.0, x.1.now)) result ≡ registered_from version bytes.now }
+{
+    match version {
+        Version::One => Ok((0, bytes)),
+        Version::Two => u32_at(bytes),
+    }
+}
+
+/// An item of a history.
 #[tactic(auto, unfolding(crate::specs::Reading::item_from))]
-fn item_at<'a>(bytes: &'a [u8]) -> Result<(FoundItem<'a>, &'a [u8]), Fault<'a>>
-    ensures { seen (λ x. (seen_item x.0, x.1.now)) result ≡ item_from bytes.now }
+fn item_at<'a>(version: Version, bytes: &'a [u8]) -> Result<(FoundItem<'a>, &'a [u8]), Fault<'a>>
+    ensures { seen (λ x. (seen_item x.0, x.1.now)) result ≡ item_from version bytes.now }
 {
     let (height, rest) = u32_at(bytes)?;
+    let (registered, rest) = registered_at(version, rest)?;
     let (at, rest) = point_at(rest)?;
     let (value, rest) = value_at(rest)?;
-    Ok((FoundItem { height, at, value }, rest))
+    let item = FoundItem {
+        height,
+        registered,
+        at,
+        value,
+    };
+    Ok((item, rest))
 }
 
 /// The item before, if there was one.
 #[tactic(auto, unfolding(crate::specs::Reading::before_from))]
-pub(crate) fn before_at<'a>(bytes: &'a [u8]) -> Result<(Option<FoundItem<'a>>, &'a [u8]), Fault<'a>>
-    ensures { seen (λ x. (seen_before x.0, x.1.now)) result ≡ before_from bytes.now }
+pub(crate) fn before_at<'a>(
+    version: Version,
+    bytes: &'a [u8],
+) -> Result<(Option<FoundItem<'a>>, &'a [u8]), Fault<'a>>
+    ensures { seen (λ x. (seen_before x.0, x.1.now)) result ≡ before_from version bytes.now }
 {
     let Some((first, rest)) = bytes.split_first() else {
         return Err(cut());
@@ -89,6 +111,6 @@ pub(crate) fn before_at<'a>(bytes: &'a [u8]) -> Result<(Option<FoundItem<'a>>, &
     if *first != SOME_BEFORE {
         return Err(bad_tag(bytes));
     }
-    let (item, rest) = item_at(rest)?;
+    let (item, rest) = item_at(version, rest)?;
     Ok((Some(item), rest))
 }

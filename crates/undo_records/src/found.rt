@@ -11,6 +11,7 @@ pub(crate) enum FoundCoin<'a> {
 #[derive(Clone, Copy)]
 pub(crate) struct FoundItem<'a> {
     pub(crate) height: u32,
+    pub(crate) registered: u32,
     pub(crate) at: OutPoint,
     pub(crate) value: &'a [u8],
 }

@@ -11,10 +11,12 @@ mod ops;
 mod owned;
 mod reading;
 mod text;
+mod version;
 mod writing;
 
 pub use chain_names::{Coin, HeldCoin, Item, Undo, UndoOp};
 pub use fault::UndoFault;
 pub use law::text_laws;
-pub use reading::read;
+pub use reading::{UndoV1, read, read_v1};
+pub use version::Version;
 pub use writing::write;

@@ -10,6 +10,7 @@ use crate::fault::{Fault, FaultKind, Stop};
 use crate::fields::{point_at, u32_at};
 use crate::ops::op_at;
 use crate::owned::{owned_coin, owned_op};
+use crate::version::Version;
 use chain_names::{HeldCoin, UndoOp};
 use nmc_base::{OutPoint, RoomyList};
 use std::alloc::Global;
@@ -18,12 +19,13 @@ use std::cmp::Ordering;
 /// Adds the operation at the front to those before it, and answers the bytes behind it.
 fn next_op<'a>(
     alloc: Global,
+    version: Version,
     ops: &mut RoomyList<UndoOp>,
     bytes: &'a [u8],
 ) -> Result<&'a [u8], Stop<'a>>
-    ensures { Gives (λ rest. (ops.new.items, rest.now)) result (map_from (λ op. ops.old.items ++ op ∷ []) op_from bytes.now) }
+    ensures { Gives (λ rest. (ops.new.items, rest.now)) result (map_from (λ op. ops.old.items ++ op ∷ []) (op_from version) bytes.now) }
 {
-    let (found, rest) = op_at(bytes)?;
+    let (found, rest) = op_at(version, bytes)?;
     ops.reserve(1)?;
     let op = owned_op(alloc, found)?;
     ops.push(op);
@@ -33,16 +35,17 @@ fn next_op<'a>(
 /// So many operations.
 fn many_ops<'a>(
     alloc: Global,
+    version: Version,
     count: u32,
     ops: &mut RoomyList<UndoOp>,
     bytes: &'a [u8],
 ) -> Result<&'a [u8], Stop<'a>>
     requires { ops.old.items ≡ [] }
-    ensures { Gives (λ rest. (ops.new.items, rest.now)) result (many_from op_from count bytes.now) }
+    ensures { Gives (λ rest. (ops.new.items, rest.now)) result (many_from (op_from version) count bytes.now) }
 {
     let mut rest = bytes;
     for _ in 0..count {
-        let after = next_op(alloc, ops, rest)?;
+        let after = next_op(alloc, version, ops, rest)?;
         rest = after;
     }
     Ok(rest)
@@ -52,14 +55,15 @@ fn many_ops<'a>(
 #[tactic(auto, unfolding(crate::specs::Reading::ops_from))]
 fn ops_at<'a>(
     alloc: Global,
+    version: Version,
     ops: &mut RoomyList<UndoOp>,
     bytes: &'a [u8],
 ) -> Result<&'a [u8], Stop<'a>>
     requires { ops.old.items ≡ [] }
-    ensures { Gives (λ rest. (ops.new.items, rest.now)) result (ops_from bytes.now) }
+    ensures { Gives (λ rest. (ops.new.items, rest.now)) result (ops_from version bytes.now) }
 {
     let (count, rest) = u32_at(bytes)?;
-    many_ops(alloc, count, ops, rest)
+    many_ops(alloc, version, count, ops, rest)
 }
 
 /// Whether the outpoint is greater than the one before, if there is one.
@@ -149,14 +153,15 @@ fn expired_at<'a>(
 /// Both lists of a record, into empty ones.
 pub(crate) fn lists_at<'a>(
     alloc: Global,
+    version: Version,
     ops: &mut RoomyList<UndoOp>,
     expired: &mut RoomyList<HeldCoin>,
     bytes: &'a [u8],
 ) -> Result<&'a [u8], Stop<'a>>
     requires ops { ops.old.items ≡ [] }
     requires expired { expired.old.items ≡ [] }
-    ensures { Gives (λ rest. ((ops.new.items, expired.new.items), rest.now)) result (then_from ops_from (λ _. expired_from) bytes.now) }
+    ensures { Gives (λ rest. ((ops.new.items, expired.new.items), rest.now)) result (then_from (ops_from version) (λ _. expired_from) bytes.now) }
 {
-    let rest = ops_at(alloc, ops, bytes)?;
+    let rest = ops_at(alloc, version, ops, bytes)?;
     expired_at(alloc, expired, rest)
 }

@@ -10,6 +10,7 @@ use crate::coins::{bad_tag, before_at, named_coin_at, new_coin_at};
 use crate::fault::{Fault, cut};
 use crate::fields::{name_at, point_at};
 use crate::found::{ChangeKind, FoundChange, FoundCoin, FoundOp};
+use crate::version::Version;
 
 /// The tag of a commitment (OP_NAME_NEW).
 pub(crate) const MADE: u8 = 0x51;
@@ -35,14 +36,18 @@ fn spent_coin_at<'a>(
 
 /// A change of this kind, behind its tag.
 #[tactic(auto, unfolding(crate::specs::Reading::change_from))]
-fn change_at<'a>(kind: ChangeKind, bytes: &'a [u8]) -> Result<(FoundOp<'a>, &'a [u8]), Fault<'a>>
-    ensures { seen (λ x. (seen_op x.0, x.1.now)) result ≡ map_from (op_of kind) (change_from (spent_from kind)) bytes.now }
+fn change_at<'a>(
+    version: Version,
+    kind: ChangeKind,
+    bytes: &'a [u8],
+) -> Result<(FoundOp<'a>, &'a [u8]), Fault<'a>>
+    ensures { seen (λ x. (seen_op x.0, x.1.now)) result ≡ map_from (op_of kind) (change_from version (spent_from kind)) bytes.now }
 {
     let (made, rest) = point_at(bytes)?;
     let (spent, rest) = point_at(rest)?;
     let (coin, rest) = spent_coin_at(kind, rest)?;
     let (name, rest) = name_at(rest)?;
-    let (before, rest) = before_at(rest)?;
+    let (before, rest) = before_at(version, rest)?;
     let change = FoundChange {
         made,
         spent,
@@ -62,8 +67,11 @@ fn made_at<'a>(bytes: &'a [u8]) -> Result<(FoundOp<'a>, &'a [u8]), Fault<'a>>
 }
 
 #[tactic(auto, unfolding(crate::specs::Reading::op_from))]
-pub(crate) fn op_at<'a>(bytes: &'a [u8]) -> Result<(FoundOp<'a>, &'a [u8]), Fault<'a>>
-    ensures { seen (λ x. (seen_op x.0, x.1.now)) result ≡ op_from bytes.now }
+pub(crate) fn op_at<'a>(
+    version: Version,
+    bytes: &'a [u8],
+) -> Result<(FoundOp<'a>, &'a [u8]), Fault<'a>>
+    ensures { seen (λ x. (seen_op x.0, x.1.now)) result ≡ op_from version bytes.now }
 {
     let Some((tag, rest)) = bytes.split_first() else {
         return Err(cut());
@@ -72,10 +80,10 @@ pub(crate) fn op_at<'a>(bytes: &'a [u8]) -> Result<(FoundOp<'a>, &'a [u8]), Faul
         return made_at(rest);
     }
     if *tag == FIRST {
-        return change_at(ChangeKind::First, rest);
+        return change_at(version, ChangeKind::First, rest);
     }
     if *tag == UPDATE {
-        return change_at(ChangeKind::Update, rest);
+        return change_at(version, ChangeKind::Update, rest);
     }
     Err(bad_tag(bytes))
 }

@@ -27,6 +27,7 @@ fn owned_item(alloc: Global, found: FoundItem<'_>) -> Result<Item, NoMemory>
     let value = Bytes::copy_of(alloc, found.value)?;
     Ok(Item {
         height: found.height,
+        registered: found.registered,
         at: found.at,
         value,
     })

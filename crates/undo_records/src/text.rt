@@ -5,6 +5,7 @@ ghost use Rattle.std.specs.List.{flat_map, AllByRecursion};
 ghost use Rattle.std.specs.Int.{w16, w32, to_le_bytes};
 ghost use Rattle.nmc_base.specs.declared.limits.TheConstants.{LONGEST_VALUE};
 ghost use Rattle.chain_names.specs.Writable.{change_of, IsWritableName, HasShortName, IsWritableItem, IsWritableBefore, IsWritableOp, IsWritableHeld};
+ghost use Rattle.undo_records.specs.declared.version.Version.TheVariants.{Two};
 ghost use Rattle.undo_records.specs.Text.{point_text, name_text, coin_text, item_text, before_text, change_text, op_text, held_text};
 
 use crate::coins::{NAMED, NEW, NONE_BEFORE, SOME_BEFORE};
@@ -68,9 +69,10 @@ fn add_value(out: &mut Bytes, value: &[u8]) -> Result<(), NoMemory>
 #[tactic(auto, unfolding(crate::specs::Text::item_text))]
 fn add_item(out: &mut Bytes, item: &Item) -> Result<(), NoMemory>
     requires { IsWritableItem item.now }
-    ensures { OnOk result (out.new ≡ out.old ++ item_text item.now) }
+    ensures { OnOk result (out.new ≡ out.old ++ item_text Two item.now) }
 {
     add_u32(out, item.height)?;
+    add_u32(out, item.registered)?;
     add_point(out, &item.at)?;
     add_value(out, item.value.as_slice())
 }
@@ -79,7 +81,7 @@ fn add_item(out: &mut Bytes, item: &Item) -> Result<(), NoMemory>
 #[tactic(auto, unfolding(crate::specs::Text::before_text))]
 fn add_before(out: &mut Bytes, before: &Option<Item>) -> Result<(), NoMemory>
     requires { IsWritableBefore before.now }
-    ensures { OnOk result (out.new ≡ out.old ++ before_text before.now) }
+    ensures { OnOk result (out.new ≡ out.old ++ before_text Two before.now) }
 {
     match before {
         Some(item) => {
@@ -104,7 +106,7 @@ fn add_change(
     requires coin { HasShortName coin.now }
     requires name { IsWritableName name.now }
     requires before { IsWritableBefore before.now }
-    ensures { OnOk result (out.new ≡ out.old ++ tag ∷ change_text (change_of made.now spent.now coin.now name.now before.now)) }
+    ensures { OnOk result (out.new ≡ out.old ++ tag ∷ change_text Two (change_of made.now spent.now coin.now name.now before.now)) }
 {
     out.extend(&[tag])?;
     add_point(out, made)?;
@@ -117,7 +119,7 @@ fn add_change(
 #[tactic(auto, unfolding(crate::specs::Text::op_text))]
 fn add_op(out: &mut Bytes, op: &UndoOp) -> Result<(), NoMemory>
     requires { IsWritableOp op.now }
-    ensures { OnOk result (out.new ≡ out.old ++ op_text op.now) }
+    ensures { OnOk result (out.new ≡ out.old ++ op_text Two op.now) }
 {
     match op {
         UndoOp::New { made } => {
@@ -143,7 +145,7 @@ fn add_op(out: &mut Bytes, op: &UndoOp) -> Result<(), NoMemory>
 
 pub(crate) fn add_ops(out: &mut Bytes, ops: &[UndoOp]) -> Result<(), NoMemory>
     requires { AllByRecursion IsWritableOp ops.now }
-    ensures { OnOk result (out.new ≡ out.old ++ flat_map op_text ops.now) }
+    ensures { OnOk result (out.new ≡ out.old ++ flat_map (op_text Two) ops.now) }
 {
     let mut rest = ops;
     while let [op, more @ ..] = rest {

@@ -1,5 +1,6 @@
 ghost use Rattle.std.specs.Prelude.{◌≡◌, ◌++◌, List, ℕ, Ok, OnOk, OnErr};
 ghost use Rattle.chain_names.specs.Seen.{seen_undo};
+ghost use Rattle.undo_records.specs.declared.version.Version.TheVariants.{Two};
 ghost use Rattle.undo_records.specs.Text.{undo_text};
 ghost use Rattle.undo_records.specs.Reading.{undo_from};
 ghost use Rattle.chain_names.specs.Writable.{IsWritable};
@@ -12,7 +13,7 @@ use nmc_base::{Bytes, NoMemory};
 #[tactic(auto, unfolding(crate::specs::Text::undo_text))]
 fn add_undo(out: &mut Bytes, undo: &Undo) -> Result<(), NoMemory>
     requires { IsWritable (seen_undo undo.now) }
-    ensures { OnOk result (out.new ≡ out.old ++ undo_text (seen_undo undo.now)) }
+    ensures { OnOk result (out.new ≡ out.old ++ undo_text Two (seen_undo undo.now)) }
 {
     out.extend(&undo.block.0)?;
     add_u32(out, undo.ops.len() as u32)?;
@@ -28,10 +29,10 @@ pub fn write(undo: &Undo, out: &mut Bytes) -> Result<(), NoMemory>
     // Names have 255 bytes at most and values 1023, each list has fewer than 2^32 members, each operation spends a coin
     // of its kind, and the coins that expired are those of names, each behind a greater outpoint than the one before.
     requires { IsWritable (seen_undo undo.now) }
-    ensures ok { OnOk result (out.new ≡ out.old ++ undo_text (seen_undo undo.now)) }
+    ensures ok { OnOk result (out.new ≡ out.old ++ undo_text Two (seen_undo undo.now)) }
     ensures err { OnErr result (out.new ≡ out.old) }
     // What is written is read again, whatever follows.
-    ensures again { (more : List ℕ) → undo_from (undo_text (seen_undo undo.now) ++ more) ≡ Ok (seen_undo undo.now, more) }
+    ensures again { (more : List ℕ) → undo_from Two (undo_text Two (seen_undo undo.now) ++ more) ≡ Ok (seen_undo undo.now, more) }
 {
     let mut text = out.empty_alike();
     add_undo(&mut text, undo)?;

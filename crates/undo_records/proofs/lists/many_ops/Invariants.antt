@@ -5,4 +5,4 @@ use Rattle.undo_records.proofs.Loops.{behind}
 use Rattle.undo_records.proofs.lists.many_ops.Given as goal
 
 abbrev pub invariant-loop : goal.invariant-loop
-invariant-loop l = behind l.ops.items (many_from op_from (l.count - l.counter) l.rest) ≡ many_from op_from l.count l.bytes
+invariant-loop l = behind l.ops.items (many_from (op_from l.version) (l.count - l.counter) l.rest) ≡ many_from (op_from l.version) l.count l.bytes
