@@ -5,21 +5,22 @@ use Rattle.std.proofs.lemmas.List.Elements.{All-push, All-weaker, All-get_or, Al
 use borrow.Author.Tests.{ltb-true}
 use Rattle.std.proofs.lemmas.Option.{same_Some}
 use Rattle.serde_json.specs.Data.{Members}
-use Rattle.import_expand.specs.Sources.{Live, sources_of, child_of}
+use Rattle.import_expand.specs.Sources.{Live, sources_of, child_of, entries}
 use Rattle.import_expand.specs.Books as books
 use Rattle.import_expand.specs.Books.{objects, IsAt, Shows, Grows}
-use Rattle.import_expand.specs.Rooms.{objects_in, nodes_in, numbers_of, IsNodeAt, IsNode, GrowsBy, IsShown, IsChild, IsTop, IsSound, Keeps, Later}
+use Rattle.import_expand.specs.Rooms.{objects_in, nodes_in, numbers_of, IsNodeAt, IsNode, GrowsBy, IsPlain, IsShown, IsChild, IsTop, IsSound, Keeps, LacksEntry, Later}
 use Rattle.import_expand.specs.declared.room.Room.{Room}
 use Rattle.import_expand.specs.declared.room.Sources.{Sources}
 use Rattle.import_expand.specs.declared.room.Child.{Child}
 use Rattle.import_expand.specs.declared.room.Top.{Top}
 use Rattle.import_expand.proofs.BookLemmas.{shows_later}
+use Rattle.import_expand.proofs.AbsentLemmas.{child_of_any}
 
 pub node_later : (os later : List Members) (nodes more : List (List ℕ)) → Grows os later → GrowsBy nodes more → (k : ℕ) (ns : List Members) → IsNodeAt os nodes k ns → IsNodeAt later more k ns
 node_later os later nodes more g h k ns n = record { numbers = n.numbers; is = h k n.numbers n.is; shown = shows_later os later g n.numbers ns n.shown }
 
 shown_later : (os later : List Members) → Grows os later → (s : Sources) → IsShown os s → IsShown later s
-shown_later os later g s h = record { of = h.of; shown = shows_later os later g s.numbers.items h.of h.shown }
+shown_later os later g s h = record { of = h.of; shown = shows_later os later g s.numbers.items h.of h.shown; plain = h.plain }
 
 child_later : (live : Live) (os later : List Members) (nodes more : List (List ℕ)) → Grows os later → GrowsBy nodes more → (c : Child) → IsChild live os nodes c → IsChild live later more c
 child_later live os later nodes more g h c is = record { of = is.of; is_of = node_later os later nodes more g h c.of is.of is.is_of; is = node_later os later nodes more g h c.at (child_of live is.of c.label) is.is }
@@ -72,14 +73,14 @@ length_map (x ∷ xs) = ap suc (length_map xs)
 grown : (r later : Room) (s : Sources) → later.nodes.items ≡ r.nodes.items ++ s ∷ [] → GrowsBy (nodes_in r) (nodes_in later)
 grown r later s e = λ k numbers h. rw (nodes_joined r.nodes.items later.nodes.items s e) (at_left (nodes_in r) (numbers_of s ∷ []) k numbers h)
 
-pub put_keeps : (r later : Room) (s : Sources) → later.nodes.items ≡ r.nodes.items ++ s ∷ [] → later.book ≡ r.book → later.children.items ≡ r.children.items → later.tops.items ≡ r.tops.items → (ns : List Members) → Shows (objects_in r) s.numbers.items ns → Keeps r later
-put_keeps r later s n b c t ns shown =
+pub put_keeps : (r later : Room) (s : Sources) → later.nodes.items ≡ r.nodes.items ++ s ∷ [] → later.book ≡ r.book → later.children.items ≡ r.children.items → later.tops.items ≡ r.tops.items → (ns : List Members) → Shows (objects_in r) s.numbers.items ns → (s.plain ≡ true → IsPlain ns) → Keeps r later
+put_keeps r later s n b c t ns shown plain =
     let g : Grows (objects_in r) (objects_in later) = λ i o h. rw b h in
     record {
       grows = g;
       nodes = grown r later s n;
       sound = λ live sound. same_memory live r later g (grown r later s n) (rw b sound.book)
-          (rw n (All-push (IsShown (objects_in later)) _ _ (All-weaker (IsShown (objects_in r)) (IsShown (objects_in later)) (shown_later _ _ g) _ sound.nodes) (record { of = ns; shown = rw b shown }))) c t sound;
+          (rw n (All-push (IsShown (objects_in later)) _ _ (All-weaker (IsShown (objects_in r)) (IsShown (objects_in later)) (shown_later _ _ g) _ sound.nodes) (record { of = ns; shown = rw b shown; plain = plain }))) c t sound;
     }
 
 pub put_at : (r later : Room) (s : Sources) (k : ℕ) (ns : List Members) → later.nodes.items ≡ r.nodes.items ++ s ∷ [] → later.book ≡ r.book → k ≡ length r.nodes.items → Shows (objects_in r) s.numbers.items ns → IsNode later k ns
@@ -181,6 +182,16 @@ node_exists live r k s sound within e =
     let shown : IsShown (objects_in r) s = subst (IsShown (objects_in r)) (sym e) (All-get_or (IsShown (objects_in r)) r.nodes.items k s within sound.nodes) in
     record { of = shown.of; is = node_by r k s shown.of (node_numbers r.nodes.items k s within e) shown.shown }
 
+-- the sources of a node, of which it is remembered that none ends a way
+pub node_plain : (live : Live) (r : Room) (k : ℕ) (s : Sources) (ns : List Members) → IsSound live r → k < length r.nodes.items → s ≡ get_or r.nodes.items k s → IsNode r k ns → s.plain ≡ true → IsPlain ns
+node_plain live r k s ns sound within e node plain =
+    let shown : IsShown (objects_in r) s = subst (IsShown (objects_in r)) (sym e) (All-get_or (IsShown (objects_in r)) r.nodes.items k s within sound.nodes) in
+    let there : IsNode r k shown.of = node_by r k s shown.of (node_numbers r.nodes.items k s within e) shown.shown in
+    subst IsPlain (node_one (objects_in r) (nodes_in r) k shown.of ns there node) (shown.plain plain)
+
+pub lacks_by : (r : Room) (k : ℕ) (label : List ℕ) (ns : List Members) → LacksEntry r k label → IsNode r k ns → entries label ns ≡ []
+lacks_by r k label ns lacks node = rw (node_one (objects_in r) (nodes_in r) k ns lacks.of node lacks.is) lacks.none
+
 pub later_both : (live : Live) (a b c : Room) → Later live a b → Later live b c → Later live a c
 later_both live a b c k l = record { grows = λ i o h. l.grows i o (k.grows i o h); nodes = λ i n h. l.nodes i n (k.nodes i n h); sound = l.sound }
 
@@ -203,6 +214,14 @@ child_new live a b c d of at label numbers ns node l shown put more =
     let m : Later live a c = later_both live a b c l (keeps_later live b c put.0 l.sound) in
     let last : Later live c d = more live ns (node_after live a c of ns m node) put.1 m.sound in
     record { later = later_both live a c d m last; node = node_after live c d at (child_of live ns label) last put.1 }
+
+-- a node's child under `*`, which is remembered under a label as well
+pub child_any : (live : Live) (a b c : Room) (of at : ℕ) (label : List ℕ) (ns : List Members) → IsNode a of ns → entries label ns ≡ [] → Later live a b → IsNode b at (child_of live ns (42 ∷ []))
+    → ((other : Live) (ms : List Members) → IsNode b of ms → IsNode b at (child_of other ms label) → IsSound other b → Later other b c) → Placed live a c at (child_of live ns label)
+child_any live a b c of at label ns node none l found more =
+    let here : IsNode b at (child_of live ns label) = subst (λ (x : List Members). IsNodeAt (objects_in b) (nodes_in b) at x) (child_of_any live ns label none) found in
+    let last : Later live b c = more live ns (node_after live a b of ns l node) here l.sound in
+    record { later = later_both live a b c l last; node = node_after live b c at (child_of live ns label) last here }
 
 -- a node at the top that was found just now
 pub top_new : (live : Live) (a b c d : Room) (of at : ℕ) (o : Members) → IsAt (objects_in a) of o → Later live a b → (Keeps b c × IsNode c at (sources_of live 0 o))

@@ -1,8 +1,9 @@
 -- A room: a book, and the nodes that were met, each with a number.
-use Rattle.std.specs.Prelude.{◌≡◌, ℕ, List, map, slice_get, Some}
+use Rattle.std.specs.Prelude.{◌≡◌, ℕ, List, [], map, slice_get, Some, None, true}
 use Rattle.std.specs.List.{All}
 use Rattle.serde_json.specs.Data.{Members}
-use Rattle.import_expand.specs.Sources.{Live, sources_of, child_of}
+use Rattle.ifa_value.specs.declared.item.Key.TheVariants as key
+use Rattle.import_expand.specs.Sources.{Live, sources_of, child_of, entries, first_of}
 use Rattle.import_expand.specs.Books as books
 use Rattle.import_expand.specs.Books.{objects, IsAt, Shows, Grows}
 use Rattle.import_expand.specs.declared.room.Room.{Room}
@@ -33,14 +34,26 @@ pub record IsNodeAt (os : List Members) (nodes : List (List ℕ)) (k : ℕ) (ns 
 abbrev pub IsNode : Room → ℕ → List Members → Type 0
 IsNode r k ns = IsNodeAt (objects_in r) (nodes_in r) k ns
 
+-- a node that there is, of which no source has an entry under a label
+pub record LacksEntry (r : Room) (k : ℕ) (label : List ℕ) : Type 0 where
+  pub of : List Members
+  pub is : IsNode r k of
+  pub none : entries label of ≡ []
+
 -- each number keeps its node
 abbrev pub GrowsBy : List (List ℕ) → List (List ℕ) → Type 0
 GrowsBy nodes later = (k : ℕ) (numbers : List ℕ) → slice_get nodes k ≡ Some numbers → slice_get later k ≡ Some numbers
+
+-- none of these sources has an item that may end a way down (RFC 1034, 4.3.2, step 3b; RFC 6672, 3.2)
+pub record IsPlain (of : List Members) : Type 0 where
+  pub ns : first_of key.Ns of ≡ None
+  pub translate : first_of key.Translate of ≡ None
 
 -- a node's numbers are those of some objects
 pub record IsShown (os : List Members) (s : Sources) : Type 0 where
   pub of : List Members
   pub shown : Shows os s.numbers.items of
+  pub plain : s.plain ≡ true → IsPlain of
 
 pub record IsChild (live : Live) (os : List Members) (nodes : List (List ℕ)) (c : Child) : Type 0 where
   pub of : List Members

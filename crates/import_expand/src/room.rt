@@ -7,12 +7,12 @@ ghost use Rattle.ifa_value.specs.Values.{object_of};
 ghost use Rattle.serde_json.specs.Data.{Members};
 ghost use Rattle.import_expand.specs.Sources.{Live, sources_of, child_of, first_of, entries};
 ghost use Rattle.import_expand.specs.Books.{IsAt, Finds, Shows};
-ghost use Rattle.import_expand.specs.Rooms.{objects_in, values_read, IsNode, IsSound, Keeps, Later};
+ghost use Rattle.import_expand.specs.Rooms.{objects_in, values_read, IsNode, IsPlain, IsSound, Keeps, LacksEntry, Later};
 ghost use Rattle.import_expand.specs.declared.exhausted.Exhausted.TheVariants.{Values};
 
 use crate::book::Book;
 use crate::exhausted::Exhausted;
-use crate::expansion::{are_absent, child, first_with, sources};
+use crate::expansion::{are_absent, are_plain, child, first_with, sources};
 use crate::limits::FEW_SOURCES;
 use crate::names::Names;
 use ifa_value::{IfaObject, Key};
@@ -23,6 +23,8 @@ use std::alloc::Global;
 #[derive(Drop)]
 pub(crate) struct Sources {
     numbers: Vec<usize>,
+    /// No source has an item that may end a way.
+    plain: bool,
 }
 
 /// The number of a node's child under a label.
@@ -117,6 +119,16 @@ impl Room {
         first_with(self.sources(of), key, &self.book)
     }
 
+    /// Whether the way down leads through a node in any case: no source has `ns` or `translate`, whatever its shape.
+    pub fn is_plain(&self, of: usize) -> bool
+        ensures { (live : Live) (ns : List Members) → IsSound live self.now → IsNode self.now of ns → result ≡ true → IsPlain ns }
+    {
+        match self.nodes.get(of) {
+            Some(sources) => sources.plain,
+            None => false,
+        }
+    }
+
     /// Gives a node a number.
     fn put(&mut self, numbers: Vec<usize>) -> Result<usize, NoMemory>
         ensures at { IfOk result (λ k. (ns : List Members) → Shows (objects_in self.old) numbers.items ns → IsNode self.new k ns) }
@@ -124,7 +136,8 @@ impl Room {
         ensures values { values_read self.new ≡ values_read self.old }
     {
         let at = self.nodes.len();
-        self.nodes.push(Sources { numbers })?;
+        let plain = are_plain(numbers.as_slice(), &self.book);
+        self.nodes.push(Sources { numbers, plain })?;
         Ok(at)
     }
 
@@ -254,7 +267,7 @@ impl Room {
 
     /// Whether no source of a node has an entry under a label.
     fn is_absent(&mut self, alloc: Global, of: usize, label: &[u8]) -> Result<bool, NoMemory>
-        ensures absent { IfOk result (λ b. b ≡ true → (live : Live) (ns : List Members) → IsSound live self.old → IsNode self.old of ns → entries label.now ns ≡ []) }
+        ensures absent { IfOk result (λ b. b ≡ true → (live : Live) → IsSound live self.old → LacksEntry self.new of label.now) }
         ensures keeps { OnOk result (Keeps self.old self.new) }
         ensures values { values_read self.new ≡ values_read self.old }
     {
@@ -306,6 +319,26 @@ impl Room {
         }
     }
 
+    /// The number of a node's child under `*`, which is remembered under the label: no source has an entry under that.
+    fn child_by_any<N: Names>(
+        &mut self,
+        alloc: Global,
+        names: &N,
+        of: usize,
+        label: &[u8],
+    ) -> Result<usize, Exhausted>
+        requires sound { IsSound (N.served names.now) self.old }
+        requires lacks { LacksEntry self.old of label.now }
+        ensures found { IfOk result (λ k. (ns : List Members) → IsNode self.old of ns → IsNode self.new k (child_of (N.served names.now) ns label.now)) }
+        ensures later { OnOk result (Later (N.served names.now) self.old self.new) }
+        ensures bound { values_read self.new ≤ 4096 }
+        ensures refused { IfErr result (λ e. e ≡ Values → values_read self.new ≡ 4096) }
+    {
+        let at = self.child_under(alloc, names, of, b"*")?;
+        self.keep_child(alloc, of, label, at)?;
+        Ok(at)
+    }
+
     /// The number of a node's child under a label: its sources are those of the entries under the label, or, where no source has
     /// one, under `*`.
     pub fn child<N: Names>(
@@ -321,12 +354,16 @@ impl Room {
         ensures bound { values_read self.new ≤ 4096 }
         ensures refused { IfErr result (λ e. e ≡ Values → values_read self.new ≡ 4096) }
     {
+        match self.known_child(of, label) {
+            Some(known) => return Ok(known),
+            None => {}
+        }
         if self.len(of) <= FEW_SOURCES {
             let at = self.child_under(alloc, names, of, label)?;
             return Ok(at);
         }
         if self.is_absent(alloc, of, label)? {
-            let at = self.child_under(alloc, names, of, b"*")?;
+            let at = self.child_by_any(alloc, names, of, label)?;
             return Ok(at);
         }
         let at = self.child_under(alloc, names, of, label)?;

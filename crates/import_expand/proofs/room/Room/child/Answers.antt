@@ -1,25 +1,21 @@
-use Rattle.std.proofs.Common.{List, subst}
-use Rattle.serde_json.specs.Data.{Members}
-use Rattle.import_expand.specs.Rooms.{objects_in, nodes_in, IsNodeAt}
-use Rattle.import_expand.proofs.AbsentLemmas.{child_of_any}
 use Rattle.import_expand.proofs.RoomLemmas.{keeps_later, later_both, node_after}
 use Rattle.import_expand.proofs.room.Room.child.Goals as goal
 
-pub child_under-requires-then-branch : goal.child_under-requires-then-branch
-child_under-requires-then-branch g c = record { sound = c.in_ok-is_absent.ensures.keeps.sound (g.N.Names.served c.args.names.now) c.requires.sound }
+pub child_by_any-requires : goal.child_by_any-requires
+child_by_any-requires g c =
+    let live = g.N.Names.served c.args.names.now in
+    record { sound = c.in_ok-is_absent.ensures.keeps.sound live c.requires.sound; lacks = c.in_ok-is_absent.ensures.absent c.if-branch.true live c.requires.sound }
 
 pub returns-then-branch-clause-found : goal.returns-then-branch-clause-found
 returns-then-branch-clause-found g c ns node =
     let live = g.N.Names.served c.args.names.now in
     let l = keeps_later live c.args.self.now c.is_absent.new.self c.in_ok-is_absent.ensures.keeps c.requires.sound in
-    subst (λ (x : List Members). IsNodeAt (objects_in c.child_under-then-branch.new.self) (nodes_in c.child_under-then-branch.new.self) c.in_ok-at-2.at x)
-    (child_of_any live ns c.args.label.now (c.in_ok-is_absent.ensures.absent c.if-branch.true live ns c.requires.sound node))
-    (c.in_ok-at-2.ensures.found ns (node_after live c.args.self.now c.is_absent.new.self c.args.of ns l node))
+    c.in_ok-at-2.ensures.found ns (node_after live c.args.self.now c.is_absent.new.self c.args.of ns l node)
 
 pub returns-then-branch-clause-later : goal.returns-then-branch-clause-later
 returns-then-branch-clause-later g c =
     let live = g.N.Names.served c.args.names.now in
-    later_both live c.args.self.now c.is_absent.new.self c.child_under-then-branch.new.self (keeps_later live c.args.self.now c.is_absent.new.self c.in_ok-is_absent.ensures.keeps c.requires.sound) c.in_ok-at-2.ensures.later
+    later_both live c.args.self.now c.is_absent.new.self c.child_by_any.new.self (keeps_later live c.args.self.now c.is_absent.new.self c.in_ok-is_absent.ensures.keeps c.requires.sound) c.in_ok-at-2.ensures.later
 
 pub child_under-requires-2 : goal.child_under-requires-2
 child_under-requires-2 g c = record { sound = c.in_ok-is_absent.ensures.keeps.sound (g.N.Names.served c.args.names.now) c.requires.sound }
