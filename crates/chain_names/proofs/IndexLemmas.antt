@@ -117,6 +117,12 @@ module _ (profile : Profile) (start : Log) (base : ℕ) (block : List ℕ) (bloc
       subst (λ h. IsSound profile base h (index_maps profile start base (block ∷ blocks)) (u ∷ us)) height
       (subst (λ maps. IsSound profile base (next_height base blocks) maps (u ∷ us)) (sym (index_maps-next profile start base block blocks accepted.unrefused)) next_sound)
 
+-- that of no blocks is what the start list says
+pub index_at_base : (profile : Profile) (start : Log) (base : ℕ) → index_maps profile start base [] ≡ maps_of profile start (suc base)
+index_at_base profile start base =
+    let height : base + length {A = List ℕ} [] ≡ base = omega arith in
+    ap (λ h. maps_of profile start (suc h)) height
+
 -- the index of a chain of accepted blocks
 pub index_sound : (profile : Profile) (start : Log) (base : ℕ) (blocks : List (List ℕ)) (us : List UndoRecord) → AreAccepted profile start base blocks → AreUndos profile start base blocks us
     → IsSound profile base (base + length blocks) (index_maps profile start base blocks) us

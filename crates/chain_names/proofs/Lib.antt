@@ -2,6 +2,7 @@ pub mod Changed
 pub mod Points
 pub mod Shown
 pub mod HistoryLemmas
+pub mod RegistrationLemmas
 pub mod UndoLemmas
 pub mod LogLemmas
 pub mod BlockLemmas

@@ -8,9 +8,11 @@ ghost use Rattle.nmc_base.specs.declared.hashes.OutPoint.{OutPoint};
 ghost use Rattle.nmc_base.specs.Expiry.{due_height, expiry_depth, is_expired};
 ghost use Rattle.chain_names.specs.declared.coin.Coin.{Coin};
 ghost use Rattle.chain_names.specs.declared.coin.Coin.TheVariants.{Named};
+ghost use Rattle.chain_names.specs.declared.coin.Item.{Item};
+ghost use Rattle.name_script.specs.NameScript.{name_firstupdate, name_update};
 ghost use Rattle.chain_names.specs.Points.{same_point, changed};
-ghost use Rattle.chain_names.specs.Log.{Log, behind_coinbase, transactions_in, log_of};
-ghost use Rattle.chain_names.specs.Coins.{Maps, unless_expired, maps_of};
+ghost use Rattle.chain_names.specs.Log.{Log, Make, behind_coinbase, transactions_in, log_of};
+ghost use Rattle.chain_names.specs.Coins.{Maps, entry_of, history_of, unless_expired, maps_of};
 ghost use Rattle.chain_names.specs.Verdict.{verdict};
 ghost use Rattle.chain_names.specs.Meaning.{Means};
 ghost use Rattle.chain_names.specs.Changes.{after_all, after_block, back_ops, cleared, first_refused, undo_ops, unless_named_at};
@@ -30,6 +32,16 @@ pub fn index_follows()
 /// A chain may start with no makes.
 pub fn starts_empty()
     ensures { (profile : Profile) (base : ℕ) → IsStart profile base [] }
+{}
+
+/// The registration of a value that opens a name begins in its block, and one that updates a name goes on with the
+/// registration of the value before.
+pub fn registrations()
+    ensures opens { (log : Log) (point : OutPoint) (name rand value : List ℕ) (height : ℕ) (entry : Item)
+        → entry_of (history_of (Make point (name_firstupdate name rand value) height ∷ log) name) ≡ Some entry → entry.registered ≡ height }
+    ensures updates { (log : Log) (point : OutPoint) (name value : List ℕ) (height : ℕ) (before entry : Item)
+        → entry_of (history_of log name) ≡ Some before
+        → entry_of (history_of (Make point (name_update name value) height ∷ log) name) ≡ Some entry → entry.registered ≡ before.registered }
 {}
 
 /// The refusal of a block's transactions by the log, searched anew for each, is the one by the maps.

@@ -9,8 +9,8 @@ mod undoing;
 
 pub use coin::{Coin, HeldCoin, Item};
 pub use laws::{
-    due_coins, expiry_laws, index_follows, queue_follows, refusals_agree, starts_empty,
-    undoing_restores, verdict_meaning,
+    due_coins, expiry_laws, index_follows, queue_follows, refusals_agree, registrations,
+    starts_empty, undoing_restores, verdict_meaning,
 };
 pub use refusal::RuleRefusal;
 pub use undo::{Undo, UndoOp};

@@ -61,10 +61,11 @@ pub fn block_keeps_soundness()
         → IsSound profile base (suc tip) (after_block profile (suc tip) transactions maps) (u ∷ us) }
 {}
 
-/// A base alone with a start list is sound.
+/// A base alone with a start list is sound, and it is the index of the chain of no blocks.
 pub fn begins_sound()
-    ensures { (profile : Profile) (start : Log) (base : ℕ) → base ≤ highest → IsStart profile base start
+    ensures sound { (profile : Profile) (start : Log) (base : ℕ) → base ≤ highest → IsStart profile base start
         → IsSound profile base base (maps_of profile start (suc base)) [] }
+    ensures index { (profile : Profile) (start : Log) (base : ℕ) → index_maps profile start base [] ≡ maps_of profile start (suc base) }
 {}
 
 /// The index of each chain of accepted blocks is sound, with the records that undo them.

@@ -56,17 +56,53 @@ fn outpoints_in_order(rt: HostRuntime) {
     }
 }
 
-/// For how many blocks the coin of a name stands at heights next to the borders of its rule.
-static DEPTHS: [(Profile, u32, u32); 9] = [
-    (Profile::Regtest, 0, 30),
-    (Profile::Regtest, 2_000_000_001, 30),
-    (Profile::Main, 0, 12_000),
-    (Profile::Main, 23_999, 12_000),
-    (Profile::Main, 24_001, 12_001),
-    (Profile::Main, 47_999, 35_999),
-    (Profile::Main, 48_000, 36_000),
-    (Profile::Main, 48_001, 36_000),
-    (Profile::Main, 2_000_000_001, 36_000),
+/// Heights next to the borders of the rule, for how many blocks the coin of a name stands there, and the height whose names
+/// expire there.
+static HEIGHTS: [(Profile, u32, u32, Option<u32>); 44] = [
+    (Profile::Regtest, 0, 30, None),
+    (Profile::Regtest, 1, 30, None),
+    (Profile::Regtest, 29, 30, None),
+    (Profile::Regtest, 30, 30, Some(0)),
+    (Profile::Regtest, 31, 30, Some(1)),
+    (Profile::Regtest, 6742, 30, Some(6712)),
+    (Profile::Regtest, 11_999, 30, Some(11_969)),
+    (Profile::Regtest, 12_000, 30, Some(11_970)),
+    (Profile::Regtest, 12_001, 30, Some(11_971)),
+    (Profile::Regtest, 23_999, 30, Some(23_969)),
+    (Profile::Regtest, 24_000, 30, Some(23_970)),
+    (Profile::Regtest, 24_001, 30, Some(23_971)),
+    (Profile::Regtest, 24_002, 30, Some(23_972)),
+    (Profile::Regtest, 35_999, 30, Some(35_969)),
+    (Profile::Regtest, 36_000, 30, Some(35_970)),
+    (Profile::Regtest, 47_999, 30, Some(47_969)),
+    (Profile::Regtest, 48_000, 30, Some(47_970)),
+    (Profile::Regtest, 48_001, 30, Some(47_971)),
+    (Profile::Regtest, 48_002, 30, Some(47_972)),
+    (Profile::Regtest, 100_000, 30, Some(99_970)),
+    (Profile::Regtest, 2_000_000_000, 30, Some(1_999_999_970)),
+    (Profile::Regtest, 2_000_000_001, 30, Some(1_999_999_971)),
+    (Profile::Main, 0, 12_000, None),
+    (Profile::Main, 1, 12_000, None),
+    (Profile::Main, 29, 12_000, None),
+    (Profile::Main, 30, 12_000, None),
+    (Profile::Main, 31, 12_000, None),
+    (Profile::Main, 6742, 12_000, None),
+    (Profile::Main, 11_999, 12_000, None),
+    (Profile::Main, 12_000, 12_000, Some(0)),
+    (Profile::Main, 12_001, 12_000, Some(1)),
+    (Profile::Main, 23_999, 12_000, Some(11_999)),
+    (Profile::Main, 24_000, 12_000, Some(12_000)),
+    (Profile::Main, 24_001, 12_001, None),
+    (Profile::Main, 24_002, 12_002, None),
+    (Profile::Main, 35_999, 23_999, None),
+    (Profile::Main, 36_000, 24_000, None),
+    (Profile::Main, 47_999, 35_999, None),
+    (Profile::Main, 48_000, 36_000, None),
+    (Profile::Main, 48_001, 36_000, Some(12_001)),
+    (Profile::Main, 48_002, 36_000, Some(12_002)),
+    (Profile::Main, 100_000, 36_000, Some(64_000)),
+    (Profile::Main, 2_000_000_000, 36_000, Some(1_999_964_000)),
+    (Profile::Main, 2_000_000_001, 36_000, Some(1_999_964_001)),
 ];
 
 /// A height at which a name was changed, a height, and whether it is expired there.
@@ -81,8 +117,11 @@ static EXPIRIES: [(Profile, u32, u32, bool); 6] = [
 
 #[test]
 fn names_expire_by_their_profile(rt: HostRuntime) {
-    for &(profile, height, depth) in &DEPTHS {
+    for &(profile, height, depth, due) in &HEIGHTS {
+        // The height behind the highest is the last that is asked for.
+        assert!(rt; height <= 2_000_000_001);
         same_number(&rt, profile.depth(height) as u64, depth as u64);
+        assert!(rt; profile.due(height) == due);
     }
     for &(profile, made, height, expired) in &EXPIRIES {
         assert!(rt; profile.expired(made, height) == expired);

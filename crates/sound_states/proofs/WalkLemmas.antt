@@ -1,9 +1,8 @@
 -- A walk down to the base decides soundness.
-use Rattle.std.proofs.Common.{◌≡◌, ◌≢◌, ℕ, suc, ◌-◌, ◌≤◌, Bool, true, false, cond, List, [], ◌∷◌, ◌++◌, length, take, ⊎_elim, refl, sym, ap, subst, ◌∙◌, arith, length-append}
+use Rattle.std.proofs.Common.{◌≡◌, ◌≢◌, ℕ, suc, ◌≤◌, Bool, true, false, cond, List, [], ◌∷◌, ⊎_elim, refl, sym, ap, subst, ◌∙◌, arith}
 use Rattle.std.specs.Prelude.{Option, Some, None}
-use Rattle.std.specs.List.{AllByRecursion, list_any}
-use Rattle.std.specs.Str.{bytes_eq}
-use Rattle.std.proofs.lemmas.Bool.{cases_eq, or_cases, or_left, or_right}
+use Rattle.std.specs.List.{AllByRecursion}
+use Rattle.std.proofs.lemmas.Bool.{cases_eq}
 use Rattle.nmc_base.specs.declared.hashes.OutPoint.{OutPoint}
 use Rattle.nmc_base.specs.declared.chain_ends.Profile.{Profile}
 use Rattle.nmc_base.specs.Expiry.{is_expired}
@@ -13,58 +12,29 @@ use Rattle.chain_names.specs.declared.coin.HeldCoin.{HeldCoin}
 use Rattle.chain_names.specs.declared.coin.Item.{Item}
 use Rattle.chain_names.specs.declared.undo.UndoOp.{UndoOp}
 use Rattle.chain_names.specs.declared.undo.UndoOp.TheVariants.{New as undo_new, First as undo_first, Update as undo_update}
-use Rattle.chain_names.specs.Points.{same_point}
 use Rattle.chain_names.specs.Coins.{Maps, entry_of, unless_expired}
-use Rattle.chain_names.specs.Changes.{without_entry, back_op, back_ops, undone}
-use Rattle.chain_names.specs.Tables.{is_named_at}
+use Rattle.chain_names.specs.Changes.{back_ops, undone}
 use Rattle.chain_names.specs.Undo.{UndoRecord}
-use Rattle.chain_names.specs.Expired.{is_held_at, points_of}
 use Rattle.chain_names.specs.Verdict.{made_at}
-use Rattle.chain_names.specs.State.{IsUpTo, FitsItem, IsRising, IsStandingCoin, HasFewNames, IsState}
+use Rattle.chain_names.specs.State.{IsUpTo, IsStandingCoin, IsState}
 use Rattle.chain_names.specs.Fits.{IsJustExpired, with_restored, FitsOps, FitsState}
 use Rattle.chain_names.specs.Limits.{IsWithinLimits}
-use Rattle.chain_names.proofs.Changed.{bytes_eq-true}
 use Rattle.chain_names.proofs.HistoryLemmas.{entry_has}
 use Rattle.chain_names.specs.Sound.{IsSound, BeginsRegistration}
 use Rattle.nmc_base.proofs.ListLemmas.{all-weaker}
-use Rattle.chain_names.proofs.Points.{same_point-comm}
 use Rattle.chain_names.proofs.SoundLemmas.{sound_state}
 use Rattle.chain_names.proofs.Shown.{true_is_not_false}
 use Rattle.chain_names.proofs.UndoneBlockLemmas.{live_before}
 use Rattle.chain_names.proofs.UndoableLemmas.{op_allows}
-use Rattle.sound_states.specs.Touched.{returns, is_changed, is_put_back, spent_points, points_put_back, points_below}
+use Rattle.sound_states.specs.Touched.{is_changed, is_put_back}
 use Rattle.sound_states.specs.OneSound.{IsSoundCoin, HasItsCoin, IsSoundName}
 use Rattle.sound_states.specs.Leaving.{LeavesState}
 use Rattle.sound_states.specs.Walk.{NotAskedCoin, NotAsked, IsWalkStep, IsBottom, IsWalk, HasFewCoins}
-use Rattle.sound_states.proofs.BackLemmas.{was_there, stays, coins_stay, held_restored, PutsBackSo, coin_source, changed_last, name_stays}
-use Rattle.sound_states.proofs.HistoryLemmas.{all_up_to, one_item, no_entry, rising-take, all-take}
+use Rattle.sound_states.proofs.BackLemmas.{stays, coins_stay, held_restored, PutsBackSo, coin_source, changed_last, name_stays}
+use Rattle.sound_states.proofs.HistoryLemmas.{all_up_to, one_item, no_entry}
+use Rattle.sound_states.proofs.FewLemmas.{few_left, few_names}
+use Rattle.sound_states.proofs.FrontLemmas.{rising_left, lengths_left}
 use Rattle.sound_states.proofs.LeavingLemmas.{left_is_state}
-
--- ---- each history is a front of the one above
-
-module _ (P : List ℕ → List Item → Type 0) (front : (name : List ℕ) (n : ℕ) (items : List Item) → P name items → P name (take n items)) where
-  moved_front : (maps : Maps) (moved name : List ℕ) → ((n : List ℕ) → P n (maps.names n)) → (b : Bool) → bytes_eq moved name ≡ b
-      → P name (cond b (without_entry (maps.names moved)) (maps.names name))
-  moved_front maps moved name all true is =
-      subst (λ n. P n (without_entry (maps.names moved))) (bytes_eq-true moved name is) (front moved (length (maps.names moved) - 1) (maps.names moved) (all moved))
-  moved_front maps moved name all false is = all name
-
-  front_op : (op : UndoOp) (maps : Maps) → ((n : List ℕ) → P n (maps.names n)) → (name : List ℕ) → P name ((back_op op maps).names name)
-  front_op (undo_new made) maps all name = all name
-  front_op (undo_first made spent coin moved before) maps all name = moved_front maps moved name all (bytes_eq moved name) refl
-  front_op (undo_update made spent coin moved before) maps all name = moved_front maps moved name all (bytes_eq moved name) refl
-
-  fronts : (ops : List UndoOp) (maps : Maps) → ((n : List ℕ) → P n (maps.names n)) → (name : List ℕ) → P name ((back_ops ops maps).names name)
-  fronts [] maps all name = all name
-  fronts (op ∷ ops) maps all name = front_op op (back_ops ops maps) (fronts ops maps all) name
-
-rising_left : (u : UndoRecord) (maps : Maps) → ((n : List ℕ) → IsRising (maps.names n)) → (name : List ℕ) → IsRising ((undone u.ops u.expired maps).names name)
-rising_left u maps rising name = fronts (λ n items. IsRising items) (λ n k items. rising-take k items) u.ops (with_restored u.expired maps) rising name
-
-lengths_left : (u : UndoRecord) (maps : Maps) → ((n : List ℕ) → AllByRecursion (FitsItem n) (maps.names n)) → (name : List ℕ)
-    → AllByRecursion (FitsItem name) ((undone u.ops u.expired maps).names name)
-lengths_left u maps lengths name =
-    fronts (λ n items. AllByRecursion (FitsItem n) items) (λ n k items. all-take (FitsItem n) k items) u.ops (with_restored u.expired maps) lengths name
 
 -- ---- what the base says holds above it: nothing is higher than the tip, and each name that stands has its coin
 
@@ -161,65 +131,6 @@ have_coins profile base tip maps [] walk name = subst (λ h. HasItsCoin profile 
 have_coins profile base tip maps (u ∷ us) walk name =
     have_coin_step (record { profile = profile; tip = tip; below = walk.0; u = u; maps = maps; above = walk.1; step = walk.2 }) name (have_coins profile base walk.0 (undone u.ops u.expired maps) us walk.3 name)
     (low_coins profile base walk.0 (undone u.ops u.expired maps) us walk.3) (is_changed name u) refl
-
--- ---- few coins
-
-any_left : {A : Type 0} (p : A → Bool) (xs ys : List A) → list_any p xs ≡ true → list_any p (xs ++ ys) ≡ true
-any_left p [] ys e = absurd (true_is_not_false (sym e))
-any_left p (x ∷ xs) ys e =
-    ⊎_elim (λ here. or_left (p x) (list_any p (xs ++ ys)) here) (λ there. or_right (p x) (list_any p (xs ++ ys)) (any_left p xs ys there)) (or_cases (p x) (list_any p xs) e)
-
-any_right : {A : Type 0} (p : A → Bool) (xs ys : List A) → list_any p ys ≡ true → list_any p (xs ++ ys) ≡ true
-any_right p [] ys e = e
-any_right p (x ∷ xs) ys e = or_right (p x) (list_any p (xs ++ ys)) (any_right p xs ys e)
-
-spent_listed : (ops : List UndoOp) (point : OutPoint) → list_any (returns point) ops ≡ true → list_any (same_point point) (spent_points ops) ≡ true
-spent_listed [] point e = e
-spent_listed (undo_new made ∷ ops) point e = spent_listed ops point e
-spent_listed (undo_first made spent coin moved before ∷ ops) point e =
-    ⊎_elim (λ here. or_left (same_point point spent) (list_any (same_point point) (spent_points ops)) (same_point-comm point spent ∙ here))
-    (λ there. or_right (same_point point spent) (list_any (same_point point) (spent_points ops)) (spent_listed ops point there))
-    (or_cases (same_point spent point) (list_any (returns point) ops) e)
-spent_listed (undo_update made spent coin moved before ∷ ops) point e =
-    ⊎_elim (λ here. or_left (same_point point spent) (list_any (same_point point) (spent_points ops)) (same_point-comm point spent ∙ here))
-    (λ there. or_right (same_point point spent) (list_any (same_point point) (spent_points ops)) (spent_listed ops point there))
-    (or_cases (same_point spent point) (list_any (returns point) ops) e)
-
-expired_listed : (helds : List HeldCoin) (point : OutPoint) → list_any (is_held_at point) helds ≡ true → list_any (same_point point) (points_of helds) ≡ true
-expired_listed [] point e = e
-expired_listed (first ∷ helds) point e =
-    ⊎_elim (λ here. or_left (same_point point first.at) (list_any (same_point point) (points_of helds)) (same_point-comm point first.at ∙ here))
-    (λ there. or_right (same_point point first.at) (list_any (same_point point) (points_of helds)) (expired_listed helds point there))
-    (or_cases (same_point first.at point) (list_any (is_held_at point) helds) e)
-
-put_back_listed : (u : UndoRecord) (point : OutPoint) → is_put_back point u ≡ true → list_any (same_point point) (points_put_back u) ≡ true
-put_back_listed u point e =
-    ⊎_elim (λ spent. any_left (same_point point) (spent_points u.ops) (points_of u.expired) (spent_listed u.ops point spent))
-    (λ gone. any_right (same_point point) (spent_points u.ops) (points_of u.expired) (expired_listed u.expired point gone))
-    (or_cases (list_any (returns point) u.ops) (list_any (is_held_at point) u.expired) e)
-
-pub few_left : (maps : Maps) (u : UndoRecord) (us : List UndoRecord) → HasFewCoins maps (u ∷ us) → HasFewCoins (undone u.ops u.expired maps) us
-few_left maps u us few = record {
-  points = few.points ++ points_put_back u;
-  all = λ point coin held. listed point coin held (is_put_back point u) refl;
-  few = omega (arith, few.few, length-append few.points (points_put_back u), length-append (points_put_back u) (points_below us));
-}
-  where
-    listed : (point : OutPoint) (coin : Coin) → (undone u.ops u.expired maps).coins point ≡ Some coin → (b : Bool) → is_put_back point u ≡ b
-        → list_any (same_point point) (few.points ++ points_put_back u) ≡ true
-    listed point coin held true is = any_right (same_point point) few.points (points_put_back u) (put_back_listed u point is)
-    listed point coin held false is = any_left (same_point point) few.points (points_put_back u) (few.all point coin (was_there u maps point coin is held))
-
-pub few_names : (maps : Maps) (us : List UndoRecord) → HasFewCoins maps us → (height : ℕ) → HasFewNames maps.coins height
-few_names maps us few height = record {
-  points = few.points;
-  few = omega (arith, few.few);
-  all = λ point named. listed point (maps.coins point) refl named;
-}
-  where
-    listed : (point : OutPoint) (coin : Option Coin) → maps.coins point ≡ coin → is_named_at height coin ≡ true → list_any (same_point point) few.points ≡ true
-    listed point None held named = absurd (true_is_not_false (sym named))
-    listed point (Some coin) held named = few.all point coin held
 
 -- ---- a walk is sound
 

@@ -1,4 +1,4 @@
-use Rattle.sound_states.proofs.WalkLemmas.{few_names, few_left}
+use Rattle.sound_states.proofs.FewLemmas.{few_names, few_left}
 use Rattle.sound_states.proofs.laws.few_coins.Goals as goal
 
 pub returns-clause-names : goal.returns-clause-names
