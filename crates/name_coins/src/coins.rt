@@ -24,16 +24,17 @@ pub struct Coins {
 }
 
 impl Model for Coins {
-    ghost use Rattle.chain_names.specs.Tables.{CoinSlots};
-
-    ghost use Rattle.chain_names.specs.Tables.{coins_in};
+    ghost use Rattle.std.specs.List.{IsDistinct};
+    ghost use Rattle.std.specs.Map.{keys_of};
     ghost use Rattle.chain_names.specs.Measured.{AreCoinsMeasured};
+    ghost use Rattle.chain_names.specs.Points.{same_point};
+    ghost use Rattle.chain_names.specs.Tables.{CoinSlots, coins_in};
 
     ghost Value = { CoinSlots };
 
     ghost view = { λ c. c.places.entries };
 
-    ghost invariant = { λ c. AreCoinsMeasured (coins_in c.places.entries) };
+    ghost invariant = { λ c. AreCoinsMeasured (coins_in c.places.entries) × IsDistinct same_point (keys_of c.places.entries) };
 }
 
 impl Coins {
@@ -134,8 +135,6 @@ impl Coins {
         ensures cost { steps.new ≡ steps.old + 1 }
     {
         steps.tick();
-        // The length is what says that no outpoint has two places.
-        let _count = self.places.len();
         let (at, place) = self.places.get_index(i)?;
         match place {
             Some(coin) => Some((at, coin)),

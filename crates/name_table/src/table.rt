@@ -28,6 +28,9 @@ pub struct Table {
 }
 
 impl Model for Table {
+    ghost use Rattle.std.specs.List.{IsDistinct};
+    ghost use Rattle.std.specs.Map.{keys_of};
+    ghost use Rattle.std.specs.Str.{bytes_eq};
     ghost use Rattle.chain_names.specs.Measured.{AreItemsMeasured};
     ghost use Rattle.chain_names.specs.Tables.{NameSlots, names_in};
     ghost use Rattle.name_table.specs.ByBytes.{by_bytes};
@@ -36,7 +39,7 @@ impl Model for Table {
 
     ghost view = { λ t. by_bytes t.places.entries };
 
-    ghost invariant = { λ t. AreItemsMeasured (names_in (by_bytes t.places.entries)) };
+    ghost invariant = { λ t. AreItemsMeasured (names_in (by_bytes t.places.entries)) × IsDistinct bytes_eq (keys_of (by_bytes t.places.entries)) };
 }
 
 impl Table {
@@ -155,8 +158,6 @@ impl Table {
         ensures cost { steps.new ≡ steps.old + 1 }
     {
         steps.tick();
-        // The length is what says that no name has two places.
-        let _count = self.places.len();
         let (name, _history) = self.places.get_index(i)?;
         Some(name.as_slice())
     }

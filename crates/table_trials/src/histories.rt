@@ -19,6 +19,7 @@ fn register<L: Ledger>(
     let value = Bytes::copy_of(alloc, b"value")?;
     let item = Item {
         height: 13,
+        registered: 13,
         at: output(1, 0),
         value,
     };

@@ -13,4 +13,4 @@ unreachable-requires g c =
     true≢false (sym (ap is_some empty) ∙ filled ∙ ap (λ (e : Option (Option Coin)). is_some (filled_by e)) empty)
 
 pub returns-clause-measured : goal.returns-clause-measured
-returns-clause-measured g c = c.self.invariant c.in_ok-at.at.now c.in-Some.coin (ap filled_by c.in_ok-at.ensures.value ∙ c.in-Some.is)
+returns-clause-measured g c = c.self.invariant.0 c.in_ok-at.at.now c.in-Some.coin (ap filled_by c.in_ok-at.ensures.value ∙ c.in-Some.is)

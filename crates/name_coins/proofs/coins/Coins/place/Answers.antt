@@ -36,4 +36,4 @@ returns-else-not-contains_key-clause-list g c =
 pub invariant_of-self-then-not-contains_key : goal.invariant_of-self-then-not-contains_key
 invariant_of-self-then-not-contains_key g c =
     let kept = read_at-kept same_point filled_by same_point-true c.self.inside.places.entries _ _ _ c.in_ok-insert.ensures.updates.0 (no_coin _ c.if-not-contains_key.ensures) in
-    subst AreCoinsMeasured (sym kept) c.self.invariant
+    (subst AreCoinsMeasured (sym kept) c.self.invariant.0, c.in_ok-insert.ensures.unique)

@@ -26,4 +26,4 @@ returns-clause-list g c =
 pub invariant_of-self : goal.invariant_of-self
 invariant_of-self g c =
     let after = read_at-changed same_point filled_by c.self.inside.places.entries _ _ _ c.in-Ok.ensures.updates.0 in
-    subst AreCoinsMeasured (sym after) (coin_there _ c.args.at.now c.args.coin c.self.invariant c.read_widths.ensures)
+    (subst AreCoinsMeasured (sym after) (coin_there _ c.args.at.now c.args.coin c.self.invariant.0 c.read_widths.ensures), c.in-Ok.ensures.unique)

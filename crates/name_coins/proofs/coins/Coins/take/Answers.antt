@@ -21,4 +21,4 @@ pub invariant_of-self-2 : goal.invariant_of-self-2
 invariant_of-self-2 g c =
     let here = sym (ap is_some c.in_ok-place.ensures.value) in
     let after = read_at-changed same_point filled_by c.self.inside.places.entries _ _ _ ((c.get_mut.follows.holds None).3 here).0 in
-    rw c.take.ensures.after (subst AreCoinsMeasured (sym after) (coin_gone _ c.args.at.now c.self.invariant))
+    (rw c.take.ensures.after (subst AreCoinsMeasured (sym after) (coin_gone _ c.args.at.now c.self.invariant.0)), rw (c.get_mut.follows.holds c.take.new.self).1 c.self.invariant.1)

@@ -20,4 +20,4 @@ pub invariant_of-self : goal.invariant_of-self
 invariant_of-self g c =
     let empty = c.has_empty.ensures.empty c.if-has_empty.true in
     let kept = read_at-kept same_point filled_by same_point-true _ _ _ _ c.swap_remove.ensures.updates.0 (rw (c.self.view_is, empty) refl) in
-    subst AreCoinsMeasured (sym kept) c.self.invariant
+    (subst AreCoinsMeasured (sym kept) c.self.invariant.0, c.swap_remove.ensures.unique)

@@ -6,7 +6,7 @@ use Rattle.chain_names.specs.declared.coin.Item.{Item}
 use Rattle.chain_names.specs.Points.{changed}
 use Rattle.chain_names.specs.Tables.{names_in}
 use Rattle.name_table.specs.ByBytes.{by_bytes}
-use Rattle.name_table.proofs.ByBytesLemmas.{found}
+use Rattle.name_table.proofs.ByBytesLemmas.{IsDistinct-by_bytes, found}
 use Rattle.name_table.proofs.Readings.{reads, kept, no_items}
 use Rattle.name_table.proofs.KeyLemmas.{inserted_keys}
 use Rattle.name_table.proofs.MeasureLemmas.{measured_reads}
@@ -46,4 +46,4 @@ pub invariant_of-self-2 : goal.invariant_of-self-2
 invariant_of-self-2 c =
     let updates = c.in_ok-insert.ensures.updates in
     let items : c.reserve.new.self.items ≡ [] = c.reserve.ensures.items ∙ ap (λ (h : Roomy Item). h.items) c.new-history.ensures in
-    measured_reads c.self.inside.places.entries _ c.in_ok-key.key.items _ updates.1 updates.3 c.self.invariant (rw items tt)
+    (measured_reads c.self.inside.places.entries _ c.in_ok-key.key.items _ updates.1 updates.3 c.self.invariant.0 (rw items tt), IsDistinct-by_bytes _ c.in_ok-insert.ensures.unique)

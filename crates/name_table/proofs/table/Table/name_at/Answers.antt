@@ -1,9 +1,6 @@
 use Rattle.std.proofs.Common.{Some, refl, ap}
-use Rattle.name_table.proofs.ByBytesLemmas.{found, IsDistinct-by_bytes, slice_get-by_bytes}
+use Rattle.name_table.proofs.ByBytesLemmas.{found, slice_get-by_bytes}
 use Rattle.name_table.proofs.table.Table.name_at.Goals as goal
-
-pub returns-in_err-name-clause-distinct : goal.returns-in_err-name-clause-distinct
-returns-in_err-name-clause-distinct g c = rw (← c.self.view_is) (IsDistinct-by_bytes c.self.inside.places.entries c.len-count.ensures.unique)
 
 pub returns-clause-name : goal.returns-clause-name
 returns-clause-name g c = rw (← c.self.view_is, slice_get-by_bytes c.self.inside.places.entries c.args.i, ← c.in_ok-name.ensures.entry) (ap Some c.as_slice.ensures.value)
@@ -11,6 +8,3 @@ returns-clause-name g c = rw (← c.self.view_is, slice_get-by_bytes c.self.insi
 pub returns-clause-placed : goal.returns-clause-placed
 returns-clause-placed g c =
     rw (← c.self.view_is, c.as_slice.ensures.value, found c.in_ok-name.name.now.items c.self.inside.places.entries _ c.in_ok-name.ensures.value) refl
-
-pub returns-clause-distinct : goal.returns-clause-distinct
-returns-clause-distinct g c = rw (← c.self.view_is) (IsDistinct-by_bytes c.self.inside.places.entries c.len-count.ensures.unique)

@@ -61,6 +61,8 @@ pub invariant_of-self-2 : goal.invariant_of-self-2
 invariant_of-self-2 g c =
     let entries = c.self.inside.places.entries in
     let wrote = (c.get_mut.follows.holds c.pop.new.self).3 (sym (ap is_some c.in_ok-history.ensures.value)) in
-    let before = measured_entry entries c.args.name.now _ (sym c.in_ok-history.ensures.value) c.self.invariant in
-    let rest = popped-rest c.pop.result c.in_ok-history.history.now c.pop.new.self c.pop.ensures.some c.pop.ensures.none c.pop.ensures.same in
-    measured_reads entries _ c.args.name.now _ wrote.1 wrote.3 c.self.invariant (rw rest (all-without_entry _ before))
+    let before = measured_entry entries c.args.name.now _ (sym c.in_ok-history.ensures.value) c.self.invariant.0 in
+    let rest = popped-rest c.pop.result c.in_ok-history.history.now c.pop.new.self c.pop.ensures.some c.pop.ensures.none c.pop.ensures.same in (
+      measured_reads entries _ c.args.name.now _ wrote.1 wrote.3 c.self.invariant.0 (rw rest (all-without_entry _ before)),
+      rw (same_keys entries _ (c.get_mut.follows.holds c.pop.new.self).1) c.self.invariant.1,
+    )

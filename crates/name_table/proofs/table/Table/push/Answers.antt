@@ -55,5 +55,7 @@ pub invariant_of-self : goal.invariant_of-self
 invariant_of-self g c =
     let entries = c.self.inside.places.entries in
     let wrote = (c.get_mut.follows.holds c.push.new.self).3 (sym (ap is_some c.in-Some.ensures.value)) in
-    let before = measured_entry entries c.args.name.now _ (sym c.in-Some.ensures.value) c.self.invariant in
-    measured_reads entries _ c.args.name.now _ wrote.1 wrote.3 c.self.invariant (rw c.push.ensures.items (all-more IsMeasuredItem _ c.args.item before c.read_widths.ensures))
+    let before = measured_entry entries c.args.name.now _ (sym c.in-Some.ensures.value) c.self.invariant.0 in (
+      measured_reads entries _ c.args.name.now _ wrote.1 wrote.3 c.self.invariant.0 (rw c.push.ensures.items (all-more IsMeasuredItem _ c.args.item before c.read_widths.ensures)),
+      rw (same_keys entries _ (c.get_mut.follows.holds c.push.new.self).1) c.self.invariant.1,
+    )

@@ -8,7 +8,7 @@ use Rattle.name_table.proofs.Readings.{reads, kept, has_entry, has_place}
 use Rattle.chain_names.specs.Coins.{entry_of}
 use Rattle.std.specs.Option.{is_some}
 use Rattle.nmc_base.proofs.OptionLemmas.{none_there}
-use Rattle.name_table.proofs.ByBytesLemmas.{lookup-by_bytes}
+use Rattle.name_table.proofs.ByBytesLemmas.{IsDistinct-by_bytes, lookup-by_bytes}
 use Rattle.name_table.proofs.MeasureLemmas.{measured_reads}
 use Rattle.name_table.proofs.table.Table.unplace.Goals as goal
 
@@ -52,5 +52,7 @@ returns-then-is_empty-clause-list g c h =
     rw (← c.self.view_is) (ap by_bytes (rw result at c.swap_remove.ensures.unchanged))
 
 pub invariant_of-self : goal.invariant_of-self
-invariant_of-self g c =
-    measured_reads c.self.inside.places.entries _ c.args.name.now None c.swap_remove.ensures.updates.1 c.swap_remove.ensures.updates.3 c.self.invariant tt
+invariant_of-self g c = (
+  measured_reads c.self.inside.places.entries _ c.args.name.now None c.swap_remove.ensures.updates.1 c.swap_remove.ensures.updates.3 c.self.invariant.0 tt,
+  IsDistinct-by_bytes _ c.swap_remove.ensures.unique,
+)

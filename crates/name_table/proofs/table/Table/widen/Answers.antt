@@ -69,5 +69,7 @@ pub invariant_of-self : goal.invariant_of-self
 invariant_of-self c =
     let entries = c.self.inside.places.entries in
     let wrote = (c.get_mut.follows.holds c.reserve.new.self).3 (sym (ap is_some c.in-Some.ensures.value)) in
-    let before = measured_entry entries c.args.name.now _ (sym c.in-Some.ensures.value) c.self.invariant in
-    measured_reads entries _ c.args.name.now _ wrote.1 wrote.3 c.self.invariant (rw c.reserve.ensures.items before)
+    let before = measured_entry entries c.args.name.now _ (sym c.in-Some.ensures.value) c.self.invariant.0 in (
+      measured_reads entries _ c.args.name.now _ wrote.1 wrote.3 c.self.invariant.0 (rw c.reserve.ensures.items before),
+      rw (same_keys entries _ (c.get_mut.follows.holds c.reserve.new.self).1) c.self.invariant.1,
+    )
