@@ -34,15 +34,12 @@ use Rattle.name_tables.specs.Tables.{AreFilled}
 use Rattle.name_tables.specs.Tables.{maps_by}
 use Rattle.chain_state.specs.Work.{HasSpentPlace, HasSpentRow, may_be_empty, may_be_empty_at, IsWork}
 use Rattle.chain_state.specs.Block.{IsReady, HasFewOutputs, AppliedAll}
-use Rattle.chain_state.specs.Stage.{Begins, StagesWell, StagesNames, Stages}
-use Rattle.chain_state.specs.declared.stage.Refusal.TheVariants.{BadBlock, NotOnTip, HeightLimit, MerkleMismatch, Rule, JournalFull}
-use Rattle.chain_state.specs.declared.stage.StageOutcome.{StageOutcome}
-use Rattle.chain_state.specs.declared.stage.StageOutcome.TheVariants.{Staged, Refused, NoMemory}
+use Rattle.chain_state.specs.Stage.{Begins}
 use Rattle.chain_state.specs.Worked.{HandsBack}
 use Rattle.chain_state.proofs.WorkedLemmas.{applied_back}
 use Rattle.chain_state.specs.Whole.{Finishes, Commits, maps_before_block}
 use Rattle.nmc_base.specs.Heights.{highest}
-use Rattle.chain_state.specs.Chain.{rule_refused, Indexed, IsIndexed, SameIndex, IsAtBase, IsStagedIndex, IsConnected, index_of, staged_of, staged_undo, newest_hash}
+use Rattle.chain_state.specs.Chain.{rule_refused, Indexed, IsIndexed, SameIndex, IsAtBase, IsStagedIndex, IsStagedOn, IsConnected, index_of, staged_of, staged_undo, newest_hash}
 use Rattle.name_tables.specs.Parts.{newest_first}
 use Rattle.name_tables.specs.declared.tables.Tables.{Tables}
 use Rattle.chain_state.specs.declared.whole.Committed.{Committed}
@@ -195,6 +192,13 @@ module _ (c : Indexed) (w : Work) (b : IsBegun c w) where
   pub back_maps : (t : Tables) → HandsBack w t → maps_by t ≡ maps_by c.tables
   back_maps t back = back.maps ∙ same_maps
 
+-- the block stands on the tip, its root and hash are these, and these are its transactions behind the coinbase
+pub record IsBlockOf (c : Indexed) (ts : List Transaction) (block : Block) (hash : Hash32) : Type 0 where
+  pub on_tip : block.header.fields.previous ≡ c.tip.hash.0
+  pub root : block.header.fields.root ≡ block_root block
+  pub ts_are : ts ≡ behind_coinbase block.transactions
+  pub hash_is : hash.0 ≡ header_hash block.header
+
 -- the work on the block is whole
 pub record IsWorkedOut (c : Indexed) (w : Work) (ts : List Transaction) (whole : Whole) (undos : Roomy Undo) : Type 0 where
   pub begun : IsBegun c w
@@ -265,38 +269,25 @@ module _ (c : Indexed) (w : Work) (ts : List Transaction) (whole : Whole) (undos
     );
   }
 
-  pub staged_well : (hash : Hash32) (block : Block) → ts ≡ behind_coinbase block.transactions → hash.0 ≡ header_hash block.header → StagesWell c block (staged_of c.base c.tip hash whole undos)
-  staged_well hash block ts_are hash_is = record {
-    on = λ on root. record {
-      on_tip = on;
-      low = d.begun.low;
-      root = root;
-      accepted = refused_by c w d.begun block ts ts_are None d.applied.accepted;
-      base = refl;
-      tip = refl;
-      hash = hash_is;
-      before = d.finishes.before ∙ done_before;
-      queue = d.begun.indexed.queue;
-      after = after_is ∙ ap (λ l. after_block c.base.profile (suc c.tip.height) l maps) ts_are;
-      ops = ops_are ∙ ap (λ l. undo_ops c.base.profile (suc c.tip.height) l maps) ts_are;
-      due = subst (λ l. IsDue (after_all c.base.profile (suc c.tip.height) l maps).coins (after_block c.base.profile (suc c.tip.height) l maps).coins whole.expired.items) ts_are due_are;
-      sorted = d.finishes.sorted;
-      undos = d.same_undos;
-    };
+  pub staged_on : (hash : Hash32) (block : Block) → IsBlockOf c ts block hash → IsStagedOn c block (staged_of c.base c.tip hash whole undos)
+  staged_on hash block of = record {
+    on_tip = of.on_tip;
+    low = d.begun.low;
+    root = of.root;
+    accepted = refused_by c w d.begun block ts of.ts_are None d.applied.accepted;
+    base = refl;
+    tip = refl;
+    hash = of.hash_is;
+    before = d.finishes.before ∙ done_before;
+    queue = d.begun.indexed.queue;
+    after = after_is ∙ ap (λ l. after_block c.base.profile (suc c.tip.height) l maps) of.ts_are;
+    ops = ops_are ∙ ap (λ l. undo_ops c.base.profile (suc c.tip.height) l maps) of.ts_are;
+    due = subst (λ l. IsDue (after_all c.base.profile (suc c.tip.height) l maps).coins (after_block c.base.profile (suc c.tip.height) l maps).coins whole.expired.items) of.ts_are due_are;
+    sorted = d.finishes.sorted;
+    undos = d.same_undos;
   }
 
--- ---- the whole of staging
-
-pub stages : (c : Indexed) (block : Block) (outcome : StageOutcome) → block.header.fields.previous ≡ c.tip.hash.0 → c.tip.height < highest → block.header.fields.root ≡ block_root block
-    → StagesNames c block outcome → Stages c block outcome
-stages c block (Staged s) on low root names = names.on on root
-stages c block (Refused chain (BadBlock at)) on low root names = absurd names.1
-stages c block (Refused chain (NotOnTip tip)) on low root names = absurd names.1
-stages c block (Refused chain HeightLimit) on low root names = absurd names.1
-stages c block (Refused chain (MerkleMismatch computed)) on low root names = absurd names.1
-stages c block (Refused chain (Rule index refusal)) on low root names = (names.0, (on, low, root, names.1))
-stages c block (Refused chain JournalFull) on low root names = absurd names.1
-stages c block (NoMemory chain) on low root names = (names, on, low)
+-- ---- the base alone
 
 pub begun_index : (base : Base) (c : Tables) → base.height ≤ highest → c.coins ≡ [] → c.names ≡ [] → c.queue ≡ []
     → (undos : Roomy Undo) → undos.items ≡ [] → IsIndexed (index_of base (record { height = base.height; hash = base.hash }) c undos)
