@@ -19,6 +19,7 @@ use nmc_base::{Hash32, RoomyList};
 use std::alloc::Global;
 
 /// A record whose items have no registration height: those of its field say nothing.
+#[derive(Drop)]
 pub struct UndoV1 {
     pub undo: Undo,
 }
