@@ -10,7 +10,7 @@ use Rattle.chain_names.specs.declared.coin.Coin.{Coin}
 use Rattle.chain_names.specs.declared.coin.HeldCoin.{HeldCoin}
 use Rattle.block_grammar.proofs.Readers.{Took}
 use Rattle.block_grammar.specs.Combinators.{◌>>=◌, then_from, map_from, many_from}
-use Rattle.block_grammar.proofs.ReaderLaws.{ok_is, ok_err, PairFits}
+use Rattle.block_grammar.proofs.ReaderLaws.{parted, ok_is, ok_err, PairFits}
 use Rattle.undo_records.specs.declared.fault.FaultKind.TheVariants.{Unsorted}
 use Rattle.undo_records.specs.Reading.{Reads, point_from, named_coin_from, is_less, is_after, later_point_from, held_from, coins_from}
 use Rattle.undo_records.specs.Text.{point_text, held_text}
@@ -177,26 +177,22 @@ coins_of last n bytes e f = go f.before f.fits f.in_order f.fewer f.inner f.part
 sample_coin : HeldCoin
 sample_coin = record { at = point_ends.sample; coin = named_coin_ends.sample }
 
-parted : List HeldCoin → HeldCoin × List HeldCoin
-parted [] = (sample_coin, [])
-parted (held ∷ more) = (held, more)
-
 none_again : (last : Option OutPoint) (coins : List HeldCoin) (rest : List ℕ) → CoinsFit last 0 coins → coins_from last 0 (flat_map held_text coins ++ rest) ≡ Ok (coins, rest)
 unfolding coins_from
 none_again last [] rest fits = refl
 none_again last (held ∷ more) rest fits = absurd (omega (arith, fits.0))
 
-cons_back : (last : Option OutPoint) (n : ℕ) (coins : List HeldCoin) → CoinsFit last (suc n) coins → (parted coins).0 ∷ (parted coins).1 ≡ coins
+cons_back : (last : Option OutPoint) (n : ℕ) (coins : List HeldCoin) → CoinsFit last (suc n) coins → (parted sample_coin coins).0 ∷ (parted sample_coin coins).1 ≡ coins
 unfolding parted
 cons_back last n [] fits = absurd (omega (arith, fits.0))
 cons_back last n (held ∷ more) fits = refl
 
-cons_from : (last : Option OutPoint) (n : ℕ) (coins : List HeldCoin) → CoinsFit last (suc n) coins → PairFits (HeldFits last) (λ held. CoinsFit (Some held.at) n) (parted coins)
+cons_from : (last : Option OutPoint) (n : ℕ) (coins : List HeldCoin) → CoinsFit last (suc n) coins → PairFits (HeldFits last) (λ held. CoinsFit (Some held.at) n) (parted sample_coin coins)
 unfolding parted
 cons_from last n [] fits = absurd (omega (arith, fits.0))
 cons_from last n (held ∷ more) fits = ((fits.1.0.0, fits.1.1.0), (omega (arith, fits.0), (fits.1.0.1, fits.1.1.1)))
 
-coins_is : (last : Option OutPoint) (n : ℕ) → IsSeenBy (λ (p : HeldCoin × List HeldCoin). p.0 ∷ p.1) parted (then_part (held_part last) (tail_part n)) (coins_part last (suc n))
+coins_is : (last : Option OutPoint) (n : ℕ) → IsSeenBy (λ (p : HeldCoin × List HeldCoin). p.0 ∷ p.1) (parted sample_coin) (then_part (held_part last) (tail_part n)) (coins_part last (suc n))
 unfolding coins_from
 coins_is last n = record {
   read = λ bytes. refl;
@@ -220,13 +216,10 @@ coins_core last zero = record {
   behind = λ bytes e fits h. absurd (ok_err (coins_from last 0 bytes) ([], bytes) e refl h);
 }
 coins_core last (suc n) =
-    seen_core (λ (p : HeldCoin × List HeldCoin). p.0 ∷ p.1) parted (then_part (held_part last) (tail_part n)) (coins_part last (suc n)) (coins_is last n)
+    seen_core (λ (p : HeldCoin × List HeldCoin). p.0 ∷ p.1) (parted sample_coin) (then_part (held_part last) (tail_part n)) (coins_part last (suc n)) (coins_is last n)
     (then_core (held_part last) (tail_part n) (held_core last) (λ held _. coins_core (Some held.at) n))
 
 -- whatever the order
-pub loose_coins_core : (n : ℕ) → Core (many_part loose_held_part n)
-loose_coins_core = many_core loose_held_part sample_coin loose_held_core
-
 pub loose_coins_ends : (n : ℕ) → Ends (many_part loose_held_part n)
 loose_coins_ends = many_ends loose_held_part sample_coin loose_held_core loose_held_ends
 

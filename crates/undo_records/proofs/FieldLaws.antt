@@ -74,7 +74,7 @@ piece_ends n = record {
 IsBytes-zeros : (n : ℕ) → IsBytes (zeros n)
 IsBytes-zeros n = IsBytes-replicate n 0 (omega arith)
 
-abbrev number_part : Width → ℕ → Part ℕ
+abbrev pub number_part : Width → ℕ → Part ℕ
 number_part w limit = record { text = to_le_bytes w; Fits = IsBelow limit; Flawed = NoFlaw; read = number_from w }
 
 module _ (w : Width) (limit : ℕ) (wide : IsWide w limit) where

@@ -9,7 +9,7 @@ use Rattle.undo_records.specs.declared.fault.FaultKind.{FaultKind}
 use Rattle.undo_records.specs.declared.fault.Stop.{Stop}
 use Rattle.undo_records.specs.declared.fault.Stop.TheVariants.{At, NoMemory}
 use Rattle.undo_records.specs.Reading.{Reads, held_from, coins_from}
-use Rattle.undo_records.specs.Fields.{Gives, Grown, grown_by}
+use Rattle.undo_records.specs.Fields.{Stops, Grown, grown_by}
 
 abbrev pub Found : Type 0 → Type 0
 Found A = Result (A × List ℕ) (FaultKind × List ℕ)
@@ -18,10 +18,6 @@ Found A = Result (A × List ℕ) (FaultKind × List ℕ)
 abbrev pub behind : {A : Type 0} → List A → Found (List A) → Found (List A)
 behind xs (Ok y) = Ok (xs ++ y.0, y.1)
 behind xs (Err e) = Err e
-
-pub behind_none : {A : Type 0} (r : Found (List A)) → behind [] r ≡ r
-behind_none (Ok y) = refl
-behind_none (Err e) = refl
 
 -- a value in front of what is read
 abbrev pub in_front : {A : Type 0} → A → Found (List A) → Found (List A)
@@ -50,72 +46,91 @@ with_rest_is {A = A} read more bytes = go (read bytes)
     go (Err e) = refl
 
 -- readers of so many values, of which the first is read by this one
-pub record IsMany {A : Type 0} (read : Reads A) (next : ℕ → A → Reads (List A)) (all : ℕ → Reads (List A)) : Type 0 where
+pub record Series (A : Type 0) : Type 0 where
+  pub read : Reads A
+  pub next : ℕ → A → Reads (List A)
+  pub all : ℕ → Reads (List A)
   pub none : (bytes : List ℕ) → all 0 bytes ≡ Ok ([], bytes)
   pub more : (n : ℕ) (bytes : List ℕ) → all (suc n) bytes ≡ with_rest (read bytes) (next n)
 
-pub many_is : {A : Type 0} (read : Reads A) → IsMany read (λ n _. many_from read n) (many_from read)
-many_is read = record { none = λ bytes. refl; more = λ n bytes. with_rest_is read (λ _. many_from read n) bytes }
+abbrev pub many_series : {A : Type 0} → Reads A → Series A
+many_series read = record {
+  read = read;
+  next = λ n _. many_from read n;
+  all = many_from read;
+  none = λ bytes. refl;
+  more = λ n bytes. with_rest_is read (λ _. many_from read n) bytes;
+}
 
-pub coins_is : (last : Option OutPoint) → IsMany (held_from last) (λ n held. coins_from (Some held.at) n) (coins_from last)
+pub coins_none : (last : Option OutPoint) (bytes : List ℕ) → coins_from last 0 bytes ≡ Ok ([], bytes)
 unfolding coins_from
-coins_is last = record { none = λ bytes. refl; more = λ n bytes. with_rest_is (held_from last) (λ held. coins_from (Some held.at) n) bytes }
+coins_none last bytes = refl
+
+pub coins_more : (last : Option OutPoint) (n : ℕ) (bytes : List ℕ) → coins_from last (suc n) bytes ≡ with_rest (held_from last bytes) (λ held. coins_from (Some held.at) n)
+unfolding coins_from
+coins_more last n bytes = with_rest_is (held_from last) (λ held. coins_from (Some held.at) n) bytes
+
+abbrev pub coins_series : Option OutPoint → Series HeldCoin
+coins_series last = record { read = held_from last; next = λ n held. coins_from (Some held.at) n; all = coins_from last; none = coins_none last; more = coins_more last }
+
+-- a loop that reads so many values: those that it has, how many it has, the bytes that are left, and what comes in the end
+pub record Halfway (A : Type 0) : Type 0 where
+  pub values : List A
+  pub count : ℕ
+  pub counter : ℕ
+  pub rest : List ℕ
+  pub whole : Found (List A)
+
+-- what is left to be read, behind the values that it has, is the whole
+abbrev pub Leads : {A : Type 0} → Series A → Halfway A → Type 0
+Leads s l = behind l.values (s.all (l.count - l.counter) l.rest) ≡ l.whole
 
 one_less : (count counter : ℕ) → counter < count → count - counter ≡ suc (count - suc counter)
 one_less count counter lt = omega arith
 
--- a value more was read
-pub one_more : {A : Type 0} (read : Reads A) (next : ℕ → A → Reads (List A)) (all : ℕ → Reads (List A)) → IsMany read next all
-    → (xs : List A) (count counter : ℕ) (bytes : List ℕ) (x : A) (after : List ℕ) (whole : Found (List A)) → counter < count
-    → Ok (x, after) ≡ read bytes → behind xs (all (count - counter) bytes) ≡ whole
-    → behind (xs ++ x ∷ []) (next (count - suc counter) x after) ≡ whole
-one_more {A = A} read next all is xs count counter bytes x after whole lt e so_far =
-    behind_push xs x (next (count - suc counter) x after)
-    ∙ sym (ap (λ (n : ℕ). behind xs (all n bytes)) (one_less count counter lt) ∙ ap (λ (r : Found (List A)). behind xs r) (is.more (count - suc counter) bytes ∙ ap (λ (r : Found A). with_rest r (next (count - suc counter))) (sym e)))
-    ∙ so_far
+module _ {A : Type 0} (s : Series A) (l : Halfway A) where
+  -- the next value, and what is read behind it
+  next_is : l.counter < l.count → behind l.values (s.all (l.count - l.counter) l.rest) ≡ behind l.values (with_rest (s.read l.rest) (s.next (l.count - suc l.counter)))
+  next_is lt = ap (λ (n : ℕ). behind l.values (s.all n l.rest)) (one_less l.count l.counter lt) ∙ ap (λ (r : Found (List A)). behind l.values r) (s.more (l.count - suc l.counter) l.rest)
+
+  -- a value more was read
+  one_more : (x : A) (after : List ℕ) → l.counter < l.count → Ok (x, after) ≡ s.read l.rest → Leads s l → behind (l.values ++ x ∷ []) (s.next (l.count - suc l.counter) x after) ≡ l.whole
+  one_more x after lt e so_far =
+      behind_push l.values x (s.next (l.count - suc l.counter) x after)
+      ∙ ap (λ (r : Found A). behind l.values (with_rest r (s.next (l.count - suc l.counter)))) e
+      ∙ sym (next_is lt)
+      ∙ so_far
+
+  -- the next value isn't read
+  pub no_more : (stop : Stop) → l.counter < l.count → Stops stop (s.read l.rest) → Leads s l → Stops stop l.whole
+  no_more NoMemory lt e so_far = tt
+  no_more (At fault) lt e so_far = ap (λ (r : Found A). behind l.values (with_rest r (s.next (l.count - suc l.counter)))) e ∙ sym (next_is lt) ∙ so_far
+
+  -- nothing is left to read
+  pub all_read : l.count ≤ l.counter → Leads s l → Ok (l.values, l.rest) ≡ l.whole
+  all_read le so_far =
+      let none_left : l.count - l.counter ≡ 0 = omega arith in
+      ap (λ (values : List A). Ok (values, l.rest)) (sym (append-nil l.values))
+      ∙ sym (ap (λ (n : ℕ). behind l.values (s.all n l.rest)) none_left ∙ ap (λ (r : Found (List A)). behind l.values r) (s.none l.rest))
+      ∙ so_far
 
 -- a value more was read, and stands behind those before it
-pub many_grown : {A : Type 0} (read : Reads A) (xs : List A) (count counter : ℕ) (bytes : List ℕ) (ys : List A) (after : List ℕ) (whole : Found (List A)) → counter < count
-    → Ok (ys, after) ≡ map_from (λ (x : A). xs ++ x ∷ []) read bytes → behind xs (many_from read (count - counter) bytes) ≡ whole
-    → behind ys (many_from read (count - suc counter) after) ≡ whole
-many_grown {A = A} read xs count counter bytes ys after whole lt e so_far =
-    let a = bind_ok (read bytes) (λ (x : A × List ℕ). Ok (xs ++ x.0 ∷ [], x.1)) (ys, after) (sym e) in
-    subst (λ (y : List A × List ℕ). behind y.0 (many_from read (count - suc counter) y.1) ≡ whole) (ok_is _ _ a.2)
-    (one_more read (λ n _. many_from read n) (many_from read) (many_is read) xs count counter bytes a.0.0 a.0.1 whole lt (sym a.1) so_far)
+pub many_grown : {A : Type 0} (read : Reads A) (l : Halfway A) (values : List A) (after : List ℕ) → l.counter < l.count
+    → Ok (values, after) ≡ map_from (λ (x : A). l.values ++ x ∷ []) read l.rest → Leads (many_series read) l
+    → behind values (many_from read (l.count - suc l.counter) after) ≡ l.whole
+many_grown {A = A} read l values after lt e so_far =
+    let a = bind_ok (read l.rest) (λ (x : A × List ℕ). Ok (l.values ++ x.0 ∷ [], x.1)) (values, after) (sym e) in
+    subst (λ (y : List A × List ℕ). behind y.0 (many_from read (l.count - suc l.counter) y.1) ≡ l.whole) (ok_is _ _ a.2) (one_more (many_series read) l a.0.0 a.0.1 lt (sym a.1) so_far)
 
 -- a coin more was read, and stands behind those before it
-pub coins_grown : (last : Option OutPoint) (xs : List HeldCoin) (count counter : ℕ) (bytes : List ℕ) (ys : List HeldCoin) (at : OutPoint) (after : List ℕ) (whole : Found (List HeldCoin)) → counter < count
-    → Ok ((ys, at), after) ≡ map_from (grown_by xs) (held_from last) bytes → behind xs (coins_from last (count - counter) bytes) ≡ whole
-    → behind ys (coins_from (Some at) (count - suc counter) after) ≡ whole
-coins_grown last xs count counter bytes ys at after whole lt e so_far =
-    let a = bind_ok (held_from last bytes) (λ (x : HeldCoin × List ℕ). Ok (grown_by xs x.0, x.1)) ((ys, at), after) (sym e) in
-    subst (λ (y : Grown × List ℕ). behind y.0.0 (coins_from (Some y.0.1) (count - suc counter) y.1) ≡ whole) (ok_is _ _ a.2)
-    (one_more (held_from last) (λ n held. coins_from (Some held.at) n) (coins_from last) (coins_is last) xs count counter bytes a.0.0 a.0.1 whole lt (sym a.1) so_far)
+pub coins_grown : (last : Option OutPoint) (l : Halfway HeldCoin) (coins : List HeldCoin) (at : OutPoint) (after : List ℕ) → l.counter < l.count
+    → Ok ((coins, at), after) ≡ map_from (grown_by l.values) (held_from last) l.rest → Leads (coins_series last) l
+    → behind coins (coins_from (Some at) (l.count - suc l.counter) after) ≡ l.whole
+coins_grown last l coins at after lt e so_far =
+    let a = bind_ok (held_from last l.rest) (λ (x : HeldCoin × List ℕ). Ok (grown_by l.values x.0, x.1)) ((coins, at), after) (sym e) in
+    subst (λ (y : Grown × List ℕ). behind y.0.0 (coins_from (Some y.0.1) (l.count - suc l.counter) y.1) ≡ l.whole) (ok_is _ _ a.2) (one_more (coins_series last) l a.0.0 a.0.1 lt (sym a.1) so_far)
 
 -- what isn't read has no changed value
-pub not_changed : {A B X Y : Type 0} (f : A → B) (r : Found A) (view : X → B × List ℕ) (view' : Y → A × List ℕ) (stop : Stop)
-    → Gives view (Err stop) (r >>= λ (x : A × List ℕ). Ok (f x.0, x.1)) → Gives view' (Err stop) r
-not_changed f r view view' NoMemory e = tt
-not_changed {A = A} f r view view' (At fault) e = sym (made_err r (λ (x : A × List ℕ). (f x.0, x.1)) (fault.kind, fault.rest.now) (sym e))
-
--- the next value isn't read
-pub no_more : {A X Y : Type 0} (read : Reads A) (next : ℕ → A → Reads (List A)) (all : ℕ → Reads (List A)) → IsMany read next all
-    → (view : X → A × List ℕ) (view' : Y → List A × List ℕ)
-    → (xs : List A) (count counter : ℕ) (bytes : List ℕ) (stop : Stop) (whole : Found (List A)) → counter < count
-    → Gives view (Err stop) (read bytes) → behind xs (all (count - counter) bytes) ≡ whole
-    → Gives view' (Err stop) whole
-no_more read next all is view view' xs count counter bytes NoMemory whole lt e so_far = tt
-no_more {A = A} read next all is view view' xs count counter bytes (At fault) whole lt e so_far =
-    ap (λ (r : Found A). behind xs (with_rest r (next (count - suc counter)))) e
-    ∙ sym (ap (λ (n : ℕ). behind xs (all n bytes)) (one_less count counter lt) ∙ ap (λ (r : Found (List A)). behind xs r) (is.more (count - suc counter) bytes))
-    ∙ so_far
-
--- nothing is left to read
-pub all_read : {A : Type 0} (read : Reads A) (next : ℕ → A → Reads (List A)) (all : ℕ → Reads (List A)) → IsMany read next all
-    → (xs : List A) (count counter : ℕ) (bytes : List ℕ) (whole : Found (List A)) → count ≤ counter
-    → behind xs (all (count - counter) bytes) ≡ whole → Ok (xs, bytes) ≡ whole
-all_read {A = A} read next all is xs count counter bytes whole le so_far =
-    let none_left : count - counter ≡ 0 = omega arith in
-    ap (λ (l : List A). Ok (l, bytes)) (sym (append-nil xs))
-    ∙ sym (ap (λ (n : ℕ). behind xs (all n bytes)) none_left ∙ ap (λ (r : Found (List A)). behind xs r) (is.none bytes))
-    ∙ so_far
+pub not_changed : {A B : Type 0} (f : A → B) (r : Found A) (stop : Stop) → Stops stop (r >>= λ (x : A × List ℕ). Ok (f x.0, x.1)) → Stops stop r
+not_changed f r NoMemory e = tt
+not_changed {A = A} f r (At fault) e = sym (made_err r (λ (x : A × List ℕ). (f x.0, x.1)) (fault.kind, fault.rest.now) (sym e))

@@ -31,6 +31,49 @@ behind_front bytes front rest e =
 at_length : (bytes : List ℕ) (at : ℕ) → at ≤ length bytes → drop at bytes ≡ [] → at ≡ length bytes
 at_length bytes at le none = let h : length (drop at bytes) ≡ 0 = ap length none in omega (arith, le, h, length-drop at bytes)
 
+module _ (version : Version) (bytes : List ℕ) where
+  -- the places of one rest
+  same_place : (at at' : ℕ) → at ≤ length bytes → at' ≤ length bytes → drop at bytes ≡ drop at' bytes → at ≡ at'
+  same_place at at' le le' e =
+      let h : length (drop at bytes) ≡ length (drop at' bytes) = ap length e in
+      omega (arith, le, le', h, length-drop at bytes, length-drop at' bytes)
+
+  -- two ends of reading are one
+  one_stop : (kind kind' : FaultKind) (at at' : ℕ) → StopsAt version bytes kind at → StopsAt version bytes kind' at' → placed_fault kind' at' ≡ placed_fault kind at
+  one_stop kind kind' at at' s s' =
+      let same : (kind, drop at bytes) ≡ (kind', drop at' bytes) = err_is (kind, drop at bytes) (kind', drop at' bytes) (sym s.0 ∙ s'.0) in
+      let kinds : kind ≡ kind' = ap (λ (y : Spot). y.0) same in
+      let places : at ≡ at' = same_place at at' s.1 s'.1 (ap (λ (y : Spot). y.1) same) in
+      ap (λ (k : FaultKind). placed_fault k at') (sym kinds) ∙ ap (λ (n : ℕ). placed_fault kind n) (sym places)
+
+  -- the fault that a cause has
+  stops_at : IsBytes bytes → (fault : UndoFault) → HasFault version bytes fault → (kind : FaultKind) × (at : ℕ) × (StopsAt version bytes kind at × (placed_fault kind at ≡ fault))
+  stops_at fits (Cut at) h = (cut, at, ((front_cut version bytes fits h.1 ∙ ap (λ (l : List ℕ). Err (cut, l)) (sym (drop_all at bytes (omega (arith, h.0)))), omega (arith, h.0)), refl))
+  stops_at fits (BadTag at) h = (bad_tag, at, (((undo_core version).flawed bytes (bad_tag, drop at bytes) (tag_flaw (record { rest = drop at bytes; flaw = h.1; is = refl })), h.0), refl))
+  stops_at fits (Unsorted at) h = (unsorted, at, (((undo_core version).flawed bytes (unsorted, drop at bytes) (out_of_order (drop at bytes) h.1 refl), h.0), refl))
+  stops_at fits NoMemory h = absurd h
+
+module _ {X : Type 0} (view : X → UndoRecord) (version : Version) (bytes : List ℕ) where
+  -- a record that the bytes begin with is read
+  pub only : (r : Result (X × ℕ) UndoFault) → GivesUndo view version bytes r → (undo : UndoRecord) (more : List ℕ) → IsWritable undo → bytes ≡ undo_text version undo ++ more → AnswersUndo view (told version undo) (length (undo_text version undo)) r
+  only r g undo more writable e = go r g
+    where
+      read : undo_from version bytes ≡ Ok (told version undo, more)
+      read = ap (undo_from version) e ∙ told_again version undo more writable
+
+      go : (r : Result (X × ℕ) UndoFault) → GivesUndo view version bytes r → AnswersUndo view (told version undo) (length (undo_text version undo)) r
+      go (Ok x) g =
+          let kept : UndoRecord × List ℕ = (view x.0, drop x.1 bytes) in
+          let same : (told version undo, more) ≡ kept = ok_is (told version undo, more) (view x.0, drop x.1 bytes) (sym read ∙ g.0) in
+          let rest : more ≡ drop x.1 bytes = ap (λ (y : UndoRecord × List ℕ). y.1) same in
+          let len : length bytes ≡ length (undo_text version undo) + length more = ap length e ∙ length-append (undo_text version undo) more in
+          let left : length more ≡ length (drop x.1 bytes) = ap length rest in
+          (sym (ap (λ (y : UndoRecord × List ℕ). y.0) same), omega (arith, len, left, g.1, length-drop x.1 bytes))
+      go (Err (Cut at)) g = absurd (ok_err (undo_from version bytes) (told version undo, more) (cut, drop at bytes) read g.0)
+      go (Err (BadTag at)) g = absurd (ok_err (undo_from version bytes) (told version undo, more) (bad_tag, drop at bytes) read g.0)
+      go (Err (Unsorted at)) g = absurd (ok_err (undo_from version bytes) (told version undo, more) (unsorted, drop at bytes) read g.0)
+      go (Err NoMemory) g = refl
+
 module _ {X : Type 0} (view : X → UndoRecord) (version : Version) (bytes : List ℕ) (fits : IsBytes bytes) where
   pub found_place : (undo : UndoRecord) (rest : List ℕ) → undo_from version bytes ≡ Ok (undo, rest) → (length rest ≤ length bytes) × (rest ≡ drop (length bytes - length rest) bytes)
   found_place undo rest e = behind_front bytes (undo_text version undo) rest ((undo_core version).takes bytes (undo, rest) fits e).parts
@@ -69,56 +112,15 @@ module _ {X : Type 0} (view : X → UndoRecord) (version : Version) (bytes : Lis
   cause (Err (Unsorted at)) g = (g.1, unsorted_cause version bytes (drop at bytes) fits g.0)
   cause (Err NoMemory) g = tt
 
-  -- the places of one rest
-  same_place : (at at' : ℕ) → at ≤ length bytes → at' ≤ length bytes → drop at bytes ≡ drop at' bytes → at ≡ at'
-  same_place at at' le le' e =
-      let h : length (drop at bytes) ≡ length (drop at' bytes) = ap length e in
-      omega (arith, le, le', h, length-drop at bytes, length-drop at' bytes)
-
-  -- a record that the bytes begin with is read
-  pub only : (r : Result (X × ℕ) UndoFault) → GivesUndo view version bytes r → (undo : UndoRecord) (more : List ℕ) → IsWritable undo → bytes ≡ undo_text version undo ++ more → AnswersUndo view (told version undo) (length (undo_text version undo)) r
-  only r g undo more writable e = go r g
-    where
-      read : undo_from version bytes ≡ Ok (told version undo, more)
-      read = ap (undo_from version) e ∙ told_again version undo more writable
-
-      go : (r : Result (X × ℕ) UndoFault) → GivesUndo view version bytes r → AnswersUndo view (told version undo) (length (undo_text version undo)) r
-      go (Ok x) g =
-          let kept : UndoRecord × List ℕ = (view x.0, drop x.1 bytes) in
-          let same : (told version undo, more) ≡ kept = ok_is (told version undo, more) (view x.0, drop x.1 bytes) (sym read ∙ g.0) in
-          let rest : more ≡ drop x.1 bytes = ap (λ (y : UndoRecord × List ℕ). y.1) same in
-          let len : length bytes ≡ length (undo_text version undo) + length more = ap length e ∙ length-append (undo_text version undo) more in
-          let left : length more ≡ length (drop x.1 bytes) = ap length rest in
-          (sym (ap (λ (y : UndoRecord × List ℕ). y.0) same), omega (arith, len, left, g.1, length-drop x.1 bytes))
-      go (Err (Cut at)) g = absurd (ok_err (undo_from version bytes) (told version undo, more) (cut, drop at bytes) read g.0)
-      go (Err (BadTag at)) g = absurd (ok_err (undo_from version bytes) (told version undo, more) (bad_tag, drop at bytes) read g.0)
-      go (Err (Unsorted at)) g = absurd (ok_err (undo_from version bytes) (told version undo, more) (unsorted, drop at bytes) read g.0)
-      go (Err NoMemory) g = refl
-
-  -- the fault that a cause has
-  stops_at : (fault : UndoFault) → HasFault version bytes fault → (kind : FaultKind) × (at : ℕ) × (StopsAt version bytes kind at × (placed_fault kind at ≡ fault))
-  stops_at (Cut at) h = (cut, at, ((front_cut version bytes fits h.1 ∙ ap (λ (l : List ℕ). Err (cut, l)) (sym (drop_all at bytes (omega (arith, h.0)))), omega (arith, h.0)), refl))
-  stops_at (BadTag at) h = (bad_tag, at, (((undo_core version).flawed bytes (bad_tag, drop at bytes) (tag_flaw (record { rest = drop at bytes; flaw = h.1; is = refl })), h.0), refl))
-  stops_at (Unsorted at) h = (unsorted, at, (((undo_core version).flawed bytes (unsorted, drop at bytes) (out_of_order (drop at bytes) h.1 refl), h.0), refl))
-  stops_at NoMemory h = absurd h
-
-  -- two ends of reading are one
-  one_stop : (kind kind' : FaultKind) (at at' : ℕ) → StopsAt version bytes kind at → StopsAt version bytes kind' at' → placed_fault kind' at' ≡ placed_fault kind at
-  one_stop kind kind' at at' s s' =
-      let same : (kind, drop at bytes) ≡ (kind', drop at' bytes) = err_is (kind, drop at bytes) (kind', drop at' bytes) (sym s.0 ∙ s'.0) in
-      let kinds : kind ≡ kind' = ap (λ (y : Spot). y.0) same in
-      let places : at ≡ at' = same_place at at' s.1 s'.1 (ap (λ (y : Spot). y.1) same) in
-      ap (λ (k : FaultKind). placed_fault k at') (sym kinds) ∙ ap (λ (n : ℕ). placed_fault kind n) (sym places)
-
   pub only_fault : (r : Result (X × ℕ) UndoFault) → GivesUndo view version bytes r → (fault : UndoFault) → HasFault version bytes fault → AnswersFault fault r
   only_fault r g fault h = go r g
     where
       w : (kind : FaultKind) × (at : ℕ) × (StopsAt version bytes kind at × (placed_fault kind at ≡ fault))
-      w = stops_at fault h
+      w = stops_at version bytes fits fault h
 
       go : (r : Result (X × ℕ) UndoFault) → GivesUndo view version bytes r → AnswersFault fault r
       go (Ok x) g = ok_err (undo_from version bytes) (view x.0, drop x.1 bytes) (w.0, drop w.1 bytes) g.0 w.2.0.0
-      go (Err (Cut at)) g = one_stop w.0 cut w.1 at w.2.0 g ∙ w.2.1
-      go (Err (BadTag at)) g = one_stop w.0 bad_tag w.1 at w.2.0 g ∙ w.2.1
-      go (Err (Unsorted at)) g = one_stop w.0 unsorted w.1 at w.2.0 g ∙ w.2.1
+      go (Err (Cut at)) g = one_stop version bytes w.0 cut w.1 at w.2.0 g ∙ w.2.1
+      go (Err (BadTag at)) g = one_stop version bytes w.0 bad_tag w.1 at w.2.0 g ∙ w.2.1
+      go (Err (Unsorted at)) g = one_stop version bytes w.0 unsorted w.1 at w.2.0 g ∙ w.2.1
       go (Err NoMemory) g = tt

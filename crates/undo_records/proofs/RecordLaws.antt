@@ -28,7 +28,7 @@ use Rattle.undo_records.proofs.Laws.{Spot, ended, Flaw, Part, Core, Ends, PairFl
 use Rattle.undo_records.proofs.Choices.{no_cut}
 use Rattle.undo_records.proofs.FieldLaws.{part32, core32, ends32, piece_part, piece_core, piece_ends}
 use Rattle.undo_records.proofs.OpLaws.{op_part, op_core, op_ends}
-use Rattle.undo_records.proofs.CoinLaws.{held_part, after_is, is_after_at, last_after, last_is, coins_part, coins_core, loose_held_from, loose_held_part, loose_coins_core, loose_coins_ends, OrUnsorted, the_same, unsorted, bind_same, coins_same}
+use Rattle.undo_records.proofs.CoinLaws.{held_part, after_is, is_after_at, last_after, last_is, coins_part, coins_core, loose_held_from, loose_held_part, loose_coins_ends, OrUnsorted, the_same, unsorted, bind_same, coins_same}
 
 -- ---- values behind their number
 
@@ -100,10 +100,6 @@ loose_expired_part = record {
   Flawed = (counted_part held_text (AllByRecursion IsWritableHeld) (λ n. (many_part loose_held_part n).Flawed) (many_from loose_held_from)).Flawed;
   read = loose_expired_from;
 }
-
-loose_expired_core : Core loose_expired_part
-unfolding loose_expired_from
-loose_expired_core = counted_core held_text (AllByRecursion IsWritableHeld) (λ n. (many_part loose_held_part n).Flawed) (many_from loose_held_from) loose_coins_core
 
 loose_expired_ends : Ends loose_expired_part
 unfolding loose_expired_from

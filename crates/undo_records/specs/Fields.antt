@@ -27,11 +27,15 @@ abbrev pub seen : {X A : Type 0} → (X → A × List ℕ) → Result X Fault �
 seen view (Ok x) = Ok (view x)
 seen view (Err fault) = Err (fault.kind, fault.rest.now)
 
--- the same, or want of memory
+-- reading stopped at the first fault, or for want of memory
+abbrev pub Stops : {A : Type 0} → Stop → Result (A × List ℕ) (FaultKind × List ℕ) → Type 0
+Stops (At fault) read = Err (fault.kind, fault.rest.now) ≡ read
+Stops NoMemory read = Unit {0}
+
+-- what was read, or why reading stopped
 abbrev pub Gives : {X A : Type 0} → (X → A × List ℕ) → Result X Stop → Result (A × List ℕ) (FaultKind × List ℕ) → Type 0
 Gives view (Ok x) read = Ok (view x) ≡ read
-Gives view (Err (At fault)) read = Err (fault.kind, fault.rest.now) ≡ read
-Gives view (Err NoMemory) read = Unit {0}
+Gives view (Err stop) read = Stops stop read
 
 -- ---- a list of coins with one more, and the outpoint of that one
 

@@ -36,9 +36,9 @@ abbrev pub registered_text : Version → ℕ → List ℕ
 registered_text One registered = []
 registered_text Two registered = to_le_bytes w32 registered
 
--- +----------+------------------------------------+-------------+----------+-------+
--- | height 4 | registration height 4 (version 2)  | outpoint 36 | length 2 | value |
--- +----------+------------------------------------+-------------+----------+-------+
+-- +----------+-----------------------+-------------+----------+-------+
+-- | height 4 | registration height 4 | outpoint 36 | length 2 | value |
+-- +----------+-----------------------+-------------+----------+-------+
 unfoldable pub item_text : Version → Item → List ℕ
 item_text version item =
     to_le_bytes w32 item.height ++ (registered_text version item.registered ++ (point_text item.at ++ (to_le_bytes w16 (length item.value) ++ item.value)))

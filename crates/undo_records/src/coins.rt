@@ -11,10 +11,10 @@ use crate::version::Version;
 use nmc_base::Hash20;
 
 /// The tag of a commitment's coin.
-pub(crate) const NEW: u8 = 1;
+pub const NEW: u8 = 1;
 
 /// The tag of a name's coin.
-pub(crate) const NAMED: u8 = 2;
+pub const NAMED: u8 = 2;
 
 /// The byte of an operation that has an item before it.
 pub(crate) const SOME_BEFORE: u8 = 1;
@@ -23,7 +23,7 @@ pub(crate) const SOME_BEFORE: u8 = 1;
 pub(crate) const NONE_BEFORE: u8 = 0;
 
 /// A tag that isn't allowed stands at the front of these bytes.
-pub(crate) fn bad_tag<'a>(rest: &'a [u8]) -> Fault<'a>
+pub fn bad_tag<'a>(rest: &'a [u8]) -> Fault<'a>
     ensures kind { result.kind ≡ FaultKind.BadTag }
     ensures rest { result.rest.now ≡ rest.entry.now }
 {
@@ -33,9 +33,9 @@ pub(crate) fn bad_tag<'a>(rest: &'a [u8]) -> Fault<'a>
     }
 }
 
-/// The coin of a commitment.
+/// The coin of a commitment: its tag, its height and its hash. A tag other than `NEW` is a fault at the tag.
 #[tactic(auto, unfolding(crate::specs::Reading::new_coin_from))]
-pub(crate) fn new_coin_at<'a>(bytes: &'a [u8]) -> Result<(FoundCoin<'a>, &'a [u8]), Fault<'a>>
+pub fn new_coin_at<'a>(bytes: &'a [u8]) -> Result<(FoundCoin<'a>, &'a [u8]), Fault<'a>>
     ensures { seen (λ x. (seen_coin x.0, x.1.now)) result ≡ new_coin_from bytes.now }
 {
     let Some((tag, rest)) = bytes.split_first() else {
@@ -50,9 +50,9 @@ pub(crate) fn new_coin_at<'a>(bytes: &'a [u8]) -> Result<(FoundCoin<'a>, &'a [u8
     Ok((FoundCoin::New { hash, height }, rest))
 }
 
-/// The coin of a name.
+/// The coin of a name: its tag, its height, and the name behind its length. A tag other than `NAMED` is a fault at the tag.
 #[tactic(auto, unfolding(crate::specs::Reading::named_coin_from))]
-pub(crate) fn named_coin_at<'a>(bytes: &'a [u8]) -> Result<(FoundCoin<'a>, &'a [u8]), Fault<'a>>
+pub fn named_coin_at<'a>(bytes: &'a [u8]) -> Result<(FoundCoin<'a>, &'a [u8]), Fault<'a>>
     ensures { seen (λ x. (seen_coin x.0, x.1.now)) result ≡ named_coin_from bytes.now }
 {
     let Some((tag, rest)) = bytes.split_first() else {
@@ -76,9 +76,12 @@ fn registered_at<'a>(version: Version, bytes: &'a [u8]) -> Result<(u32, &'a [u8]
     }
 }
 
-/// An item of a history.
+/// An item of a history: its height, in version 2 its registration height, its outpoint, and its value behind its length.
 #[tactic(auto, unfolding(crate::specs::Reading::item_from))]
-fn item_at<'a>(version: Version, bytes: &'a [u8]) -> Result<(FoundItem<'a>, &'a [u8]), Fault<'a>>
+pub fn item_at<'a>(
+    version: Version,
+    bytes: &'a [u8],
+) -> Result<(FoundItem<'a>, &'a [u8]), Fault<'a>>
     ensures { seen (λ x. (seen_item x.0, x.1.now)) result ≡ item_from version bytes.now }
 {
     let (height, rest) = u32_at(bytes)?;

@@ -23,29 +23,34 @@ pub enum UndoFault {
 
 /// What is wrong at a place.
 #[derive(Clone, Copy)]
-pub(crate) enum FaultKind {
+pub enum FaultKind {
+    /// The bytes end too early.
     Cut,
+    /// A tag that isn't allowed there, or a value longer than 1023 bytes.
     BadTag,
+    /// An outpoint that isn't greater than the one before.
     Unsorted,
 }
 
 /// The first fault in bytes.
 #[derive(Clone, Copy)]
-pub(crate) struct Fault<'a> {
-    pub(crate) kind: FaultKind,
+pub struct Fault<'a> {
+    pub kind: FaultKind,
     /// The bytes from the place of the fault on. There are none where the bytes end too early.
-    pub(crate) rest: &'a [u8],
+    pub rest: &'a [u8],
 }
 
 /// Why reading stopped.
 #[derive(Clone, Copy)]
-pub(crate) enum Stop<'a> {
+pub enum Stop<'a> {
+    /// At the first fault.
     At(Fault<'a>),
+    /// Memory ran out.
     NoMemory,
 }
 
 /// The bytes end too early.
-pub(crate) fn cut<'a>() -> Fault<'a>
+pub fn cut<'a>() -> Fault<'a>
     ensures kind { result.kind ≡ FaultKind.Cut }
     ensures rest { result.rest.now ≡ [] }
 {

@@ -19,7 +19,7 @@ fn u16_at<'a>(bytes: &'a [u8]) -> Result<(u16, &'a [u8]), Fault<'a>>
 }
 
 /// A number of 4 bytes, low byte first.
-pub(crate) fn u32_at<'a>(bytes: &'a [u8]) -> Result<(u32, &'a [u8]), Fault<'a>>
+pub fn u32_at<'a>(bytes: &'a [u8]) -> Result<(u32, &'a [u8]), Fault<'a>>
     ensures { seen (λ x. (x.0, x.1.now)) result ≡ number_from w32 bytes.now }
 {
     match bytes.split_first_chunk() {
@@ -38,8 +38,8 @@ pub(crate) fn digest_at<'a>(bytes: &'a [u8]) -> Result<([u8; 20], &'a [u8]), Fau
     }
 }
 
-/// 32 bytes.
-pub(crate) fn hash_at<'a>(bytes: &'a [u8]) -> Result<([u8; 32], &'a [u8]), Fault<'a>>
+/// 32 bytes: a hash, or a txid.
+pub fn hash_at<'a>(bytes: &'a [u8]) -> Result<([u8; 32], &'a [u8]), Fault<'a>>
     ensures { seen (λ x. (x.0, x.1.now)) result ≡ piece_from 32 bytes.now }
 {
     match bytes.split_first_chunk() {
@@ -58,9 +58,9 @@ fn piece_at<'a>(count: usize, bytes: &'a [u8]) -> Result<(&'a [u8], &'a [u8]), F
     }
 }
 
-/// A name behind its length.
+/// A name behind its length, which is one byte.
 #[tactic(auto, unfolding(crate::specs::Reading::name_from))]
-pub(crate) fn name_at<'a>(bytes: &'a [u8]) -> Result<(&'a [u8], &'a [u8]), Fault<'a>>
+pub fn name_at<'a>(bytes: &'a [u8]) -> Result<(&'a [u8], &'a [u8]), Fault<'a>>
     ensures { seen (λ x. (x.0.now, x.1.now)) result ≡ name_from bytes.now }
 {
     match bytes.split_first() {
@@ -93,8 +93,9 @@ pub(crate) fn value_at<'a>(bytes: &'a [u8]) -> Result<(&'a [u8], &'a [u8]), Faul
     piece_at(len as usize, rest)
 }
 
+/// An outpoint: its txid, and its index of 4 bytes, low byte first.
 #[tactic(auto, unfolding(crate::specs::Reading::point_from))]
-pub(crate) fn point_at<'a>(bytes: &'a [u8]) -> Result<(OutPoint, &'a [u8]), Fault<'a>>
+pub fn point_at<'a>(bytes: &'a [u8]) -> Result<(OutPoint, &'a [u8]), Fault<'a>>
     ensures { seen (λ x. (x.0, x.1.now)) result ≡ point_from bytes.now }
 {
     let (txid, rest) = hash_at(bytes)?;

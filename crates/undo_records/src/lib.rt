@@ -1,22 +1,26 @@
 //! The text of the record that undoes a block, and the reading of that text.
+//!
+//! The readers and writers of its parts are public for texts that are made of the same parts. A reader takes the part at
+//! the front of the bytes, and gives what it found with the bytes behind it, or the first fault with the bytes from its
+//! place on.
 #![tactic(auto)]
 
-mod coins;
-mod fault;
-mod fields;
-mod found;
+pub mod coins;
+pub mod fault;
+pub mod fields;
+pub mod found;
 mod law;
-mod lists;
-mod ops;
-mod owned;
+pub mod lists;
+pub mod ops;
+pub mod owned;
 mod reading;
-mod text;
+pub mod text;
 mod version;
 mod writing;
 
 pub use chain_names::{Coin, HeldCoin, Item, Undo, UndoOp};
 pub use fault::UndoFault;
 pub use law::text_laws;
-pub use reading::{UndoV1, read, read_v1};
+pub use reading::{UndoV1, read, read_v1, undo_at};
 pub use version::Version;
-pub use writing::write;
+pub use writing::{add_undo, write};

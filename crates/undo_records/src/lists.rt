@@ -80,9 +80,9 @@ fn is_after(last: Option<OutPoint>, point: &OutPoint) -> bool
     }
 }
 
-/// An outpoint that is greater than the one before, if there is one.
+/// An outpoint that is greater than the one before, if there is one. One that isn't is a fault at its first byte.
 #[tactic(auto, unfolding(crate::specs::Reading::later_point_from))]
-fn later_point_at<'a>(
+pub fn later_point_at<'a>(
     last: Option<OutPoint>,
     bytes: &'a [u8],
 ) -> Result<(OutPoint, &'a [u8]), Fault<'a>>

@@ -13,13 +13,13 @@ use crate::found::{ChangeKind, FoundChange, FoundCoin, FoundOp};
 use crate::version::Version;
 
 /// The tag of a commitment (OP_NAME_NEW).
-pub(crate) const MADE: u8 = 0x51;
+pub const MADE: u8 = 0x51;
 
 /// The tag of a first change (OP_NAME_FIRSTUPDATE).
-pub(crate) const FIRST: u8 = 0x52;
+pub const FIRST: u8 = 0x52;
 
 /// The tag of an update (OP_NAME_UPDATE).
-pub(crate) const UPDATE: u8 = 0x53;
+pub const UPDATE: u8 = 0x53;
 
 /// The coin that a change of this kind spends.
 fn spent_coin_at<'a>(
@@ -66,11 +66,9 @@ fn made_at<'a>(bytes: &'a [u8]) -> Result<(FoundOp<'a>, &'a [u8]), Fault<'a>>
     Ok((FoundOp::New { made }, rest))
 }
 
+/// An operation, behind its tag. A tag other than `MADE`, `FIRST` or `UPDATE` is a fault at the tag.
 #[tactic(auto, unfolding(crate::specs::Reading::op_from))]
-pub(crate) fn op_at<'a>(
-    version: Version,
-    bytes: &'a [u8],
-) -> Result<(FoundOp<'a>, &'a [u8]), Fault<'a>>
+pub fn op_at<'a>(version: Version, bytes: &'a [u8]) -> Result<(FoundOp<'a>, &'a [u8]), Fault<'a>>
     ensures { seen (λ x. (seen_op x.0, x.1.now)) result ≡ op_from version bytes.now }
 {
     let Some((tag, rest)) = bytes.split_first() else {

@@ -9,7 +9,8 @@ use chain_names::{Coin, Item, UndoOp};
 use nmc_base::{Bytes, NoMemory, OutPoint};
 use std::alloc::Global;
 
-pub(crate) fn owned_coin(alloc: Global, found: FoundCoin<'_>) -> Result<Coin, NoMemory>
+/// The same coin.
+pub fn owned_coin(alloc: Global, found: FoundCoin<'_>) -> Result<Coin, NoMemory>
     ensures { IfOk result (λ coin. coin ≡ seen_coin found.entry) }
 {
     match found {
@@ -21,7 +22,8 @@ pub(crate) fn owned_coin(alloc: Global, found: FoundCoin<'_>) -> Result<Coin, No
     }
 }
 
-fn owned_item(alloc: Global, found: FoundItem<'_>) -> Result<Item, NoMemory>
+/// The same item.
+pub fn owned_item(alloc: Global, found: FoundItem<'_>) -> Result<Item, NoMemory>
     ensures { IfOk result (λ item. item ≡ seen_item found.entry) }
 {
     let value = Bytes::copy_of(alloc, found.value)?;
@@ -87,7 +89,8 @@ fn owned_change(
     Ok(change_op(kind, change.made, change.spent, coin, name, before))
 }
 
-pub(crate) fn owned_op(alloc: Global, found: FoundOp<'_>) -> Result<UndoOp, NoMemory>
+/// The same operation.
+pub fn owned_op(alloc: Global, found: FoundOp<'_>) -> Result<UndoOp, NoMemory>
     ensures { IfOk result (λ op. op ≡ seen_op found.entry) }
 {
     match found {

@@ -19,13 +19,14 @@ use nmc_base::{Hash32, RoomyList};
 use std::alloc::Global;
 
 /// A record whose items have no registration height: those of its field say nothing.
+#[derive(Drop)]
 pub struct UndoV1 {
     pub undo: Undo,
 }
 
-/// The record at the front, and the bytes after it.
+/// The record at the front, of a text of this version, and the bytes after it.
 #[tactic(auto, unfolding(crate::specs::Reading::undo_from))]
-fn undo_at<'a>(
+pub fn undo_at<'a>(
     alloc: Global,
     version: Version,
     bytes: &'a [u8],

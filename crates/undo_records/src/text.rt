@@ -1,4 +1,4 @@
-//! The writers of the parts of a record. Where memory runs out, half a text may stand at the list's end.
+//! The writers of the parts of a record, in version 2. Where memory runs out, half a text may stand at the list's end.
 
 ghost use Rattle.std.specs.Prelude.{◌≡◌, ◌++◌, ◌<◌, ◌≤◌, ◌^◌, ◌∷◌, length, OnOk};
 ghost use Rattle.std.specs.List.{flat_map, AllByRecursion};
@@ -14,22 +14,23 @@ use chain_names::{Coin, HeldCoin, Item, UndoOp};
 use nmc_base::{Bytes, NoMemory, OutPoint};
 
 /// A number of 4 bytes, low byte first.
-pub(crate) fn add_u32(out: &mut Bytes, number: u32) -> Result<(), NoMemory>
+pub fn add_u32(out: &mut Bytes, number: u32) -> Result<(), NoMemory>
     ensures { OnOk result (out.new ≡ out.old ++ to_le_bytes w32 number) }
 {
     out.extend(&number.to_le_bytes())
 }
 
+/// An outpoint.
 #[tactic(auto, unfolding(crate::specs::Text::point_text))]
-fn add_point(out: &mut Bytes, point: &OutPoint) -> Result<(), NoMemory>
+pub fn add_point(out: &mut Bytes, point: &OutPoint) -> Result<(), NoMemory>
     ensures { OnOk result (out.new ≡ out.old ++ point_text point.now) }
 {
     out.extend(&point.txid.0)?;
     add_u32(out, point.index)
 }
 
-/// A name behind its length.
-fn add_name(out: &mut Bytes, name: &[u8]) -> Result<(), NoMemory>
+/// A name behind its length, which is one byte.
+pub fn add_name(out: &mut Bytes, name: &[u8]) -> Result<(), NoMemory>
     requires { IsWritableName name.now }
     ensures { OnOk result (out.new ≡ out.old ++ name_text name.now) }
 {
@@ -37,8 +38,9 @@ fn add_name(out: &mut Bytes, name: &[u8]) -> Result<(), NoMemory>
     out.extend(name)
 }
 
+/// A coin behind its tag.
 #[tactic(auto, unfolding(crate::specs::Text::coin_text))]
-fn add_coin(out: &mut Bytes, coin: &Coin) -> Result<(), NoMemory>
+pub fn add_coin(out: &mut Bytes, coin: &Coin) -> Result<(), NoMemory>
     requires { HasShortName coin.now }
     ensures { OnOk result (out.new ≡ out.old ++ coin_text coin.now) }
 {
@@ -66,8 +68,9 @@ fn add_value(out: &mut Bytes, value: &[u8]) -> Result<(), NoMemory>
     out.extend(value)
 }
 
+/// An item of a history, with its registration height.
 #[tactic(auto, unfolding(crate::specs::Text::item_text))]
-fn add_item(out: &mut Bytes, item: &Item) -> Result<(), NoMemory>
+pub fn add_item(out: &mut Bytes, item: &Item) -> Result<(), NoMemory>
     requires { IsWritableItem item.now }
     ensures { OnOk result (out.new ≡ out.old ++ item_text Two item.now) }
 {
@@ -155,9 +158,10 @@ pub(crate) fn add_ops(out: &mut Bytes, ops: &[UndoOp]) -> Result<(), NoMemory>
     Ok(())
 }
 
+/// A coin behind its outpoint.
 #[tactic(auto, unfolding(crate::specs::Text::held_text))]
-fn add_held(out: &mut Bytes, held: &HeldCoin) -> Result<(), NoMemory>
-    requires { IsWritableHeld held.now }
+pub fn add_held(out: &mut Bytes, held: &HeldCoin) -> Result<(), NoMemory>
+    requires { HasShortName held.now.coin }
     ensures { OnOk result (out.new ≡ out.old ++ held_text held.now) }
 {
     add_point(out, &held.at)?;

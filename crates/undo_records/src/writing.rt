@@ -9,9 +9,9 @@ use crate::text::{add_expired, add_ops, add_u32};
 use chain_names::Undo;
 use nmc_base::{Bytes, NoMemory};
 
-/// Appends the text of a record. Where memory runs out, half a text may stand at the list's end.
+/// Appends the text of a record, in version 2. Where memory runs out, half a text may stand at the list's end.
 #[tactic(auto, unfolding(crate::specs::Text::undo_text))]
-fn add_undo(out: &mut Bytes, undo: &Undo) -> Result<(), NoMemory>
+pub fn add_undo(out: &mut Bytes, undo: &Undo) -> Result<(), NoMemory>
     requires { IsWritable (seen_undo undo.now) }
     ensures { OnOk result (out.new ≡ out.old ++ undo_text Two (seen_undo undo.now)) }
 {
@@ -22,7 +22,7 @@ fn add_undo(out: &mut Bytes, undo: &Undo) -> Result<(), NoMemory>
     add_expired(out, undo.expired.as_slice())
 }
 
-/// Appends the text of a record. Where memory runs out, the list stays as it was.
+/// Appends the text of a record, in version 2. Where memory runs out, the list stays as it was.
 ///
 /// Outpoints are ordered as `OutPoint`s are: by the bytes of the txids, and then by the index as a number.
 pub fn write(undo: &Undo, out: &mut Bytes) -> Result<(), NoMemory>

@@ -5,5 +5,6 @@ use Rattle.undo_records.proofs.lists.many_ops.Goals as goal
 
 pub loop-preserved : goal.loop-preserved
 loop-preserved c =
-    rw add-one (many_grown (op_from c.args.version) c.loop.ops.items c.args.count c.loop.counter c.loop.rest.now c.next_op.new.ops.items c.in_ok-after.after.now _
-    c.loop-test.true c.in_ok-after.ensures c.loop.invariant)
+    rw add-one (many_grown (op_from c.args.version)
+    (record { values = c.loop.ops.items; count = c.args.count; counter = c.loop.counter; rest = c.loop.rest.now; whole = _ })
+    c.next_op.new.ops.items c.in_ok-after.after.now c.loop-test.true c.in_ok-after.ensures c.loop.invariant)

@@ -8,7 +8,7 @@ pub returns-clause-read : goal.returns-clause-read
 returns-clause-read c = begins seen_undo Two c.args.bytes.now (λ i. omega (arith, c.type_inv.bytes i)) c.read_exactly.result c.read_exactly.ensures
 
 pub returns-clause-only : goal.returns-clause-only
-returns-clause-only c = only seen_undo Two c.args.bytes.now (λ i. omega (arith, c.type_inv.bytes i)) c.read_exactly.result c.read_exactly.ensures
+returns-clause-only c = only seen_undo Two c.args.bytes.now c.read_exactly.result c.read_exactly.ensures
 
 pub returns-clause-wrong : goal.returns-clause-wrong
 returns-clause-wrong c = cause seen_undo Two c.args.bytes.now (λ i. omega (arith, c.type_inv.bytes i)) c.read_exactly.result c.read_exactly.ensures

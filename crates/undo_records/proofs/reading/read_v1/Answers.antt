@@ -8,7 +8,7 @@ pub returns-clause-read : goal.returns-clause-read
 returns-clause-read c = begins seen_v1 One c.args.bytes.now (λ i. omega (arith, c.type_inv.bytes i)) c.exactly_v1.result c.exactly_v1.ensures
 
 pub returns-clause-only : goal.returns-clause-only
-returns-clause-only c = only seen_v1 One c.args.bytes.now (λ i. omega (arith, c.type_inv.bytes i)) c.exactly_v1.result c.exactly_v1.ensures
+returns-clause-only c = only seen_v1 One c.args.bytes.now c.exactly_v1.result c.exactly_v1.ensures
 
 pub returns-clause-wrong : goal.returns-clause-wrong
 returns-clause-wrong c = cause seen_v1 One c.args.bytes.now (λ i. omega (arith, c.type_inv.bytes i)) c.exactly_v1.result c.exactly_v1.ensures
