@@ -5,7 +5,7 @@ use Rattle.std.proofs.lemmas.List.Elements.{All-push, All-weaker, All-get_or, Al
 use borrow.Author.Tests.{ltb-true}
 use Rattle.std.proofs.lemmas.Option.{same_Some}
 use Rattle.serde_json.specs.Data.{Members}
-use Rattle.import_expand.specs.Sources.{Live, sources_of, child_of, entries}
+use Rattle.import_expand.specs.Sources.{Live, sources_of, child_of}
 use Rattle.import_expand.specs.Books as books
 use Rattle.import_expand.specs.Books.{objects, IsAt, Shows, Grows}
 use Rattle.import_expand.specs.Rooms.{objects_in, nodes_in, numbers_of, IsNodeAt, IsNode, GrowsBy, IsPlain, IsShown, IsChild, IsTop, IsSound, Keeps, LacksEntry, Later}
