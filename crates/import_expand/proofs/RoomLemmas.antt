@@ -208,19 +208,19 @@ pub placed : (live : Live) (a b c : Room) (at : ℕ) (ns : List Members) → Lat
 placed live a b c at ns l put node = record { later = later_both live a b c l (keeps_later live b c put l.sound); node = node }
 
 -- a node's child that was found just now
-pub child_new : (live : Live) (a c d : Room) (of at : ℕ) (label : List ℕ) (ns : List Members) → IsNode a of ns → Placed live a c at (child_of live ns label)
-    → ((other : Live) (ms : List Members) → IsNode c of ms → IsNode c at (child_of other ms label) → IsSound other c → Later other c d) → Placed live a d at (child_of live ns label)
-child_new live a c d of at label ns node new more =
-    let last : Later live c d = more live ns (node_after live a c of ns new.later node) new.node new.later.sound in
-    record { later = later_both live a c d new.later last; node = node_after live c d at (child_of live ns label) last new.node }
+pub child_new : (live : Live) (a c d : Room) (of at : ℕ) (label : List ℕ) (n : NodeOf a of) → Placed live a c at (child_of live n.of label)
+    → ((other : Live) (ms : List Members) → IsNode c of ms → IsNode c at (child_of other ms label) → IsSound other c → Later other c d) → Placed live a d at (child_of live n.of label)
+child_new live a c d of at label n new more =
+    let last : Later live c d = more live n.of (node_after live a c of n.of new.later n.is) new.node new.later.sound in
+    record { later = later_both live a c d new.later last; node = node_after live c d at (child_of live n.of label) last new.node }
 
 -- a node's child under `*`, where no source has an entry under the label
 pub child_any : (live : Live) (a c : Room) (of at : ℕ) (label : List ℕ) (lacks : LacksEntry a of label) → Placed live a c at (child_of live lacks.of (42 ∷ [])) → Placed live a c at (child_of live lacks.of label)
 child_any live a c of at label lacks new = record { later = new.later; node = subst (λ (x : List Members). IsNodeAt (objects_in c) (nodes_in c) at x) (child_of_any live lacks.of label lacks.none) new.node }
 
 -- the child of the sources that a node has
-pub child_by : (live : Live) (a d : Room) (of at : ℕ) (label : List ℕ) (ms ns : List Members) → IsNode a of ms → IsNode a of ns → Placed live a d at (child_of live ms label) → IsNode d at (child_of live ns label)
-child_by live a d of at label ms ns mine other new = subst (λ (x : List Members). IsNodeAt (objects_in d) (nodes_in d) at (child_of live x label)) (node_one (objects_in a) (nodes_in a) of ms ns mine other) new.node
+pub child_by : (live : Live) (a d : Room) (of at : ℕ) (label : List ℕ) (n : NodeOf a of) (ns : List Members) → IsNode a of ns → Placed live a d at (child_of live n.of label) → IsNode d at (child_of live ns label)
+child_by live a d of at label n ns node new = subst (λ (x : List Members). IsNodeAt (objects_in d) (nodes_in d) at (child_of live x label)) (node_one (objects_in a) (nodes_in a) of n.of ns n.is node) new.node
 
 -- a node at the top that was found just now
 pub top_new : (live : Live) (a c d : Room) (of at : ℕ) (o : Members) → IsAt (objects_in a) of o → Placed live a c at (sources_of live 0 o)
