@@ -1,4 +1,4 @@
-use Rattle.std.proofs.Common.{arith, refl, ap, sym, ◌∙◌, ◌-◌, drop, get_or, []}
+use Rattle.std.proofs.Common.{arith, refl, sym, ◌∙◌, ◌-◌, drop, get_or, []}
 use Rattle.import_expand.specs.Sources.{child_of}
 use Rattle.bit_resolver.specs.Nodes.{Node, node_at}
 use Rattle.bit_resolver.specs.Places.{own_of}
