@@ -51,6 +51,7 @@ impl Coins {
     pub fn widths(&self)
         ensures { AreCoinsMeasured (coins_in self.now) }
     {
+        // A proof knows what the type keeps where a field is looked at.
         let _places = &self.places;
     }
 

@@ -56,6 +56,7 @@ impl Table {
     pub fn widths(&self)
         ensures { AreItemsMeasured (names_in self.now) }
     {
+        // A proof knows what the type keeps where a field is looked at.
         let _places = &self.places;
     }
 
