@@ -78,7 +78,8 @@ impl Coins {
     {
         steps.tick();
         if !self.places.contains_key(&at) {
-            drop(self.places.insert(at, None)?);
+            let before = self.places.insert(at, None)?;
+            drop(before);
         }
         Ok(())
     }

@@ -205,7 +205,8 @@ impl Table {
         let key = Vec::from_slice(alloc, name)?;
         let mut history = RoomyList::new(alloc);
         history.reserve(items)?;
-        drop(self.places.insert(key, history)?);
+        let before = self.places.insert(key, history)?;
+        drop(before);
         Ok(())
     }
 }
