@@ -68,7 +68,7 @@ impl Row {
         ensures err { OnErr result (self.new ≡ self.old) }
     {
         if !self.points.contains_key(&at) {
-            self.points.insert(at, false)?;
+            let _before = self.points.insert(at, false)?;
         }
         Ok(())
     }

@@ -51,6 +51,7 @@ impl Coins {
     pub fn widths(&self)
         ensures { AreCoinsMeasured (coins_in self.now) }
     {
+        // A proof knows what the type keeps where a field is looked at.
         let _places = &self.places;
     }
 
@@ -77,7 +78,8 @@ impl Coins {
     {
         steps.tick();
         if !self.places.contains_key(&at) {
-            drop(self.places.insert(at, None)?);
+            let before = self.places.insert(at, None)?;
+            drop(before);
         }
         Ok(())
     }

@@ -56,6 +56,7 @@ impl Table {
     pub fn widths(&self)
         ensures { AreItemsMeasured (names_in self.now) }
     {
+        // A proof knows what the type keeps where a field is looked at.
         let _places = &self.places;
     }
 
@@ -204,7 +205,8 @@ impl Table {
         let key = Vec::from_slice(alloc, name)?;
         let mut history = RoomyList::new(alloc);
         history.reserve(items)?;
-        drop(self.places.insert(key, history)?);
+        let before = self.places.insert(key, history)?;
+        drop(before);
         Ok(())
     }
 }

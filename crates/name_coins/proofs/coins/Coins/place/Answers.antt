@@ -16,16 +16,16 @@ no_coin : (place : Option (Option Coin)) → false ≡ is_some place → filled_
 no_coin None h = refl
 no_coin (Some held) h = absurd (true≢false (sym h))
 
-pub returns-in_ok-insert-clause-coins : goal.returns-in_ok-insert-clause-coins
-returns-in_ok-insert-clause-coins g c =
-    rw (← c.self.view_is) (read_at-kept same_point filled_by same_point-true _ _ _ _ c.in_ok-insert.ensures.updates.0 (no_coin _ c.if-not-contains_key.ensures))
+pub returns-in_ok-before-clause-coins : goal.returns-in_ok-before-clause-coins
+returns-in_ok-before-clause-coins g c =
+    rw (← c.self.view_is) (read_at-kept same_point filled_by same_point-true _ _ _ _ c.in_ok-before.ensures.updates.0 (no_coin _ c.if-not-contains_key.ensures))
 
-pub returns-in_ok-insert-clause-ok : goal.returns-in_ok-insert-clause-ok
-returns-in_ok-insert-clause-ok g c = rw (← c.self.view_is) (read_at-changed same_point is_some _ _ _ _ c.in_ok-insert.ensures.updates.0)
+pub returns-in_ok-before-clause-ok : goal.returns-in_ok-before-clause-ok
+returns-in_ok-before-clause-ok g c = rw (← c.self.view_is) (read_at-changed same_point is_some _ _ _ _ c.in_ok-before.ensures.updates.0)
 
-pub returns-in_ok-insert-clause-list : goal.returns-in_ok-insert-clause-list
-returns-in_ok-insert-clause-list g c =
-    rw (c.in_ok-insert.ensures.entries, ← c.self.view_is) (keys_insert_entry same_point c.self.inside.places.entries c.args.at None)
+pub returns-in_ok-before-clause-list : goal.returns-in_ok-before-clause-list
+returns-in_ok-before-clause-list g c =
+    rw (c.in_ok-before.ensures.entries, ← c.self.view_is) (keys_insert_entry same_point c.self.inside.places.entries c.args.at None)
 
 pub returns-else-not-contains_key-clause-list : goal.returns-else-not-contains_key-clause-list
 returns-else-not-contains_key-clause-list g c =
@@ -35,5 +35,5 @@ returns-else-not-contains_key-clause-list g c =
 
 pub invariant_of-self-then-not-contains_key : goal.invariant_of-self-then-not-contains_key
 invariant_of-self-then-not-contains_key g c =
-    let kept = read_at-kept same_point filled_by same_point-true c.self.inside.places.entries _ _ _ c.in_ok-insert.ensures.updates.0 (no_coin _ c.if-not-contains_key.ensures) in
-    (subst AreCoinsMeasured (sym kept) c.self.invariant.0, c.in_ok-insert.ensures.unique)
+    let kept = read_at-kept same_point filled_by same_point-true c.self.inside.places.entries _ _ _ c.in_ok-before.ensures.updates.0 (no_coin _ c.if-not-contains_key.ensures) in
+    (subst AreCoinsMeasured (sym kept) c.self.invariant.0, c.in_ok-before.ensures.unique)
