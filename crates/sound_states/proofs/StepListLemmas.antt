@@ -2,7 +2,6 @@
 use Rattle.std.proofs.Common.{◌≡◌, ℕ, Bool, true, List, [], ◌∷◌, ⊎_elim, refl, sym, subst}
 use Rattle.std.specs.Prelude.{Option, Some, None}
 use Rattle.std.specs.List.{AllByRecursion, list_any}
-use Rattle.std.specs.Str.{bytes_eq}
 use Rattle.std.proofs.lemmas.Bool.{or_cases, or_left, or_right}
 use Rattle.nmc_base.specs.declared.hashes.OutPoint.{OutPoint}
 use Rattle.nmc_base.specs.declared.chain_ends.Profile.{Profile}
@@ -11,7 +10,6 @@ use Rattle.chain_names.specs.declared.coin.Coin.TheVariants.{New, Named}
 use Rattle.chain_names.specs.declared.coin.HeldCoin.{HeldCoin}
 use Rattle.chain_names.specs.declared.undo.UndoOp.{UndoOp}
 use Rattle.chain_names.specs.declared.undo.UndoOp.TheVariants.{New as undo_new, First as undo_first, Update as undo_update}
-use Rattle.chain_names.specs.Points.{same_point}
 use Rattle.chain_names.specs.Coins.{Maps}
 use Rattle.chain_names.specs.Expired.{is_held_at}
 use Rattle.chain_names.specs.Undo.{UndoRecord}
@@ -27,6 +25,15 @@ use Rattle.sound_states.specs.Walk.{IsWalkStep}
 any_gives : {X : Type 0} (P : X → Type 0) (p : X → Bool) (Q : Type 0) (xs : List X) → AllByRecursion P xs → ((x : X) → P x → p x ≡ true → Q) → list_any p xs ≡ true → Q
 any_gives P p Q [] all f e = absurd (true_is_not_false (sym e))
 any_gives P p Q (x ∷ xs) all f e = ⊎_elim (λ here. f x all.0 here) (λ there. any_gives P p Q xs all.1 f there) (or_cases (p x) (list_any p xs) e)
+
+-- what holds of each key that one of them has gives what holds of each of them
+all_from : {X K : Type 0} (P : X → Type 0) (has : K → X → Bool) (Q : K → Type 0) → ((x : X) → ((k : K) → has k x ≡ true → Q k) → P x) → (xs : List X)
+    → ((k : K) → list_any (has k) xs ≡ true → Q k) → AllByRecursion P xs
+all_from P has Q one [] f = tt
+all_from P has Q one (x ∷ xs) f = (
+  one x (λ k e. f k (or_left (has k x) (list_any (has k) xs) e)),
+  all_from P has Q one xs (λ k e. f k (or_right (has k x) (list_any (has k) xs) e)),
+)
 
 module _ (profile : Profile) (tip : ℕ) (u : UndoRecord) (maps left : Maps) where
   -- ---- from the lists
@@ -61,38 +68,35 @@ module _ (profile : Profile) (tip : ℕ) (u : UndoRecord) (maps left : Maps) whe
 
   -- ---- to the lists
 
-  all_had : (ops : List UndoOp) → ((name : List ℕ) → list_any (changes name) ops ≡ true → HasItsCoin profile tip maps name) → AllByRecursion (HadCoin profile tip maps) ops
-  all_had [] f = tt
-  all_had (undo_new made ∷ ops) f = (tt, all_had ops f)
-  all_had (undo_first made spent coin name before ∷ ops) f =
-      (f name (or_left (bytes_eq name name) (list_any (changes name) ops) (bytes_eq-self name)), all_had ops (λ n e. f n (or_right (bytes_eq name n) (list_any (changes n) ops) e)))
-  all_had (undo_update made spent coin name before ∷ ops) f =
-      (f name (or_left (bytes_eq name name) (list_any (changes name) ops) (bytes_eq-self name)), all_had ops (λ n e. f n (or_right (bytes_eq name n) (list_any (changes n) ops) e)))
+  had_of : (op : UndoOp) → ((name : List ℕ) → changes name op ≡ true → HasItsCoin profile tip maps name) → HadCoin profile tip maps op
+  had_of (undo_new made) f = tt
+  had_of (undo_first made spent coin name before) f = f name (bytes_eq-self name)
+  had_of (undo_update made spent coin name before) f = f name (bytes_eq-self name)
 
-  all_spent : (ops : List UndoOp) → ((point : OutPoint) → list_any (returns point) ops ≡ true → PointStands profile tip left point) → AllByRecursion (SpentStands profile tip left) ops
-  all_spent [] f = tt
-  all_spent (undo_new made ∷ ops) f = (tt, all_spent ops f)
-  all_spent (undo_first made spent coin name before ∷ ops) f =
-      (f spent (or_left (same_point spent spent) (list_any (returns spent) ops) (same_point-self spent)), all_spent ops (λ p e. f p (or_right (same_point spent p) (list_any (returns p) ops) e)))
-  all_spent (undo_update made spent coin name before ∷ ops) f =
-      (f spent (or_left (same_point spent spent) (list_any (returns spent) ops) (same_point-self spent)), all_spent ops (λ p e. f p (or_right (same_point spent p) (list_any (returns p) ops) e)))
+  spent_of : (op : UndoOp) → ((point : OutPoint) → returns point op ≡ true → PointStands profile tip left point) → SpentStands profile tip left op
+  spent_of (undo_new made) f = tt
+  spent_of (undo_first made spent coin name before) f = f spent (same_point-self spent)
+  spent_of (undo_update made spent coin name before) f = f spent (same_point-self spent)
 
-  all_held : (helds : List HeldCoin) → ((point : OutPoint) → list_any (is_held_at point) helds ≡ true → PointStands profile tip left point) → AllByRecursion (HeldStands profile tip left) helds
-  all_held [] f = tt
-  all_held (held ∷ helds) f =
-      (f held.at (or_left (same_point held.at held.at) (list_any (is_held_at held.at) helds) (same_point-self held.at)), all_held helds (λ p e. f p (or_right (same_point held.at p) (list_any (is_held_at p) helds) e)))
+  held_of : (held : HeldCoin) → ((point : OutPoint) → is_held_at point held ≡ true → PointStands profile tip left point) → HeldStands profile tip left held
+  held_of held f = f held.at (same_point-self held.at)
 
-  stands_of : IsWalkStep profile tip u maps left → (point : OutPoint) → is_put_back point u ≡ true → (coin : Option Coin) → left.coins point ≡ coin → StandsIfNamed profile tip left point coin
-  stands_of step point e None held = tt
-  stands_of step point e (Some (New hash made)) held = tt
-  stands_of step point e (Some (Named name made)) held = step.put_back point name made e held
+  stands_of : IsWalkStep profile tip u maps left → (point : OutPoint) → is_put_back point u ≡ true → PointStands profile tip left point
+  stands_of step point e = by (left.coins point) refl
+    where
+      by : (coin : Option Coin) → left.coins point ≡ coin → StandsIfNamed profile tip left point coin
+      by None held = tt
+      by (Some (New hash made)) held = tt
+      by (Some (Named name made)) held = step.put_back point name made e held
 
   pub step_lists : IsWalkStep profile tip u maps left → IsStepByLists profile tip u maps left
   step_lists step = record {
     limits = step.limits;
     fits = step.fits;
-    had_coin = all_had u.ops step.had_coin;
+    had_coin = all_from (HadCoin profile tip maps) changes (HasItsCoin profile tip maps) had_of u.ops step.had_coin;
     not_asked = step.not_asked;
-    spent = all_spent u.ops (λ point e. stands_of step point (or_left (list_any (returns point) u.ops) (list_any (is_held_at point) u.expired) e) (left.coins point) refl);
-    expired = all_held u.expired (λ point e. stands_of step point (or_right (list_any (returns point) u.ops) (list_any (is_held_at point) u.expired) e) (left.coins point) refl);
+    spent = all_from (SpentStands profile tip left) returns (PointStands profile tip left) spent_of u.ops
+        (λ point e. stands_of step point (or_left (list_any (returns point) u.ops) (list_any (is_held_at point) u.expired) e));
+    expired = all_from (HeldStands profile tip left) is_held_at (PointStands profile tip left) held_of u.expired
+        (λ point e. stands_of step point (or_right (list_any (returns point) u.ops) (list_any (is_held_at point) u.expired) e));
   }

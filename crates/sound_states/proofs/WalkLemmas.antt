@@ -65,6 +65,10 @@ record Stepped : Type 0 where
 abbrev left_by : Stepped → Maps
 left_by s = undone s.u.ops s.u.expired s.maps
 
+-- the first of a walk
+abbrev first_step : (profile : Profile) (base tip : ℕ) (maps : Maps) (u : UndoRecord) (us : List UndoRecord) → IsWalk profile base tip maps (u ∷ us) → Stepped
+first_step profile base tip maps u us walk = record { profile = profile; tip = tip; below = walk.0; u = u; maps = maps; above = walk.1; step = walk.2 }
+
 low_item_step : (s : Stepped) (name : List ℕ) (item : Item) → entry_of (s.maps.names name) ≡ Some item
     → (entry_of ((left_by s).names name) ≡ Some item → item.height ≤ s.below) → (b : Bool) → is_changed name s.u ≡ b → item.height ≤ s.tip
 low_item_step s name item e rest true is =
@@ -82,7 +86,8 @@ low_items profile base tip maps [] walk name item e =
     let low : item.height ≤ base = walk.1.items_low name item e in
     omega arith
 low_items profile base tip maps (u ∷ us) walk name item e =
-    low_item_step (record { profile = profile; tip = tip; below = walk.0; u = u; maps = maps; above = walk.1; step = walk.2 }) name item e (low_items profile base walk.0 (undone u.ops u.expired maps) us walk.3 name item) (is_changed name u) refl
+    low_item_step (first_step profile base tip maps u us walk) name item e (low_items profile base walk.0 (undone u.ops u.expired maps) us walk.3 name item)
+    (is_changed name u) refl
 
 -- A coin that stands in the next block, of a name that the block didn't change, was there with the block: else it was put
 -- back although the state asked for it already.
@@ -129,7 +134,7 @@ have_coin_step s name rest low false is = λ item e live.
 have_coins : (profile : Profile) (base tip : ℕ) (maps : Maps) (us : List UndoRecord) → IsWalk profile base tip maps us → (name : List ℕ) → HasItsCoin profile tip maps name
 have_coins profile base tip maps [] walk name = subst (λ h. HasItsCoin profile h maps name) (sym walk.0) (walk.1.have_coins name)
 have_coins profile base tip maps (u ∷ us) walk name =
-    have_coin_step (record { profile = profile; tip = tip; below = walk.0; u = u; maps = maps; above = walk.1; step = walk.2 }) name (have_coins profile base walk.0 (undone u.ops u.expired maps) us walk.3 name)
+    have_coin_step (first_step profile base tip maps u us walk) name (have_coins profile base walk.0 (undone u.ops u.expired maps) us walk.3 name)
     (low_coins profile base walk.0 (undone u.ops u.expired maps) us walk.3) (is_changed name u) refl
 
 -- ---- a walk is sound
