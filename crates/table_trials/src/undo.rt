@@ -1,11 +1,28 @@
+ghost use Rattle.std.specs.Prelude.{IfOk};
+ghost use Rattle.chain_names.specs.Seen.{seen_undo};
+ghost use Rattle.chain_names.specs.Writable.{IsWritable};
+
 use crate::comparing::same;
 use nmc_base::{Bytes, NoMemory};
 use std::alloc::Global;
+use std::process::Abort;
 use std::test::Fail;
-use undo_records::{UndoFault, read, write};
+use undo_records::{Undo, UndoFault, Version, read, read_v1, write};
 
-/// The length of the text.
+/// The length of the text of version 1.
 const LEN: usize = 438;
+
+/// The place of the only item's registration height, which has 4 bytes in version 2 and none in version 1.
+const REGISTERED_AT: usize = 267;
+
+/// A place of the text of version 1, in that of this version.
+fn place(version: Version, at: usize) -> usize {
+    match version {
+        Version::One => at,
+        Version::Two if at < REGISTERED_AT => at,
+        Version::Two => at.saturating_add(4),
+    }
+}
 
 /// An outpoint whose txid has this byte 32 times.
 fn add_point(out: &mut Bytes, byte: u8, index: &[u8; 4]) -> Result<(), NoMemory> {
@@ -13,8 +30,9 @@ fn add_point(out: &mut Bytes, byte: u8, index: &[u8; 4]) -> Result<(), NoMemory>
     out.extend(index)
 }
 
-/// A commitment, a first change with nothing before it, and an update with an item before it.
-fn add_ops(out: &mut Bytes) -> Result<(), NoMemory> {
+/// A commitment, a first change with nothing before it, and an update with an item before it that has this registration
+/// height.
+fn add_ops(out: &mut Bytes, registered: &[u8]) -> Result<(), NoMemory> {
     out.extend(&[3, 0, 0, 0, 0x51])?;
     add_point(out, 1, &[1, 0, 0, 0])?;
     out.extend(&[0x52])?;
@@ -26,6 +44,7 @@ fn add_ops(out: &mut Bytes) -> Result<(), NoMemory> {
     add_point(out, 5, &[0, 0, 0, 0])?;
     add_point(out, 2, &[2, 1, 0, 0])?;
     out.extend(b"\x02\x06\x01\x00\x00\x03d/a\x03d/a\x01\x06\x01\x00\x00")?;
+    out.extend(registered)?;
     add_point(out, 2, &[2, 1, 0, 0])?;
     out.extend(b"\x02\x00{}")
 }
@@ -41,27 +60,49 @@ fn add_expired(out: &mut Bytes) -> Result<(), NoMemory> {
     out.extend(b"\x02\x07\x00\x00\x00\x00")
 }
 
-/// The text of a record with an operation of each kind.
-fn text(alloc: Global) -> Result<Bytes, NoMemory> {
+/// The text of a record with an operation of each kind, and this registration height.
+fn text_with(alloc: Global, registered: &[u8]) -> Result<Bytes, NoMemory> {
     let mut text = Bytes::new(alloc);
     text.extend(&[0xb0; 32])?;
-    add_ops(&mut text)?;
+    add_ops(&mut text, registered)?;
     add_expired(&mut text)?;
     Ok(text)
 }
 
+/// The text of this version. The registration height is 13.
+fn text(alloc: Global, version: Version) -> Result<Bytes, NoMemory> {
+    match version {
+        Version::One => text_with(alloc, &[]),
+        Version::Two => text_with(alloc, &[13, 0, 0, 0]),
+    }
+}
+
+/// What a text of this version is read as, with its length.
+fn read_as(alloc: Global, version: Version, text: &[u8]) -> Result<(Undo, usize), UndoFault>
+    ensures { IfOk result (λ x. IsWritable (seen_undo x.0)) }
+{
+    match version {
+        Version::One => {
+            let (read, len) = read_v1(alloc, text)?;
+            Ok((read.undo, len))
+        }
+        Version::Two => read(alloc, text),
+    }
+}
+
 /// The text with another byte at a place.
-fn changed(alloc: Global, at: usize, byte: u8) -> Result<Bytes, NoMemory> {
-    let mut text = text(alloc)?;
-    if let Some(place) = text.as_mut_slice().get_mut(at) {
+fn changed(alloc: Global, version: Version, at: usize, byte: u8) -> Result<Bytes, NoMemory> {
+    let mut text = text(alloc, version)?;
+    if let Some(place) = text.as_mut_slice().get_mut(place(version, at)) {
         *place = byte;
     }
     Ok(text)
 }
 
-/// What is written of the record that the text is read as, behind other bytes.
-fn written(alloc: Global, text: &Bytes) -> Result<Bytes, Fail> {
-    let (undo, _len) = read(alloc, text.as_slice())?;
+/// What is written of the record that the text of this version is read as.
+fn written(alloc: Global, version: Version) -> Result<Bytes, Fail> {
+    let text = text(alloc, version)?;
+    let (undo, _len) = read_as(alloc, version, text.as_slice())?;
     let mut out = Bytes::new(alloc);
     write(&undo, &mut out)?;
     Ok(out)
@@ -69,13 +110,21 @@ fn written(alloc: Global, text: &Bytes) -> Result<Bytes, Fail> {
 
 #[test]
 fn writes_what_was_read(rt: HostRuntime) -> Result<(), Fail> {
-    let text = text(rt.alloc())?;
-    let out = written(rt.alloc(), &text)?;
+    let text = text(rt.alloc(), Version::Two)?;
+    let out = written(rt.alloc(), Version::Two)?;
     same(&rt, out.as_slice(), text.as_slice());
     Ok(())
 }
 
-/// A byte that is put at a place, and the fault that it makes.
+#[test]
+fn writes_version_1_with_heights_of_0(rt: HostRuntime) -> Result<(), Fail> {
+    let text = text_with(rt.alloc(), &[0; 4])?;
+    let out = written(rt.alloc(), Version::One)?;
+    same(&rt, out.as_slice(), text.as_slice());
+    Ok(())
+}
+
+/// A byte that is put at a place of the text of version 1, and the fault that it makes.
 static HOSTILE: [(usize, u8, UndoFault); 19] = [
     // an operation's tag
     (36, 0x50, UndoFault::BadTag { at: 36 }),
@@ -106,16 +155,60 @@ static HOSTILE: [(usize, u8, UndoFault); 19] = [
     (437, 1, UndoFault::Cut { at: LEN }),
 ];
 
-fn faulted(alloc: Global, at: usize, byte: u8) -> Result<Option<UndoFault>, Fail> {
-    let bytes = changed(alloc, at, byte)?;
-    Ok(read(alloc, bytes.as_slice()).err())
+/// The fault of version 1, in this version.
+fn placed(version: Version, fault: UndoFault) -> UndoFault {
+    match fault {
+        UndoFault::Cut { at } => UndoFault::Cut {
+            at: place(version, at),
+        },
+        UndoFault::BadTag { at } => UndoFault::BadTag {
+            at: place(version, at),
+        },
+        UndoFault::Unsorted { at } => UndoFault::Unsorted {
+            at: place(version, at),
+        },
+        UndoFault::NoMemory => UndoFault::NoMemory,
+    }
+}
+
+/// Whether each change of the text of this version makes its fault.
+fn are_faults(rt: &impl Abort, alloc: Global, version: Version) -> Result<(), Fail> {
+    for &(at, byte, fault) in &HOSTILE {
+        let bytes = changed(alloc, version, at, byte)?;
+        let found = read_as(alloc, version, bytes.as_slice()).err();
+        assert!(rt; found == Some(placed(version, fault)));
+    }
+    Ok(())
 }
 
 #[test]
 fn tells_the_first_fault(rt: HostRuntime) -> Result<(), Fail> {
-    for &(at, byte, fault) in &HOSTILE {
-        let found = faulted(rt.alloc(), at, byte)?;
-        assert!(rt; found == Some(fault));
+    are_faults(&rt, rt.alloc(), Version::Two)
+}
+
+#[test]
+fn tells_the_first_fault_of_version_1(rt: HostRuntime) -> Result<(), Fail> {
+    are_faults(&rt, rt.alloc(), Version::One)
+}
+
+/// Texts of 40 bytes that claim 2^32-1 operations, and as many expired coins. So many would take hundreds of gigabytes.
+static CLAIMS: [[u8; 8]; 2] = [
+    [0xff, 0xff, 0xff, 0xff, 0x51, 0, 0, 0],
+    [0, 0, 0, 0, 0xff, 0xff, 0xff, 0xff],
+];
+
+/// The answer on such a text, behind the hash of a block.
+fn claimed(alloc: Global, version: Version, claim: &[u8]) -> Result<Option<UndoFault>, NoMemory> {
+    let mut text = Bytes::copy_of(alloc, &[0xb0; 32])?;
+    text.extend(claim)?;
+    Ok(read_as(alloc, version, text.as_slice()).err())
+}
+
+#[test]
+fn a_number_alone_takes_no_memory(rt: HostRuntime) -> Result<(), Fail> {
+    for claim in &CLAIMS {
+        assert!(rt; claimed(rt.alloc(), Version::One, claim)? == Some(UndoFault::Cut { at: 40 }));
+        assert!(rt; claimed(rt.alloc(), Version::Two, claim)? == Some(UndoFault::Cut { at: 40 }));
     }
     Ok(())
 }
@@ -149,13 +242,13 @@ fn written_or_not(alloc: Global, text: &[u8]) -> Option<bool> {
     let (undo, _len) = read(alloc, text).ok()?;
     let mut out = Bytes::copy_of(alloc, b"before").ok()?;
     match write(&undo, &mut out) {
-        Ok(()) => Some(out.as_slice().len() == 6 + LEN),
+        Ok(()) => Some(out.as_slice().len() == place(Version::Two, LEN).saturating_add(6)),
         Err(NoMemory) => Some(out.as_slice() == b"before".as_slice()),
     }
 }
 
 fn with_any_memory(alloc: Global) -> Option<bool> {
-    let text = text(alloc).ok()?;
+    let text = text(alloc, Version::Two).ok()?;
     written_or_not(alloc, text.as_slice())
 }
 
