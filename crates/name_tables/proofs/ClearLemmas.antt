@@ -1,6 +1,6 @@
 -- Places are given up, one coin after the other.
 use Rattle.std.proofs.Common.{◌≡◌, ℕ, Bool, true, false, cond, ◌&&◌, List, [], ◌∷◌, refl, sym, ap, subst, ◌∙◌}
-use Rattle.std.specs.Prelude.{Some, ◌||◌, ◌==◌, nat_eq}
+use Rattle.std.specs.Prelude.{Some, ◌||◌}
 use Rattle.std.specs.Option.{is_some}
 use Rattle.std.specs.List.{list_any}
 use Rattle.std.specs.Cmp.{unsigned_Decides}
@@ -11,7 +11,7 @@ use Rattle.chain_names.specs.declared.coin.Coin.TheVariants.{Named}
 use Rattle.chain_names.specs.declared.coin.HeldCoin.{HeldCoin}
 use Rattle.chain_names.specs.declared.undo.UndoOp.{UndoOp}
 use Rattle.chain_names.specs.declared.undo.UndoOp.TheVariants.{New as undo_new, First as undo_first, Update as undo_update}
-use Rattle.chain_names.specs.Points.{same_point, changed}
+use Rattle.chain_names.specs.Points.{same_point}
 use Rattle.chain_names.specs.Tables.{CoinSlots, QueueSlots, coins_in, coin_places, names_in, queued_in, queue_places, is_named_at, FilledBut, AreNamesFilled}
 use Rattle.chain_names.proofs.Points.{same_point-Decides}
 use Rattle.chain_names.proofs.Shown.{true_is_not_false}
@@ -21,32 +21,27 @@ use Rattle.name_tables.specs.Places.{spends, spends_at, is_queued_at, AreFilledB
 use Rattle.name_tables.specs.Clearing.{is_row_of, GivesUp, GivesUpOp}
 use Rattle.name_tables.specs.declared.tables.Tables.{Tables}
 use Rattle.name_tables.proofs.ListLemmas.{or_left, or_right, or_both}
-use Rattle.name_tables.proofs.PlaceLemmas.{row_changed, coins_all_filled, rows_all_filled}
+use Rattle.name_tables.proofs.PlaceLemmas.{HasCoinPlace, HasRowPlace, SpendsCoin, row_is, opening_spends, update_spends, coins_all_filled, rows_all_filled}
 
 -- ---- one coin's places
 
 pub up_named : (old : Tables) (coins : CoinSlots) (queue : QueueSlots) (at : OutPoint) (coin : Coin) (name : List ℕ) (height : ℕ) → coin ≡ Named name height
-    → coins_in coins ≡ coins_in old.coins → coin_places coins ≡ changed same_point (coin_places old.coins) at (is_some (coins_in old.coins at))
-    → queued_in queue ≡ queued_in old.queue
-    → queue_places queue ≡ changed nat_eq (queue_places old.queue) height (changed same_point (queue_places old.queue height) at (queued_in old.queue height at))
+    → HasCoinPlace old.coins coins at (is_some (coins_in old.coins at)) → HasRowPlace old.queue queue height at (queued_in old.queue height at)
     → GivesUp old (record { coins = coins; names = old.names; queue = queue }) at coin
-up_named old coins queue at coin name height is same places queued rows = record {
-  coins_same = same;
-  queue_same = queued;
+up_named old coins queue at coin name height is place row = record {
+  coins_same = place.same;
+  queue_same = row.same;
   names = refl;
-  coins = places;
+  coins = place.places;
   row = λ h point here.
       let both = sym (ap (λ c. is_named_at h (Some c) && same_point at point) is) ∙ here in
-      ap (λ q. q h point) rows
-      ∙ row_changed (queue_places old.queue) height h at point (queued_in old.queue height at) (height == h) (same_point at point) refl refl
+      row_is row h point
       ∙ ap (λ b. cond b (queued_in old.queue height at) (queue_places old.queue h point)) both
       ∙ ap (λ n. queued_in old.queue n at) ((unsigned_Decides height h).0 (and_left _ _ both))
       ∙ ap (queued_in old.queue h) ((same_point-Decides at point).0 (and_right _ _ both));
   rows = λ h point here.
       let none = sym (ap (λ c. is_named_at h (Some c) && same_point at point) is) ∙ here in
-      ap (λ q. q h point) rows
-      ∙ row_changed (queue_places old.queue) height h at point (queued_in old.queue height at) (height == h) (same_point at point) refl refl
-      ∙ ap (λ b. cond b (queued_in old.queue height at) (queue_places old.queue h point)) none;
+      row_is row h point ∙ ap (λ b. cond b (queued_in old.queue height at) (queue_places old.queue h point)) none;
 }
   where
     and_left : (a b : Bool) → (a && b) ≡ true → a ≡ true
@@ -94,14 +89,13 @@ op_same old new (undo_first made spent coin name before) up = coin_same old new 
 op_same old new (undo_update made spent coin name before) up = coin_same old new spent coin up
 
 -- the first operation's
-spent_cleared : (old new : Tables) (spent : OutPoint) (coin : Coin) (op : UndoOp) (ops : List UndoOp) (expired : List HeldCoin) → GivesUp old new spent coin
-    → ((point : OutPoint) → spends point op ≡ same_point spent point) → ((height : ℕ) (point : OutPoint) → spends_at height point op ≡ is_row_of coin spent height point)
+spent_cleared : (old new : Tables) (at : OutPoint) (coin : Coin) (op : UndoOp) (ops : List UndoOp) (expired : List HeldCoin) → GivesUp old new at coin → SpendsCoin op at coin
     → AreFilledBut old (op ∷ ops) expired → AreFilledBut new ops expired
-spent_cleared old new spent coin op ops expired up spends_it spends_row filled = record {
-  coins = coin_cleared old new spent coin (λ point. list_any (spends point) ops || list_any (is_held_at point) expired) up
-      (λ point other free placed. filled.coins point placed (or_both _ _ (or_both _ _ (spends_it point ∙ other) (or_left _ _ free)) (or_right (list_any (spends point) ops) _ free)));
-  queue = row_cleared old new spent coin (λ height point. list_any (spends_at height point) ops || list_any (is_queued_at height point) expired) up
-      (λ height point other free placed. filled.queue height point placed (or_both _ _ (or_both _ _ (spends_row height point ∙ other) (or_left _ _ free)) (or_right (list_any (spends_at height point) ops) _ free)));
+spent_cleared old new at coin op ops expired up spent filled = record {
+  coins = coin_cleared old new at coin (λ point. list_any (spends point) ops || list_any (is_held_at point) expired) up
+      (λ point other free placed. filled.coins point placed (or_both _ _ (or_both _ _ (spent.at_is point ∙ other) (or_left _ _ free)) (or_right (list_any (spends point) ops) _ free)));
+  queue = row_cleared old new at coin (λ height point. list_any (spends_at height point) ops || list_any (is_queued_at height point) expired) up
+      (λ height point other free placed. filled.queue height point placed (or_both _ _ (or_both _ _ (spent.row_is height point ∙ other) (or_left _ _ free)) (or_right (list_any (spends_at height point) ops) _ free)));
   names = subst AreNamesFilled (sym up.names) filled.names;
 }
 
@@ -109,9 +103,9 @@ pub op_cleared : (old new : Tables) (op : UndoOp) (ops : List UndoOp) (expired :
 op_cleared old new (undo_new made) ops expired up filled = subst (λ t. AreFilledBut t ops expired) (sym up)
     (record { coins = filled.coins; queue = filled.queue; names = filled.names })
 op_cleared old new (undo_first made spent coin name before) ops expired up filled =
-    spent_cleared old new spent coin (undo_first made spent coin name before) ops expired up (λ point. refl) (λ height point. refl) filled
+    spent_cleared old new spent coin (undo_first made spent coin name before) ops expired up (opening_spends _ made spent coin name before refl) filled
 op_cleared old new (undo_update made spent coin name before) ops expired up filled =
-    spent_cleared old new spent coin (undo_update made spent coin name before) ops expired up (λ point. refl) (λ height point. refl) filled
+    spent_cleared old new spent coin (undo_update made spent coin name before) ops expired up (update_spends _ made spent coin name before refl) filled
 
 -- the first coin's
 pub held_cleared : (old new : Tables) (held : HeldCoin) (expired : List HeldCoin) → GivesUp old new held.at held.coin → AreFilledBut old [] (held ∷ expired) → AreFilledBut new [] expired

@@ -46,21 +46,36 @@ restored_other point (held ∷ expired) coins none = here (same_point held.at po
     here true free rest = absurd cc
     here false free rest = rest free
 
+-- what is left to do: the tables now, the outpoints that are left, and what was taken so far
+pub record Left : Type 0 where
+  pub now : Tables
+  pub points : List OutPoint
+  pub expired : Roomy HeldCoin
+
 -- so far
-pub record IsTaking (start now : Tables) (row : ℕ) (points left : List OutPoint) (expired : Roomy HeldCoin) : Type 0 where
-  pub coins : cleared row left (coins_in now.coins) ≡ cleared row points (coins_in start.coins)
-  pub back : restored expired.items (coins_in now.coins) ≡ coins_in start.coins
-  pub less : (point : OutPoint) (coin : Coin) → coins_in now.coins point ≡ Some coin → coins_in start.coins point ≡ Some coin
-  pub each : AllByRecursion (IsDueCoin (coins_in start.coins) row) expired.items
-  pub names : now.names ≡ start.names
-  pub queue : queued_in now.queue ≡ queue_of (coins_in now.coins)
-  pub places : coin_places now.coins ≡ coin_places start.coins
-  pub rows : queue_places now.queue ≡ queue_places start.queue
-  pub room : length left ≤ expired.spare
-  pub rising : IsStrictlySortedBy outpoint_cmp (points_of expired.items ++ left)
+pub record IsTaking (start : Tables) (row : ℕ) (points : List OutPoint) (left : Left) : Type 0 where
+  pub coins : cleared row left.points (coins_in left.now.coins) ≡ cleared row points (coins_in start.coins)
+  pub back : restored left.expired.items (coins_in left.now.coins) ≡ coins_in start.coins
+  pub less : (point : OutPoint) (coin : Coin) → coins_in left.now.coins point ≡ Some coin → coins_in start.coins point ≡ Some coin
+  pub each : AllByRecursion (IsDueCoin (coins_in start.coins) row) left.expired.items
+  pub names : left.now.names ≡ start.names
+  pub queue : queued_in left.now.queue ≡ queue_of (coins_in left.now.coins)
+  pub places : coin_places left.now.coins ≡ coin_places start.coins
+  pub rows : queue_places left.now.queue ≡ queue_places start.queue
+  pub room : length left.points ≤ left.expired.spare
+  pub rising : IsStrictlySortedBy outpoint_cmp (points_of left.expired.items ++ left.points)
+
+-- a coin of the row was taken at an outpoint
+pub record TakesOne (row : ℕ) (at : OutPoint) (before after : Left) : Type 0 where
+  pub coin : Coin
+  pub queued : queued_in before.now.queue row at ≡ true
+  pub held : Some coin ≡ coins_in before.now.coins at
+  pub takes : TakesCoin before.now after.now at
+  pub items : after.expired.items ≡ before.expired.items ++ record { at = at; coin = coin } ∷ []
+  pub spare : after.expired.spare + 1 ≡ before.expired.spare
 
 pub begins_taking : (start : Tables) (row : ℕ) (points : List OutPoint) (expired : Roomy HeldCoin) → queued_in start.queue ≡ queue_of (coins_in start.coins) → expired.items ≡ []
-    → length points ≤ expired.spare → IsStrictlySortedBy outpoint_cmp points → IsTaking start start row points points expired
+    → length points ≤ expired.spare → IsStrictlySortedBy outpoint_cmp points → IsTaking start row points (record { now = start; points = points; expired = expired })
 begins_taking start row points expired queue none room rising = record {
   coins = refl;
   back = ap (λ es. restored es (coins_in start.coins)) none;
@@ -84,46 +99,43 @@ named_none row coin e = rw e refl
 unnamed_kept : (row : ℕ) (coin : Option Coin) → is_named_at row coin ≡ false → unless_named_at row coin ≡ coin
 unnamed_kept row coin e = rw e refl
 
-module _ (start now : Tables) (row : ℕ) (points left more : List OutPoint) (at : OutPoint) (expired : Roomy HeldCoin) (left_is : left ≡ at ∷ more) (taking : IsTaking start now row points left expired) where
-  has_room : suc (length more) ≤ expired.spare
-  has_room = subst (λ l. length l ≤ expired.spare) left_is taking.room
-
-  rising_here : IsStrictlySortedBy outpoint_cmp (points_of expired.items ++ at ∷ more)
-  rising_here = subst (λ l. IsStrictlySortedBy outpoint_cmp (points_of expired.items ++ l)) left_is taking.rising
-
-  pub took : (new : Tables) (coin : Coin) (expired' : Roomy HeldCoin) → queued_in now.queue row at ≡ true → Some coin ≡ coins_in now.coins at → TakesCoin now new at
-      → expired'.items ≡ expired.items ++ record { at = at; coin = coin } ∷ [] → expired'.spare + 1 ≡ expired.spare
-      → IsTaking start new row points more expired'
-  took new coin expired' queued held takes items spare =
-      let named = ap (is_named_at row) held ∙ sym (ap (λ q. q row at) taking.queue) ∙ queued in
-      let held_coin : HeldCoin = record { at = at; coin = coin } in
+module _ (start : Tables) (row : ℕ) (points : List OutPoint) where
+  pub took : (left next : Left) (at : OutPoint) → left.points ≡ at ∷ next.points → IsTaking start row points left → TakesOne row at left next → IsTaking start row points next
+  took left next at left_is taking one =
+      let named = ap (is_named_at row) one.held ∙ sym (ap (λ q. q row at) taking.queue) ∙ one.queued in
+      let held : HeldCoin = record { at = at; coin = one.coin } in
+      let room : suc (length next.points) ≤ left.expired.spare = subst (λ l. length l ≤ left.expired.spare) left_is taking.room in
+      let rising = subst (λ l. IsStrictlySortedBy outpoint_cmp (points_of left.expired.items ++ l)) left_is taking.rising in
       record {
-        coins = ap (cleared row more) (takes.coins ∙ ap (λ c. changed same_point (coins_in now.coins) at c) (sym (named_none row (coins_in now.coins at) (ap (is_named_at row) (sym held) ∙ named))))
-            ∙ ap (λ l. cleared row l (coins_in now.coins)) (sym left_is) ∙ taking.coins;
-        back = ap (λ es. restored es (coins_in new.coins)) items
-            ∙ restored-more expired.items held_coin (coins_in new.coins)
-            ∙ ap (λ f. restored expired.items (changed same_point f at (Some coin))) takes.coins
-            ∙ ap (restored expired.items) (changed_back same_point-Decides (coins_in now.coins) at (Some coin) None (sym held))
+        coins = ap (cleared row next.points) (one.takes.coins ∙ ap (λ c. changed same_point (coins_in left.now.coins) at c) (sym (named_none row (coins_in left.now.coins at) (ap (is_named_at row) (sym one.held) ∙ named))))
+            ∙ ap (λ l. cleared row l (coins_in left.now.coins)) (sym left_is) ∙ taking.coins;
+        back = ap (λ es. restored es (coins_in next.now.coins)) one.items
+            ∙ restored-more left.expired.items held (coins_in next.now.coins)
+            ∙ ap (λ f. restored left.expired.items (changed same_point f at (Some one.coin))) one.takes.coins
+            ∙ ap (restored left.expired.items) (changed_back same_point-Decides (coins_in left.now.coins) at (Some one.coin) None (sym one.held))
             ∙ taking.back;
-        less = λ point c e. taking.less point c (only_less (coins_in now.coins) at point c (same_point at point) (ap (λ f. f point) (sym takes.coins) ∙ e));
-        each = subst (AllByRecursion (IsDueCoin (coins_in start.coins) row)) (sym items)
-            (all-more (IsDueCoin (coins_in start.coins) row) expired.items held_coin taking.each (record { held_is = taking.less at coin (sym held); of_row = named }));
-        names = takes.names ∙ taking.names;
-        queue = takes.queue;
-        places = takes.places ∙ taking.places;
-        rows = takes.rows ∙ taking.rows;
-        room = omega (arith, has_room, spare);
-        rising = subst (λ es. IsStrictlySortedBy outpoint_cmp (points_of es ++ more)) (sym items)
-            (subst (IsStrictlySortedBy outpoint_cmp) (sym (points-more expired.items held_coin more)) rising_here);
+        less = λ point c e. taking.less point c (only_less (coins_in left.now.coins) at point c (same_point at point) (ap (λ f. f point) (sym one.takes.coins) ∙ e));
+        each = subst (AllByRecursion (IsDueCoin (coins_in start.coins) row)) (sym one.items)
+            (all-more (IsDueCoin (coins_in start.coins) row) left.expired.items held taking.each (record { held_is = taking.less at one.coin (sym one.held); of_row = named }));
+        names = one.takes.names ∙ taking.names;
+        queue = one.takes.queue;
+        places = one.takes.places ∙ taking.places;
+        rows = one.takes.rows ∙ taking.rows;
+        room = omega (arith, room, one.spare);
+        rising = subst (λ es. IsStrictlySortedBy outpoint_cmp (points_of es ++ next.points)) (sym one.items)
+            (subst (IsStrictlySortedBy outpoint_cmp) (sym (points-more left.expired.items held next.points)) rising);
       }
 
-  pub passed_by : queued_in now.queue row at ≡ false → IsTaking start now row points more expired
-  passed_by free =
+  pub passed_by : (left : Left) (at : OutPoint) (more : List OutPoint) → left.points ≡ at ∷ more → IsTaking start row points left → queued_in left.now.queue row at ≡ false
+      → IsTaking start row points (record left { points = more })
+  passed_by left at more left_is taking free =
       let unnamed = sym (ap (λ q. q row at) taking.queue) ∙ free in
+      let room : suc (length more) ≤ left.expired.spare = subst (λ l. length l ≤ left.expired.spare) left_is taking.room in
+      let rising = subst (λ l. IsStrictlySortedBy outpoint_cmp (points_of left.expired.items ++ l)) left_is taking.rising in
       record {
-        coins = ap (cleared row more) (sym (ap (λ c. changed same_point (coins_in now.coins) at c) (unnamed_kept row (coins_in now.coins at) unnamed)
-            ∙ changed_kept same_point-Decides (coins_in now.coins) at (coins_in now.coins at) refl))
-            ∙ ap (λ l. cleared row l (coins_in now.coins)) (sym left_is) ∙ taking.coins;
+        coins = ap (cleared row more) (sym (ap (λ c. changed same_point (coins_in left.now.coins) at c) (unnamed_kept row (coins_in left.now.coins at) unnamed)
+            ∙ changed_kept same_point-Decides (coins_in left.now.coins) at (coins_in left.now.coins at) refl))
+            ∙ ap (λ l. cleared row l (coins_in left.now.coins)) (sym left_is) ∙ taking.coins;
         back = taking.back;
         less = taking.less;
         each = taking.each;
@@ -131,25 +143,25 @@ module _ (start now : Tables) (row : ℕ) (points left more : List OutPoint) (at
         queue = taking.queue;
         places = taking.places;
         rows = taking.rows;
-        room = omega (arith, has_room);
-        rising = rising_but (points_of expired.items) more at rising_here;
+        room = omega (arith, room);
+        rising = rising_but (points_of left.expired.items) more at rising;
       }
 
-  pub none_queued : None ≡ coins_in now.coins at → queued_in now.queue row at ≡ true → ⊥
-  none_queued none queued = true_is_not_false (sym queued ∙ ap (λ q. q row at) taking.queue ∙ ap (is_named_at row) (sym none))
+  pub taken_all : (left : Left) → left.points ≡ [] → IsTaking start row points left → TakesDue start left.now row points left.expired.items
+  taken_all left none taking = record {
+    coins = ap (λ l. cleared row l (coins_in left.now.coins)) (sym none) ∙ taking.coins;
+    back = taking.back;
+    each = taking.each;
+    sorted = subst (IsStrictlySortedBy outpoint_cmp) (append-nil (points_of left.expired.items))
+        (subst (λ l. IsStrictlySortedBy outpoint_cmp (points_of left.expired.items ++ l)) none taking.rising);
+    names = taking.names;
+    queue = taking.queue;
+    places = taking.places;
+    rows = taking.rows;
+  }
 
-pub taken_all : (start now : Tables) (row : ℕ) (points left : List OutPoint) (expired : Roomy HeldCoin) → left ≡ [] → IsTaking start now row points left expired
-    → TakesDue start now row points expired.items
-taken_all start now row points left expired none taking = record {
-  coins = ap (λ l. cleared row l (coins_in now.coins)) (sym none) ∙ taking.coins;
-  back = taking.back;
-  each = taking.each;
-  sorted = subst (IsStrictlySortedBy outpoint_cmp) (append-nil (points_of expired.items)) (subst (λ l. IsStrictlySortedBy outpoint_cmp (points_of expired.items ++ l)) none taking.rising);
-  names = taking.names;
-  queue = taking.queue;
-  places = taking.places;
-  rows = taking.rows;
-}
+pub none_queued : (t : Tables) (row : ℕ) (at : OutPoint) → queued_in t.queue ≡ queue_of (coins_in t.coins) → None ≡ coins_in t.coins at → queued_in t.queue row at ≡ true → ⊥
+none_queued t row at queue none queued = true_is_not_false (sym queued ∙ ap (λ q. q row at) queue ∙ ap (is_named_at row) (sym none))
 
 pub room_for_one : (xs : List OutPoint) (spare : ℕ) → 1 ≤ length xs → length xs ≤ spare → 0 < spare
 room_for_one xs spare some room = omega (arith, some, room)

@@ -1,5 +1,5 @@
 -- Coins that expired are put back, one after the other.
-use Rattle.std.proofs.Common.{◌≡◌, ℕ, Bool, true, false, cond, List, [], ◌∷◌, ◌++◌, refl, sym, ap, subst, ◌∙◌}
+use Rattle.std.proofs.Common.{◌≡◌, ℕ, Bool, true, false, cond, List, [], ◌∷◌, ◌++◌, refl, sym, ap, ◌∙◌}
 use Rattle.std.specs.Cmp.{unsigned_Decides}
 use Rattle.std.specs.List.{AllByRecursion}
 use Rattle.std.specs.Prelude.{Option, Some, ◌==◌}
@@ -55,13 +55,13 @@ pub record IsReturning (start now : Tables) (row : ℕ) (all left : List HeldCoi
 pub begins_returning : (start : Tables) (row : ℕ) (all : List HeldCoin) → queued_in start.queue ≡ queue_of (coins_in start.coins) → AllByRecursion (CanReturn start row) all → IsReturning start start row all all
 begins_returning start row all queue can = record { coins = refl; can = can; names = refl; queue = queue; places = refl; rows = refl }
 
-module _ (start now : Tables) (row : ℕ) (all left rest : List HeldCoin) (held : HeldCoin) (left_is : left ≡ rest ++ held ∷ []) (returning : IsReturning start now row all left) where
+module _ (start now : Tables) (row : ℕ) (all rest : List HeldCoin) (held : HeldCoin) (returning : IsReturning start now row all (rest ++ held ∷ [])) where
   pub can_here : CanReturn now row held
-  can_here = all-last (CanReturn now row) rest held (subst (AllByRecursion (CanReturn now row)) left_is returning.can)
+  can_here = all-last (CanReturn now row) rest held returning.can
 
   pub returned : (new : Tables) → PutsCoin now new held.at held.coin → IsReturning start new row all rest
   returned new puts = record {
-    coins = ap (restored rest) puts.coins ∙ sym (restored-more rest held (coins_in now.coins)) ∙ ap (λ l. restored l (coins_in now.coins)) (sym left_is) ∙ returning.coins;
+    coins = ap (restored rest) puts.coins ∙ sym (restored-more rest held (coins_in now.coins)) ∙ returning.coins;
     can = all-weaker (CanReturn now row) (CanReturn new row) rest
         (λ h can. record {
           of_row = can.of_row;
@@ -70,7 +70,7 @@ module _ (start now : Tables) (row : ℕ) (all left rest : List HeldCoin) (held 
           free = λ other apart. ap (λ f. is_named_at other (f h.at)) puts.coins
               ∙ still_free (coins_in now.coins) other held.coin h.at (same_point held.at h.at) (only_row row held.coin can_here.of_row other apart) (can.free other apart);
         })
-        (all-less (CanReturn now row) rest held (subst (AllByRecursion (CanReturn now row)) left_is returning.can));
+        (all-less (CanReturn now row) rest held returning.can);
     names = puts.names ∙ returning.names;
     queue = puts.queue;
     places = puts.places ∙ returning.places;

@@ -3,22 +3,21 @@ use Rattle.std.proofs.Common.{◌≡◌, ℕ, Bool, true, false, cond, ◌&&◌,
 use Rattle.std.specs.List.{list_any, AllByRecursion}
 use Rattle.std.specs.Option.{is_some}
 use Rattle.std.proofs.Math.Bool.{and_comm}
-use Rattle.std.specs.Prelude.{Option, Some, ◌||◌, ◌==◌, nat_eq}
+use Rattle.std.specs.Prelude.{Some, ◌||◌, ◌==◌}
 use Rattle.nmc_base.specs.declared.hashes.Hash20.{Hash20}
 use Rattle.nmc_base.specs.declared.hashes.OutPoint.{OutPoint}
 use Rattle.nmc_base.proofs.ListLemmas.{all-weaker}
 use Rattle.chain_names.proofs.Shown.{true_is_not_false}
-use Rattle.chain_names.specs.Points.{same_point, changed}
-use Rattle.chain_names.specs.Tables.{CoinSlots, QueueSlots, coins_in, coin_places, queued_in, queue_places, is_named_at, AreNamesFilled}
+use Rattle.chain_names.specs.Points.{same_point}
+use Rattle.chain_names.specs.Tables.{CoinSlots, QueueSlots, coin_places, queue_places, is_named_at, AreNamesFilled}
 use Rattle.chain_names.specs.declared.coin.Coin.{Coin}
 use Rattle.chain_names.specs.declared.coin.Coin.TheVariants.{New, Named}
 use Rattle.chain_names.specs.declared.coin.HeldCoin.{HeldCoin}
-use Rattle.chain_names.specs.declared.coin.Item.{Item}
 use Rattle.chain_names.specs.declared.undo.UndoOp.{UndoOp}
-use Rattle.chain_names.specs.declared.undo.UndoOp.TheVariants.{New as undo_new, First as undo_first, Update as undo_update}
+use Rattle.chain_names.specs.declared.undo.UndoOp.TheVariants.{New as undo_new}
 use Rattle.chain_names.specs.Expired.{is_held_at}
 use Rattle.name_tables.proofs.ListLemmas.{or_left, or_right, or_both}
-use Rattle.name_tables.proofs.PlaceLemmas.{place-kept, row_changed}
+use Rattle.name_tables.proofs.PlaceLemmas.{HasCoinPlace, HasRowPlace, SpendsCoin, place-kept, row_is}
 use Rattle.name_tables.specs.Places.{spends, spends_at, is_queued_at, AreFilledBut}
 use Rattle.name_tables.specs.Placing.{Grows, PlacesOnly}
 use Rattle.name_tables.specs.Room.{IsPlaced}
@@ -56,7 +55,7 @@ module _ {X : Type 0} (at : OutPoint → X → Bool) (row : ℕ → OutPoint →
     rows = λ height point here free. first.rows height point (rest.rows height point here (or_right (row height point x) _ free)) (or_both _ _ (or_left _ _ free) refl);
   }
 
-  places-first : (a b : Tables) (x : X) (xs : List X) → PlacesOnly at row a b (x ∷ []) → PlacesOnly at row a b (x ∷ xs)
+  pub places-first : (a b : Tables) (x : X) (xs : List X) → PlacesOnly at row a b (x ∷ []) → PlacesOnly at row a b (x ∷ xs)
   places-first a b x xs first = record {
     same = first.same;
     names = first.names;
@@ -79,29 +78,36 @@ module _ {X : Type 0} (at : OutPoint → X → Bool) (row : ℕ → OutPoint →
   pub begins_placing : (start : Tables) (all : List X) → IsPlacing start start all all
   begins_placing start all = record { only = λ new only. only; placed = λ t grows placed. placed }
 
-  pub went_placing : (start now next : Tables) (all left more : List X) (x : X) → left ≡ x ∷ more → IsPlacing start now all left
-      → PlacesOnly at row now next (x ∷ []) → IsPlaced at row next x → IsPlacing start next all more
-  went_placing start now next all left more x left_is placing only here = record {
-    only = λ new rest. placing.only new (subst (PlacesOnly at row now new) (sym left_is) (places-then now next new x more only rest));
-    placed = λ t grows rest. placing.placed t (grows-then now next t only.grows grows)
-        (subst (AllByRecursion (IsPlaced at row t)) (sym left_is) (placed-grows next t grows x here, rest));
+  -- one member's places are made
+  pub record PlacesOne (now : Tables) (x : X) : Type 0 where
+    pub next : Tables
+    pub only : PlacesOnly at row now next (x ∷ [])
+    pub here : IsPlaced at row next x
+
+  pub went_placing : (start now : Tables) (all more : List X) (x : X) → IsPlacing start now all (x ∷ more) → (one : PlacesOne now x) → IsPlacing start one.next all more
+  went_placing start now all more x placing one = record {
+    only = λ new rest. placing.only new (places-then now one.next new x more one.only rest);
+    placed = λ t grows rest. placing.placed t (grows-then now one.next t one.only.grows grows) (placed-grows one.next t grows x one.here, rest);
   }
 
-  pub stopped_placing : (start now next : Tables) (all left more : List X) (x : X) → left ≡ x ∷ more → IsPlacing start now all left
-      → PlacesOnly at row now next (x ∷ []) → PlacesOnly at row start next all
-  stopped_placing start now next all left more x left_is placing only =
-      placing.only next (subst (PlacesOnly at row now next) (sym left_is) (places-first now next x more only))
+  pub ended_placing : (start now : Tables) (all : List X) → IsPlacing start now all [] → PlacesOnly at row start now all
+  ended_placing start now all placing = placing.only now (places-none now [])
 
-  pub ended_placing : (start now : Tables) (all left : List X) → left ≡ [] → IsPlacing start now all left → PlacesOnly at row start now all
-  ended_placing start now all left none placing = placing.only now (subst (PlacesOnly at row now now) (sym none) (places-none now []))
-
-  pub all_placed : (start now : Tables) (all left : List X) → left ≡ [] → IsPlacing start now all left → AllByRecursion (IsPlaced at row now) all
-  all_placed start now all left none placing = placing.placed now (grows-self now) (subst (AllByRecursion (IsPlaced at row now)) (sym none) tt)
+  pub all_placed : (start now : Tables) (all : List X) → IsPlacing start now all [] → AllByRecursion (IsPlaced at row now) all
+  all_placed start now all placing = placing.placed now (grows-self now) tt
 
 -- ---- the places of one coin
 
-module _ (old : Tables) (coins : CoinSlots) (at : OutPoint) (coin : Coin) (same : coins_in coins ≡ coins_in old.coins)
-    (places : coin_places coins ≡ changed same_point (coin_places old.coins) at true) where
+-- a coin's row, and whether the outpoint is its
+named_is : {coin : Coin} {name : List ℕ} {height : ℕ} → coin ≡ Named name height → (at : OutPoint) (h : ℕ) (point : OutPoint)
+    → is_queued_at h point (record { at = at; coin = coin }) ≡ ((height == h) && same_point at point)
+named_is {height = height} coin_is at h point = ap (λ c. same_point at point && is_named_at h (Some c)) coin_is ∙ and_comm (same_point at point) (height == h)
+
+always : (b : Bool) → cond b true true ≡ true
+always true = refl
+always false = refl
+
+module _ (old : Tables) (coins : CoinSlots) (at : OutPoint) (coin : Coin) (made : HasCoinPlace old.coins coins at true) where
   abbrev held : HeldCoin
   held = record { at = at; coin = coin }
 
@@ -109,21 +115,21 @@ module _ (old : Tables) (coins : CoinSlots) (at : OutPoint) (coin : Coin) (same 
   with_queue queue = record { coins = coins; names = old.names; queue = queue }
 
   only_here : (point : OutPoint) → coin_places coins point ≡ true → (same_point at point || false) ≡ false → coin_places old.coins point ≡ true
-  only_here point here free = by (same_point at point) (or_left _ _ free) (sym (ap (λ f. f point) places) ∙ here)
+  only_here point here free = by (same_point at point) (or_left _ _ free) (sym (ap (λ f. f point) made.places) ∙ here)
     where
       by : (b : Bool) → b ≡ false → cond b true (coin_places old.coins point) ≡ true → coin_places old.coins point ≡ true
       by true no_way e = absurd (true_is_not_false no_way)
       by false free e = e
 
   kept_coin : (point : OutPoint) → coin_places old.coins point ≡ true → coin_places coins point ≡ true
-  kept_coin point here = ap (λ f. f point) places ∙ place-kept (coin_places old.coins) at point here
+  kept_coin point here = ap (λ f. f point) made.places ∙ place-kept (coin_places old.coins) at point here
 
   placed_here : (point : OutPoint) → same_point at point ≡ true → coin_places coins point ≡ true
-  placed_here point here = ap (λ f. f point) places ∙ ap (λ b. cond b true (coin_places old.coins point)) here
+  placed_here point here = ap (λ f. f point) made.places ∙ ap (λ b. cond b true (coin_places old.coins point)) here
 
   pub coin_placed : PlacesOnly is_held_at is_queued_at old (with_queue old.queue) (held ∷ [])
   coin_placed = record {
-    same = record { coins = same; names = refl; queue = refl };
+    same = record { coins = made.same; names = refl; queue = refl };
     names = refl;
     grows = record { coins = kept_coin; rows = λ height point here. here };
     coins = only_here;
@@ -140,34 +146,20 @@ module _ (old : Tables) (coins : CoinSlots) (at : OutPoint) (coin : Coin) (same 
       and_none true = refl
       and_none false = refl
 
-  module _ (queue : QueueSlots) (name : List ℕ) (height : ℕ) (coin_is : coin ≡ Named name height) (queued : queued_in queue ≡ queued_in old.queue)
-      (rows : queue_places queue ≡ changed nat_eq (queue_places old.queue) height (changed same_point (queue_places old.queue height) at true)) where
-    row_is : (h : ℕ) (point : OutPoint) → queue_places queue h point ≡ cond ((height == h) && same_point at point) true (queue_places old.queue h point)
-    row_is h point = ap (λ q. q h point) rows ∙ row_changed (queue_places old.queue) height h at point true (height == h) (same_point at point) refl refl
-
-    named_is : (h : ℕ) (point : OutPoint) → is_queued_at h point held ≡ ((height == h) && same_point at point)
-    named_is h point = ap (λ c. same_point at point && is_named_at h (Some c)) coin_is ∙ and_comm (same_point at point) (height == h)
-
-    kept_row : (h : ℕ) (point : OutPoint) → queue_places old.queue h point ≡ true → queue_places queue h point ≡ true
-    kept_row h point here = row_is h point ∙ ap (cond ((height == h) && same_point at point) true) here ∙ always ((height == h) && same_point at point)
-      where
-        always : (b : Bool) → cond b true true ≡ true
-        always true = refl
-        always false = refl
-
+  module _ (queue : QueueSlots) (name : List ℕ) (height : ℕ) (coin_is : coin ≡ Named name height) (row : HasRowPlace old.queue queue height at true) where
     pub name_placed : PlacesOnly is_held_at is_queued_at old (with_queue queue) (held ∷ [])
     name_placed = record {
-      same = record { coins = same; names = refl; queue = queued };
+      same = record { coins = made.same; names = refl; queue = row.same };
       names = refl;
-      grows = record { coins = kept_coin; rows = kept_row };
+      grows = record { coins = kept_coin; rows = λ h point here. row_is row h point ∙ ap (cond ((height == h) && same_point at point) true) here ∙ always ((height == h) && same_point at point) };
       coins = only_here;
-      rows = λ h point here free. sym (ap (λ b. cond b true (queue_places old.queue h point)) (sym (named_is h point) ∙ or_left _ _ free)) ∙ sym (row_is h point) ∙ here;
+      rows = λ h point here free. sym (ap (λ b. cond b true (queue_places old.queue h point)) (sym (named_is coin_is at h point) ∙ or_left _ _ free)) ∙ sym (row_is row h point) ∙ here;
     }
 
     pub name_row_placed : IsPlaced is_held_at is_queued_at (with_queue queue) held
     name_row_placed = record {
       coin = placed_here;
-      rows = λ h point here. row_is h point ∙ ap (λ b. cond b true (queue_places old.queue h point)) (sym (named_is h point) ∙ here);
+      rows = λ h point here. row_is row h point ∙ ap (λ b. cond b true (queue_places old.queue h point)) (sym (named_is coin_is at h point) ∙ here);
     }
 
 pub unnamed_coin : (coin : Coin) (hash : Hash20) (made : ℕ) → coin ≡ New hash made → (height : ℕ) → is_named_at height (Some coin) ≡ false
@@ -175,38 +167,24 @@ unnamed_coin coin hash made is height = ap (λ c. is_named_at height (Some c)) i
 
 -- ---- what an operation spent
 
-module _ (op : UndoOp) (at : OutPoint) (coin : Coin) (spends_is : (point : OutPoint) → spends point op ≡ same_point at point)
-    (row_is : (height : ℕ) (point : OutPoint) → spends_at height point op ≡ (is_named_at height (Some coin) && same_point at point)) where
+module _ (op : UndoOp) (at : OutPoint) (coin : Coin) (spent : SpendsCoin op at coin) where
   queued_is : (height : ℕ) (point : OutPoint) → spends_at height point op ≡ is_queued_at height point (record { at = at; coin = coin })
-  queued_is height point = row_is height point ∙ and_comm (is_named_at height (Some coin)) (same_point at point)
+  queued_is height point = spent.row_is height point ∙ and_comm (is_named_at height (Some coin)) (same_point at point)
 
   pub spent_only : (old new : Tables) → PlacesOnly is_held_at is_queued_at old new (record { at = at; coin = coin } ∷ []) → PlacesOnly spends spends_at old new (op ∷ [])
   spent_only old new only = record {
     same = only.same;
     names = only.names;
     grows = only.grows;
-    coins = λ point here free. only.coins point here (or_both _ _ (sym (spends_is point) ∙ or_left _ _ free) refl);
+    coins = λ point here free. only.coins point here (or_both _ _ (sym (spent.at_is point) ∙ or_left _ _ free) refl);
     rows = λ height point here free. only.rows height point here (or_both _ _ (sym (queued_is height point) ∙ or_left _ _ free) refl);
   }
 
   pub spent_placed : (t : Tables) → IsPlaced is_held_at is_queued_at t (record { at = at; coin = coin }) → IsPlaced spends spends_at t op
   spent_placed t placed = record {
-    coin = λ point here. placed.coin point (sym (spends_is point) ∙ here);
+    coin = λ point here. placed.coin point (sym (spent.at_is point) ∙ here);
     rows = λ height point here. placed.rows height point (sym (queued_is height point) ∙ here);
   }
-
-module _ (op : UndoOp) (made spent : OutPoint) (coin : Coin) (name : List ℕ) (before : Option Item) where
-  pub opened_spends : op ≡ undo_first made spent coin name before → (point : OutPoint) → spends point op ≡ same_point spent point
-  opened_spends is point = ap (spends point) is
-
-  pub opened_spends_at : op ≡ undo_first made spent coin name before → (height : ℕ) (point : OutPoint) → spends_at height point op ≡ (is_named_at height (Some coin) && same_point spent point)
-  opened_spends_at is height point = ap (spends_at height point) is
-
-  pub updated_spends : op ≡ undo_update made spent coin name before → (point : OutPoint) → spends point op ≡ same_point spent point
-  updated_spends is point = ap (spends point) is
-
-  pub updated_spends_at : op ≡ undo_update made spent coin name before → (height : ℕ) (point : OutPoint) → spends_at height point op ≡ (is_named_at height (Some coin) && same_point spent point)
-  updated_spends_at is height point = ap (spends_at height point) is
 
 pub made_spends_none : (op : UndoOp) (made : OutPoint) → op ≡ undo_new made → (t : Tables) → IsPlaced spends spends_at t op
 made_spends_none op made is t = record {

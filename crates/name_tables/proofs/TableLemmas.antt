@@ -120,8 +120,7 @@ both_places old new made height coins rows names = record {
   names = names;
 }
 
--- the place that was made is there
--- a place was made in the row
+-- the place that was made in the row is there
 pub placed_row : (rows after : ℕ → OutPoint → Bool) (height : ℕ) (made : OutPoint) → after ≡ changed nat_eq rows height (changed same_point (rows height) made true)
     → after height made ≡ true
 placed_row rows after height made e =

@@ -1,7 +1,7 @@
-use Rattle.std.proofs.Common.{◌∷◌, [], length, ap, arith, length-append}
+use Rattle.std.proofs.Common.{◌∷◌, [], length, ap, subst, arith, length-append}
 use Rattle.std.proofs.lemmas.Grind.{common_steps}
 use Rattle.name_tables.proofs.ListLemmas.{one_more}
-use Rattle.name_tables.proofs.RestoreLemmas.{begins_returning, can_here, free_of, row_of, returned, all_returned}
+use Rattle.name_tables.proofs.RestoreLemmas.{IsReturning, begins_returning, can_here, free_of, row_of, returned, all_returned}
 use Rattle.name_tables.proofs.tables.Tables.restore.Goals as goal
 
 pub loop-at-init : goal.loop-at-init
@@ -16,14 +16,14 @@ put_coin-requires-clause-queue g c = c.loop-at.invariant.1.queue
 
 pub put_coin-requires-clause-free : goal.put_coin-requires-clause-free
 put_coin-requires-clause-free g c =
-    free_of c.loop-at.self c.loop-at.invariant.0 c.in-Some.field-0 (can_here _ _ _ _ _ c.pop.new.self.items c.in-Some.field-0 c.in-Some.ensures.some c.loop-at.invariant.1)
+    free_of c.loop-at.self c.loop-at.invariant.0 c.in-Some.field-0 (can_here _ c.loop-at.self c.loop-at.invariant.0 _ c.pop.new.self.items c.in-Some.field-0 (subst (IsReturning c.args.self.now c.loop-at.self c.loop-at.invariant.0 c.args.expired.items) c.in-Some.ensures.some c.loop-at.invariant.1))
 
 pub put_coin-requires-clause-place : goal.put_coin-requires-clause-place
-put_coin-requires-clause-place g c = (can_here _ _ _ _ _ c.pop.new.self.items c.in-Some.field-0 c.in-Some.ensures.some c.loop-at.invariant.1).place
+put_coin-requires-clause-place g c = (can_here _ c.loop-at.self c.loop-at.invariant.0 _ c.pop.new.self.items c.in-Some.field-0 (subst (IsReturning c.args.self.now c.loop-at.self c.loop-at.invariant.0 c.args.expired.items) c.in-Some.ensures.some c.loop-at.invariant.1)).place
 
 pub put_coin-requires-clause-row : goal.put_coin-requires-clause-row
 put_coin-requires-clause-row g c =
-    row_of c.loop-at.self c.loop-at.invariant.0 c.in-Some.field-0 (can_here _ _ _ _ _ c.pop.new.self.items c.in-Some.field-0 c.in-Some.ensures.some c.loop-at.invariant.1)
+    row_of c.loop-at.self c.loop-at.invariant.0 c.in-Some.field-0 (can_here _ c.loop-at.self c.loop-at.invariant.0 _ c.pop.new.self.items c.in-Some.field-0 (subst (IsReturning c.args.self.now c.loop-at.self c.loop-at.invariant.0 c.args.expired.items) c.in-Some.ensures.some c.loop-at.invariant.1))
 
 pub loop-at-smaller : goal.loop-at-smaller
 loop-at-smaller g c = grind (arith, common_steps, ap length c.in-Some.ensures.some, length-append c.pop.new.self.items (c.in-Some.field-0 ∷ []))
@@ -31,7 +31,8 @@ loop-at-smaller g c = grind (arith, common_steps, ap length c.in-Some.ensures.so
 pub loop-at-preserved : goal.loop-at-preserved
 loop-at-preserved g c = (
   c.loop-at.invariant.0,
-  returned _ c.loop-at.self _ _ _ c.pop.new.self.items c.in-Some.field-0 c.in-Some.ensures.some c.loop-at.invariant.1 c.put_coin.new.self c.put_coin.ensures.put,
+  returned _ c.loop-at.self c.loop-at.invariant.0 _ c.pop.new.self.items c.in-Some.field-0
+      (subst (IsReturning c.args.self.now c.loop-at.self c.loop-at.invariant.0 c.args.expired.items) c.in-Some.ensures.some c.loop-at.invariant.1) c.put_coin.new.self c.put_coin.ensures.put,
   omega (arith, c.loop-at.invariant.2, c.put_coin.ensures.cost, one_more _ _ _ c.in-Some.ensures.some),
 )
 
