@@ -1,7 +1,7 @@
 -- Functions with another value at one key, and what is read of a table once its entry at one key changed.
-use Rattle.std.proofs.Common.{◌≡◌, ℕ, nat_eq, Bool, true, false, cond, List, [], ◌∷◌, Option, Some, refl, sym, ap, ◌∙◌}
+use Rattle.std.proofs.Common.{◌≡◌, ℕ, Bool, true, false, cond, List, [], ◌∷◌, Option, Some, refl, sym, ap, ◌∙◌}
 use Rattle.std.proofs.Math.Path.{fun_ext}
-use Rattle.std.proofs.lemmas.Bool.{eq-eqb, cond-true}
+use Rattle.std.proofs.lemmas.Bool.{cond-true}
 use Rattle.std.proofs.lemmas.Slice.Eq.{bytes_eq-Decides}
 use Rattle.std.specs.Bool.{Decides}
 use Rattle.std.specs.Map.{lookup, set_value}
@@ -10,25 +10,30 @@ use Rattle.nmc_base.specs.declared.hashes.OutPoint.{OutPoint}
 use Rattle.chain_names.specs.Points.{same_point, changed}
 pub use Rattle.chain_names.proofs.Points.{same_point-self}
 
+module _ {K : Type 0} (same : K → K → Bool) (equal : (a b : K) → same a b ≡ true → a ≡ b) where
+  -- a change to the value that is there changes nothing
+  pub changed-kept : {V : Type 0} (f : K → V) (key : K) (value : V) → f key ≡ value → changed same f key value ≡ f
+  changed-kept f key value here = fun_ext (λ k. by k (same key k) refl)
+    where
+      by : (k : K) (b : Bool) → same key k ≡ b → cond b value (f k) ≡ f k
+      by k true e = sym here ∙ ap f (equal key k e)
+      by k false e = refl
+
 module _ {K V : Type 0} {same : K → K → Bool} (decides : (a b : K) → Decides (same a b) (a ≡ b)) where
   pub changed_at : (f : K → V) (k : K) (v : V) → changed same f k v k ≡ v
   changed_at f k v = let e : same k k ≡ true = (decides k k).1 refl in rw e refl
 
-  back_at : (f : K → V) (k : K) (v w : V) (q : K) → f k ≡ v → (b : Bool) → same k q ≡ b → cond b v (cond b w (f q)) ≡ f q
-  back_at f k v w q e true is = sym e ∙ ap f ((decides k q).0 is)
-  back_at f k v w q e false is = refl
-
   -- what it was before is there again
   pub changed_back : (f : K → V) (k : K) (v w : V) → f k ≡ v → changed same (changed same f k w) k v ≡ f
-  changed_back f k v w e = fun_ext (λ q. back_at f k v w q e (same k q) refl)
-
-  kept_at : (f : K → V) (k : K) (v : V) (q : K) → f k ≡ v → (b : Bool) → same k q ≡ b → cond b v (f q) ≡ f q
-  kept_at f k v q e true is = sym e ∙ ap f ((decides k q).0 is)
-  kept_at f k v q e false is = refl
+  changed_back f k v w e = fun_ext (λ q. by q (same k q) refl)
+    where
+      by : (q : K) (b : Bool) → same k q ≡ b → cond b v (cond b w (f q)) ≡ f q
+      by q true is = sym e ∙ ap f ((decides k q).0 is)
+      by q false is = refl
 
   -- the value that is there already
   pub changed_kept : (f : K → V) (k : K) (v : V) → f k ≡ v → changed same f k v ≡ f
-  changed_kept f k v e = fun_ext (λ q. kept_at f k v q e (same k q) refl)
+  changed_kept f k v e = changed-kept same (λ a b. (decides a b).0) f k v e
 
   -- a value that both have
   pub changed_still : (f : K → V) (k q : K) (v : V) → f q ≡ v → changed same f k v q ≡ v
@@ -54,7 +59,7 @@ pub bytes_eq-self : (a : List ℕ) → bytes_eq a a ≡ true
 bytes_eq-self a = (bytes_eq-Decides a a).1 refl
 
 -- what a changed function gives at the key that it was changed at
-pub at_changed : {K V : Type 0} (same : K → K → Bool) (self : (a : K) → same a a ≡ true) (f before : K → V) (key : K) (value : V)
+at_changed : {K V : Type 0} (same : K → K → Bool) (self : (a : K) → same a a ≡ true) (f before : K → V) (key : K) (value : V)
     → f ≡ changed same before key value → f key ≡ value
 at_changed {K = K} {V = V} same self f before key value is =
     ap (λ (g : K → V). g key) is ∙ cond-true (same key key) value (before key) (self key)
@@ -66,19 +71,6 @@ same_point-at_changed f before point value is = at_changed same_point same_point
 pub bytes_eq-at_changed : {V : Type 0} (f before : List ℕ → V) (name : List ℕ) (value : V)
     → f ≡ changed bytes_eq before name value → f name ≡ value
 bytes_eq-at_changed f before name value is = at_changed bytes_eq bytes_eq-self f before name value is
-
-pub nat_eq-at_changed : {V : Type 0} (f before : ℕ → V) (height : ℕ) (value : V)
-    → f ≡ changed nat_eq before height value → f height ≡ value
-nat_eq-at_changed f before height value is = at_changed nat_eq (λ h. eq-eqb h h refl) f before height value is
-
-module _ {K : Type 0} (same : K → K → Bool) (equal : (a b : K) → same a b ≡ true → a ≡ b) where
-  -- a change to the value that is there changes nothing
-  pub changed-kept : {V : Type 0} (f : K → V) (key : K) (value : V) → f key ≡ value → changed same f key value ≡ f
-  changed-kept f key value here = fun_ext (λ k. by k (same key k) refl)
-    where
-      by : (k : K) (b : Bool) → same key k ≡ b → cond b value (f k) ≡ f k
-      by k true e = sym here ∙ ap f (equal key k e)
-      by k false e = refl
 
 module _ {K X Y : Type 0} (same : K → K → Bool) (read : Option X → Y) where
   -- what is read of the entries at each key

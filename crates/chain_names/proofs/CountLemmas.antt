@@ -31,11 +31,11 @@ made_by (undo_new made) = made
 made_by (undo_first made spent coin name before) = made
 made_by (undo_update made spent coin name before) = made
 
-abbrev pub points_made : List UndoOp → List OutPoint
+abbrev points_made : List UndoOp → List OutPoint
 points_made [] = []
 points_made (op ∷ ops) = made_by op ∷ points_made ops
 
-pub length-points_made : (ops : List UndoOp) → length (points_made ops) ≡ length ops
+length-points_made : (ops : List UndoOp) → length (points_made ops) ≡ length ops
 length-points_made [] = refl
 length-points_made (op ∷ ops) = ap suc (length-points_made ops)
 
@@ -173,7 +173,7 @@ pub one_operation : (undo : Coin → UndoOp) (spent : Option Coin) → length (w
 one_operation undo None = omega arith
 one_operation undo (Some coin) = omega arith
 
-pub operations_of-verdict : (profile : Profile) (height : ℕ) (maps : Maps) (t : Transaction) (v : Verdict) → Means profile maps height t v
+operations_of-verdict : (profile : Profile) (height : ℕ) (maps : Maps) (t : Transaction) (v : Verdict) → Means profile maps height t v
     → length (undo_of_verdict maps (txid_of t) v) ≤ length t.outputs
 operations_of-verdict profile height maps t plain means = omega arith
 operations_of-verdict profile height maps t (refused refusal) means = omega arith
@@ -184,7 +184,7 @@ operations_of-verdict profile height maps t (updates name value place spent) mea
     le_trans (one_operation _ (maps.coins spent)) (some_outputs t.outputs _ means.output.outputs)
 
 -- no more than outputs
-pub operations-outputs : (profile : Profile) (height : ℕ) (ts : List Transaction) (maps : Maps) → length (undo_ops profile height ts maps) ≤ count_outputs ts
+operations-outputs : (profile : Profile) (height : ℕ) (ts : List Transaction) (maps : Maps) → length (undo_ops profile height ts maps) ≤ count_outputs ts
 operations-outputs profile height [] maps = omega arith
 operations-outputs profile height (t ∷ ts) maps =
     let v = verdict profile maps height t in

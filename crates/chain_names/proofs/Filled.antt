@@ -6,42 +6,23 @@ use Rattle.chain_names.specs.Tables.{FilledBut}
 use Rattle.chain_names.proofs.Shown.{true_is_not_false}
 
 module _ {K : Type 0} {same : K → K → Bool} (decides : (a b : K) → Decides (same a b) (a ≡ b)) where
-  unplaced_at : (touched places held : K → Bool) (k q : K) (b : Bool) → same k q ≡ b
-      → (places q ≡ true → cond b true (touched q) ≡ false → held q ≡ true)
-      → cond b (held k) (places q) ≡ true → touched q ≡ false → held q ≡ true
-  unplaced_at touched places held k q true is filled here free = ap held (sym ((decides k q).0 is)) ∙ here
-  unplaced_at touched places held k q false is filled here free = filled here free
-
   -- an empty place is given up
   pub filled-unplaced : (touched places held : K → Bool) (k : K) → FilledBut (changed same touched k true) places held
       → FilledBut touched (changed same places k (held k)) held
-  filled-unplaced touched places held k filled q = unplaced_at touched places held k q (same k q) refl (filled q)
-
-  placed_at : (touched places held : K → Bool) (k q : K) (b : Bool) → FilledBut touched places held
-      → cond b true (places q) ≡ true → cond b true (touched q) ≡ false → held q ≡ true
-  placed_at touched places held k q true filled here free = absurd (true_is_not_false free)
-  placed_at touched places held k q false filled here free = filled q here free
-
-  -- a place is made
-  pub filled-placed : (touched places held : K → Bool) (k : K) → FilledBut touched places held → FilledBut (changed same touched k true) (changed same places k true) held
-  filled-placed touched places held k filled q = placed_at touched places held k q (same k q) filled
-
-  taken_at : (touched places held : K → Bool) (k q : K) (b : Bool) → FilledBut touched places held
-      → places q ≡ true → cond b true (touched q) ≡ false → cond b false (held q) ≡ true
-  taken_at touched places held k q true filled here free = absurd (true_is_not_false free)
-  taken_at touched places held k q false filled here free = filled q here free
+  filled-unplaced touched places held k filled q = by (same k q) refl (filled q)
+    where
+      by : (b : Bool) → same k q ≡ b → (places q ≡ true → cond b true (touched q) ≡ false → held q ≡ true)
+          → cond b (held k) (places q) ≡ true → touched q ≡ false → held q ≡ true
+      by true is filled here free = ap held (sym ((decides k q).0 is)) ∙ here
+      by false is filled here free = filled here free
 
   -- a place is emptied
   pub filled-taken : (touched places held : K → Bool) (k : K) → FilledBut touched places held → FilledBut (changed same touched k true) places (changed same held k false)
-  filled-taken touched places held k filled q = taken_at touched places held k q (same k q) filled
-
-  put_at : (touched places held : K → Bool) (k q : K) (b : Bool) → FilledBut touched places held → places q ≡ true → touched q ≡ false → cond b true (held q) ≡ true
-  put_at touched places held k q true filled here free = refl
-  put_at touched places held k q false filled here free = filled q here free
-
-  -- a place is filled
-  pub filled-put : (touched places held : K → Bool) (k : K) → FilledBut touched places held → FilledBut touched places (changed same held k true)
-  filled-put touched places held k filled q = put_at touched places held k q (same k q) filled
+  filled-taken touched places held k filled q = by (same k q)
+    where
+      by : (b : Bool) → places q ≡ true → cond b true (touched q) ≡ false → cond b false (held q) ≡ true
+      by true here free = absurd (true_is_not_false free)
+      by false here free = filled q here free
 
 -- more may be touched
 pub filled-weaker : {K : Type 0} (touched more places held : K → Bool) → ((k : K) → more k ≡ false → touched k ≡ false) → FilledBut touched places held → FilledBut more places held

@@ -5,6 +5,7 @@ use Rattle.block_grammar.specs.Transaction.{Transaction, txid_of}
 use Rattle.nmc_base.specs.declared.hashes.OutPoint.{OutPoint}
 use Rattle.nmc_base.specs.declared.chain_ends.Profile.{Profile}
 use Rattle.nmc_base.proofs.ListLemmas.{all-weaker}
+use Rattle.chain_names.specs.State.{Stands}
 use Rattle.chain_names.specs.declared.coin.Coin.{Coin}
 use Rattle.chain_names.specs.declared.coin.Coin.TheVariants.{New, Named}
 use Rattle.chain_names.specs.declared.coin.HeldCoin.{HeldCoin}
@@ -17,22 +18,22 @@ use Rattle.chain_names.specs.Meaning.{Means}
 use Rattle.chain_names.specs.Verdict.{Verdict, plain, commits, opens, updates, refused, verdict}
 use Rattle.chain_names.specs.Changes.{moved, without_entry, with_spent, after_verdict, after_transaction, after_all, after_block, first_refused, undo_of_verdict, undo_ops, back_ops}
 use Rattle.chain_names.specs.Undo.{UndoRecord}
+use Rattle.chain_names.specs.UndoOf.{IsUndoByMaps}
 use Rattle.chain_names.proofs.BlockLemmas.{no_refusal, all_back}
 use Rattle.chain_names.proofs.Changed.{changed_at, bytes_eq-self}
 use Rattle.chain_names.proofs.Meanings.{verdict_means}
 use Rattle.chain_names.proofs.Points.{same_point-Decides, same_point-self}
 use Rattle.chain_names.proofs.UndoLemmas.{back_ops-append}
 use Rattle.chain_names.proofs.HistoryLemmas.{entry_of-more, without_entry-more}
-use Rattle.chain_names.specs.Expired.{IsGone, IsDue}
+use Rattle.chain_names.specs.Expired.{IsGone}
 use Rattle.chain_names.specs.Fits.{IsJustExpired, with_restored, IsMadeName, IsMadeUpdate, FitsOp, FitsOps, FitsState}
 use Rattle.chain_names.proofs.PointLemmas.{apart}
-use Rattle.chain_names.proofs.StandLemmas.{Stands}
 use Rattle.chain_names.proofs.UndoneBlockLemmas.{all_stand, live_left, verdict_stands}
 use Rattle.chain_names.proofs.RestoreLemmas.{due_restored}
 
 -- ---- lists of operations
 
-pub fits-append : (tip : ℕ) (ops more : List UndoOp) (maps : Maps) → FitsOps tip ops (back_ops more maps) → FitsOps tip more maps → FitsOps tip (ops ++ more) maps
+fits-append : (tip : ℕ) (ops more : List UndoOp) (maps : Maps) → FitsOps tip ops (back_ops more maps) → FitsOps tip more maps → FitsOps tip (ops ++ more) maps
 fits-append tip [] more maps first rest = rest
 fits-append tip (op ∷ ops) more maps first rest =
     (fits-append tip ops more maps first.0 rest, subst (FitsOp tip op) (sym (back_ops-append ops more maps)) first.1)
@@ -87,7 +88,7 @@ verdict_fits profile height maps t (updates name value place spent) means stands
 
 -- ---- the transactions of a block
 
-pub all_fit : (profile : Profile) (height index : ℕ) (ts : List Transaction) (maps : Maps) → Stands profile height height maps → first_refused profile height index ts maps ≡ None
+all_fit : (profile : Profile) (height index : ℕ) (ts : List Transaction) (maps : Maps) → Stands profile height height maps → first_refused profile height index ts maps ≡ None
     → FitsOps height (undo_ops profile height ts maps) (after_all profile height ts maps)
 all_fit profile height index [] maps stands accepted = tt
 all_fit profile height index (t ∷ ts) maps stands accepted =
@@ -120,17 +121,15 @@ abbrev coins_with : (List ℕ → List Item) → (OutPoint → Option Coin) → 
 coins_with names coins = record { coins = coins; names = names }
 
 pub block_fits : (profile : Profile) (height index : ℕ) (ts : List Transaction) (maps : Maps) (u : UndoRecord) → Stands profile height height maps
-    → first_refused profile height index ts maps ≡ None → u.ops ≡ undo_ops profile height ts maps
-    → IsDue (after_all profile height ts maps).coins (after_block profile height ts maps).coins u.expired
-    → FitsState profile height u (after_block profile height ts maps)
-block_fits profile height index ts maps u before accepted ops due =
+    → first_refused profile height index ts maps ≡ None → IsUndoByMaps profile height ts maps u → FitsState profile height u (after_block profile height ts maps)
+block_fits profile height index ts maps u before accepted undoes =
     let after = after_all profile height ts maps in
     let stands = all_stand profile height ts maps before in
     let left = after_block profile height ts maps in
     record {
       expired = all-weaker (IsGone after.coins left.coins) (IsJustExpired profile height left) u.expired
-          (λ held gone. gone_expired profile height after held stands gone) due.each;
-      ops = subst (λ os. FitsOps height os (with_restored u.expired left)) (sym ops)
-          (subst (λ coins. FitsOps height (undo_ops profile height ts maps) (coins_with after.names coins)) (sym (due_restored profile (suc height) after.coins u.expired due))
+          (λ held gone. gone_expired profile height after held stands gone) undoes.due.each;
+      ops = subst (λ os. FitsOps height os (with_restored u.expired left)) (sym undoes.ops)
+          (subst (λ coins. FitsOps height (undo_ops profile height ts maps) (coins_with after.names coins)) (sym (due_restored profile (suc height) after.coins u.expired undoes.due))
           (all_fit profile height index ts maps before accepted));
     }

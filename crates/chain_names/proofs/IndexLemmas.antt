@@ -5,14 +5,14 @@ use Rattle.nmc_base.specs.declared.chain_ends.Profile.{Profile}
 use Rattle.chain_names.specs.declared.coin.HeldCoin.{HeldCoin}
 use Rattle.chain_names.specs.declared.undo.UndoOp.{UndoOp}
 use Rattle.chain_names.specs.Coins.{live_coin, maps_of}
-use Rattle.chain_names.specs.Changes.{after_all, after_block, undo_ops, undone, without_expired}
+use Rattle.chain_names.specs.Changes.{after_all, after_block, undone, without_expired}
 use Rattle.chain_names.specs.Index.{next_height, index_maps, refused_in}
 use Rattle.chain_names.specs.Log.{Log, behind_coinbase, transactions_in, log_of}
 use Rattle.chain_names.specs.Undo.{UndoRecord}
 use Rattle.chain_names.proofs.BlockLemmas.{refused_in-maps, all_follow, maps_of-next, index_maps-next}
-use Rattle.chain_names.specs.Expired.{IsDue, IsSortedByPoint}
+use Rattle.chain_names.specs.Expired.{IsDue}
 use Rattle.chain_names.specs.Sound.{IsSound, IsAccepted, AreAccepted}
-use Rattle.chain_names.specs.UndoOf.{hash_in, IsUndoOf, AreUndos}
+use Rattle.chain_names.specs.UndoOf.{hash_in, IsUndoOf, AreUndos, IsUndoByMaps}
 use Rattle.chain_names.proofs.OperationLemmas.{undo_ops_in-maps}
 use Rattle.chain_names.proofs.RestoreLemmas.{block_undone}
 use Rattle.chain_names.proofs.SoundLemmas.{block_sound}
@@ -53,21 +53,30 @@ module _ (profile : Profile) (start : Log) (base : ℕ) (block : List ℕ) (bloc
   due_by : (expired : List HeldCoin) → IsDueByLog expired ≡ IsDueByMaps expired
   due_by expired = λ i. IsDue (whole_now i).coins (whole_next i).coins expired
 
-  pub log_due : (expired : List HeldCoin) → IsDueByLog expired → IsDueByMaps expired
+  log_due : (expired : List HeldCoin) → IsDueByLog expired → IsDueByMaps expired
   log_due expired due = subst (λ (A : Type 0). A) (due_by expired) due
 
-  pub due_log : (expired : List HeldCoin) → IsDueByMaps expired → IsDueByLog expired
+  due_log : (expired : List HeldCoin) → IsDueByMaps expired → IsDueByLog expired
   due_log expired due = subst (λ (A : Type 0). A) (sym (due_by expired)) due
 
   -- a record by the maps is the one by the log
   pub undo_by_maps : (u : UndoRecord) → u.block.0 ≡ hash_in block
-      → u.ops ≡ undo_ops profile (next_height base blocks) (behind_coinbase (transactions_in block)) (index_maps profile start base blocks)
-      → IsDueByMaps u.expired → IsSortedByPoint u.expired → IsUndoOf profile start base block blocks u
-  undo_by_maps u hash ops due sorted = record {
+      → IsUndoByMaps profile (next_height base blocks) (behind_coinbase (transactions_in block)) (index_maps profile start base blocks) u
+      → IsUndoOf profile start base block blocks u
+  undo_by_maps u hash undoes = record {
     hash = hash;
-    ops = ops ∙ sym (undo_ops_in-maps profile (next_height base blocks) 1 (behind_coinbase (transactions_in block)) (log_of start base blocks) unrefused);
-    due = due_log u.expired due;
-    sorted = sorted;
+    ops = undoes.ops ∙ sym (undo_ops_in-maps profile (next_height base blocks) 1 (behind_coinbase (transactions_in block)) (log_of start base blocks) unrefused);
+    due = due_log u.expired undoes.due;
+    sorted = undoes.sorted;
+  }
+
+  -- and the one by the log is one by the maps
+  pub undo_by_log : (u : UndoRecord) → IsUndoOf profile start base block blocks u
+      → IsUndoByMaps profile (next_height base blocks) (behind_coinbase (transactions_in block)) (index_maps profile start base blocks) u
+  undo_by_log u undo = record {
+    ops = undo.ops ∙ undo_ops_in-maps profile (next_height base blocks) 1 (behind_coinbase (transactions_in block)) (log_of start base blocks) unrefused;
+    due = log_due u.expired undo.due;
+    sorted = undo.sorted;
   }
 
 -- the index without the last block
@@ -79,11 +88,10 @@ index_undone profile start base block blocks u unrefused undo =
     let ts = behind_coinbase (transactions_in block) in
     let log = log_of start base blocks in
     let before = index_maps profile start base blocks in
-    let ops = undo.ops ∙ undo_ops_in-maps profile height 1 ts log unrefused in
+    let undoes = undo_by_log profile start base block blocks unrefused u undo in
     ap (undone u.ops u.expired) (index_maps-next profile start base block blocks unrefused)
-    ∙ ap (λ (os : List UndoOp). undone os u.expired (after_block profile height ts before)) ops
-    ∙ block_undone profile height 1 ts before u.expired (sym (refused_in-maps profile height 1 ts log) ∙ unrefused)
-    (log_due profile start base block blocks unrefused u.expired undo.due)
+    ∙ ap (λ (os : List UndoOp). undone os u.expired (after_block profile height ts before)) undoes.ops
+    ∙ block_undone profile height 1 ts before u.expired (sym (refused_in-maps profile height 1 ts log) ∙ unrefused) undoes.due
 
 module _ (profile : Profile) (start : Log) (base : ℕ) (block : List ℕ) (blocks : List (List ℕ)) (u : UndoRecord) (us : List UndoRecord)
     (accepted : IsAccepted profile start base block blocks) (undo : IsUndoOf profile start base block blocks u)
@@ -94,11 +102,16 @@ module _ (profile : Profile) (start : Log) (base : ℕ) (block : List ℕ) (bloc
       let height = next_height base blocks in
       let ts = behind_coinbase (transactions_in block) in
       let log = log_of start base blocks in
-      block_sound profile base (base + length blocks) 1 ts (index_maps profile start base blocks) u us below
-      (sym (refused_in-maps profile height 1 ts log) ∙ accepted.unrefused) accepted.low (accepted_few profile start base block blocks accepted)
-      (undo.ops ∙ undo_ops_in-maps profile height 1 ts log accepted.unrefused) (log_due profile start base block blocks accepted.unrefused u.expired undo.due) undo.sorted
+      block_sound profile base (base + length blocks) ts (index_maps profile start base blocks) u us below
+      (record {
+        low = accepted.low;
+        few = accepted_few profile start base block blocks accepted;
+        index = 1;
+        unrefused = sym (refused_in-maps profile height 1 ts log) ∙ accepted.unrefused;
+      })
+      (undo_by_log profile start base block blocks accepted.unrefused u undo)
 
-  pub block_on_top : IsSound profile base (base + length (block ∷ blocks)) (index_maps profile start base (block ∷ blocks)) (u ∷ us)
+  block_on_top : IsSound profile base (base + length (block ∷ blocks)) (index_maps profile start base (block ∷ blocks)) (u ∷ us)
   block_on_top =
       let height : next_height base blocks ≡ base + length (block ∷ blocks) = omega arith in
       subst (λ h. IsSound profile base h (index_maps profile start base (block ∷ blocks)) (u ∷ us)) height

@@ -52,7 +52,7 @@ unfolding IsStrictlySortedBy
 sorted_nil = tt
 
 -- one below the first
-pub sorted_more : (p q : OutPoint) (points : List OutPoint) → IsAbove p q → IsStrictlySortedBy outpoint_cmp (q ∷ points) → IsStrictlySortedBy outpoint_cmp (p ∷ q ∷ points)
+sorted_more : (p q : OutPoint) (points : List OutPoint) → IsAbove p q → IsStrictlySortedBy outpoint_cmp (q ∷ points) → IsStrictlySortedBy outpoint_cmp (p ∷ q ∷ points)
 sorted_more p q points above sorted = sorted_cons p (q ∷ points) (above, all_higher p q points above (sorted_head outpoint_cmp q points sorted)) sorted
 
 placed_sorted : (held first : HeldCoin) (rest : List HeldCoin) (o : Ordering) → outpoint_cmp held.at first.at ≡ o → IsSortedByPoint (first ∷ rest)

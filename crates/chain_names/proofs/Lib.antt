@@ -12,7 +12,6 @@ pub mod Meanings
 pub mod OperationLemmas
 pub mod PointLemmas
 pub mod RestoreLemmas
-pub mod RestoredHistoryLemmas
 pub mod StandLemmas
 pub mod MoveLemmas
 pub mod UndoneBlockLemmas

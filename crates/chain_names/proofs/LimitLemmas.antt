@@ -18,17 +18,17 @@ use Rattle.chain_names.specs.Coins.{Maps, entry_of, unless_expired}
 use Rattle.chain_names.specs.Meaning.{Means}
 use Rattle.chain_names.specs.Tables.{is_named_at}
 use Rattle.chain_names.specs.Verdict.{Verdict, plain, commits, opens, updates, refused, verdict}
-use Rattle.chain_names.specs.Changes.{after_transaction, after_all, after_block, unless_named_at, with_spent, undo_of_verdict, undo_ops}
+use Rattle.chain_names.specs.Changes.{after_transaction, after_all, unless_named_at, with_spent, undo_of_verdict, undo_ops}
 use Rattle.chain_names.specs.Undo.{UndoRecord}
+use Rattle.chain_names.specs.UndoOf.{IsUndoByMaps}
 use Rattle.chain_names.proofs.DueLemmas.{unless_expired-row, unless_expired-none}
 use Rattle.chain_names.proofs.Meanings.{verdict_means}
-use Rattle.chain_names.specs.Expired.{IsSortedByPoint, IsGone, IsDue}
-use Rattle.chain_names.specs.State.{FitsItem, HasFewNames}
+use Rattle.chain_names.specs.Expired.{IsSortedByPoint, IsGone}
+use Rattle.chain_names.specs.State.{FitsItem, HasFewNames, Stands}
 use Rattle.block_grammar.specs.Block.{count_outputs}
 use Rattle.chain_names.specs.Limits.{IsShortBefore, IsWithinLimitsOp, HoldsName, IsNameCoin, IsWithinLimits}
 use Rattle.chain_names.proofs.PointLemmas.{all-points}
-use Rattle.chain_names.proofs.RestoredHistoryLemmas.{entry_has}
-use Rattle.chain_names.proofs.StandLemmas.{Stands}
+use Rattle.chain_names.proofs.HistoryLemmas.{entry_has}
 use Rattle.chain_names.proofs.UndoneBlockLemmas.{verdict_stands}
 use Rattle.chain_names.proofs.CountLemmas.{few_operations}
 use Rattle.chain_names.proofs.FitLemmas.{standing_live}
@@ -58,7 +58,7 @@ verdict_limits profile height maps t (updates name value place spent) means stan
     (Named name means.made) means.input.held
     (means.fits.name_length, means.fits.name_length, entry_limits name (maps.names name) (entry_of (maps.names name)) (stands.lengths name) refl)
 
-pub all_limits : (profile : Profile) (height : ℕ) (ts : List Transaction) (maps : Maps) → Stands profile height height maps
+all_limits : (profile : Profile) (height : ℕ) (ts : List Transaction) (maps : Maps) → Stands profile height height maps
     → AllByRecursion IsWithinLimitsOp (undo_ops profile height ts maps)
 all_limits profile height [] maps stands = tt
 all_limits profile height (t ∷ ts) maps stands =
@@ -153,15 +153,14 @@ due_points profile height after stands few = by (due_height profile (suc height)
 
 pub block_limits : (profile : Profile) (height : ℕ) (ts : List Transaction) (maps : Maps) (u : UndoRecord)
     → Stands profile height height maps → Stands profile height height (after_all profile height ts maps)
-    → ((row : ℕ) → HasFewNames (after_all profile height ts maps).coins row) → count_outputs ts < 2 ^ 32 → u.ops ≡ undo_ops profile height ts maps
-    → IsDue (after_all profile height ts maps).coins (after_block profile height ts maps).coins u.expired → IsSortedByPoint u.expired → IsWithinLimits u
-block_limits profile height ts maps u before stands few short ops due sorted =
+    → ((row : ℕ) → HasFewNames (after_all profile height ts maps).coins row) → count_outputs ts < 2 ^ 32 → IsUndoByMaps profile height ts maps u → IsWithinLimits u
+block_limits profile height ts maps u before stands few short undoes =
     let after = after_all profile height ts maps in
     record {
-      few_ops = subst (λ (os : List UndoOp). length os < 2 ^ 32) (sym ops) (few_operations profile height ts maps short);
-      few_expired = few_expired profile height after u.expired stands few due.each sorted;
-      ops = subst (AllByRecursion IsWithinLimitsOp) (sym ops) (all_limits profile height ts maps before);
+      few_ops = subst (λ (os : List UndoOp). length os < 2 ^ 32) (sym undoes.ops) (few_operations profile height ts maps short);
+      few_expired = few_expired profile height after u.expired stands few undoes.due.each undoes.sorted;
+      ops = subst (AllByRecursion IsWithinLimitsOp) (sym undoes.ops) (all_limits profile height ts maps before);
       expired = all-weaker (IsGone after.coins (next_coins profile height after)) HoldsName u.expired
-          (λ held gone. name_gone profile height after held.at held.coin stands gone.now_is (gone_is profile height after held gone)) due.each;
-      sorted = sorted;
+          (λ held gone. name_gone profile height after held.at held.coin stands gone.now_is (gone_is profile height after held gone)) undoes.due.each;
+      sorted = undoes.sorted;
     }

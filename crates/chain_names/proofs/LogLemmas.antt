@@ -54,7 +54,7 @@ live-spend : (profile : Profile) (log : Log) (height : ℕ) (point : OutPoint)
     → live_coin profile (Spend point ∷ log) height ≡ changed same_point (live_coin profile log height) point None
 live-spend profile log height point = changed_mapped same_point (unless_expired profile height) (coin_now log) point None
 
-pub history_of-spends : (inputs : List TxInput) (log : Log) → history_of (spends inputs log) ≡ history_of log
+history_of-spends : (inputs : List TxInput) (log : Log) → history_of (spends inputs log) ≡ history_of log
 history_of-spends [] log = refl
 history_of-spends (input ∷ inputs) log = history_of-spends inputs (Spend (spent_by input) ∷ log)
 
@@ -74,7 +74,7 @@ no_head : (point : OutPoint) (c : Option Coin) (held : List HeldCoin) → with_h
 no_head point None held e = (refl, e)
 no_head point (Some coin) held e = absurd (some_held point coin held e)
 
-pub live-spends_none : (profile : Profile) (height : ℕ) (inputs : List TxInput) (log : Log) → name_inputs (live_coin profile log height) inputs ≡ []
+live-spends_none : (profile : Profile) (height : ℕ) (inputs : List TxInput) (log : Log) → name_inputs (live_coin profile log height) inputs ≡ []
     → live_coin profile (spends inputs log) height ≡ live_coin profile log height
 live-spends_none profile height [] log e = refl
 live-spends_none profile height (input ∷ inputs) log e =
@@ -117,7 +117,7 @@ by_spending profile height input inputs log at coin later (inr h) =
     (ap (λ f. name_inputs f inputs) one ∙ name_inputs-less (live_coin profile log height) (spent_by input) inputs h.1)
     ∙ one ∙ ap (λ p. changed same_point (live_coin profile log height) p None) h.0
 
-pub live-spends_one : (profile : Profile) (height : ℕ) (inputs : List TxInput) (log : Log) (at : OutPoint) (coin : Coin)
+live-spends_one : (profile : Profile) (height : ℕ) (inputs : List TxInput) (log : Log) (at : OutPoint) (coin : Coin)
     → name_inputs (live_coin profile log height) inputs ≡ record { at = at; coin = coin } ∷ []
     → live_coin profile (spends inputs log) height ≡ changed same_point (live_coin profile log height) at None
 live-spends_one profile height [] log at coin e = absurd cc
@@ -133,7 +133,7 @@ no_output_head : (place value : ℕ) (op : Option NameOperation) (outputs : List
 no_output_head place value None outputs e = (refl, e)
 no_output_head place value (Some op) outputs e = absurd cc
 
-pub makes_none : (txid : List ℕ) (height place : ℕ) (outputs : List TxOutput) (log : Log) → name_outputs place outputs ≡ [] → makes txid height place outputs log ≡ log
+makes_none : (txid : List ℕ) (height place : ℕ) (outputs : List TxOutput) (log : Log) → name_outputs place outputs ≡ [] → makes txid height place outputs log ≡ log
 makes_none txid height place [] log e = refl
 makes_none txid height place (output ∷ outputs) log e =
     let h = no_output_head place output.value (name_op output.script) (name_outputs (suc place) outputs) e in
@@ -163,7 +163,7 @@ by_making txid height place output outputs log only later (inr h) =
     rw h.0 (makes_none txid height (suc place) outputs (Make (point_at txid place) only.operation height ∷ log) h.2
     ∙ ap (λ n. Make (point_at txid n) only.operation height ∷ log) h.1)
 
-pub makes_one : (txid : List ℕ) (height place : ℕ) (outputs : List TxOutput) (log : Log) (only : NameOutput) → name_outputs place outputs ≡ only ∷ []
+makes_one : (txid : List ℕ) (height place : ℕ) (outputs : List TxOutput) (log : Log) (only : NameOutput) → name_outputs place outputs ≡ only ∷ []
     → makes txid height place outputs log ≡ Make (point_at txid only.place) only.operation height ∷ log
 makes_one txid height place [] log only e = absurd cc
 makes_one txid height place (output ∷ outputs) log only e =

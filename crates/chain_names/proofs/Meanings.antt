@@ -1,6 +1,5 @@
 -- What the rules' verdict on a transaction says, read off the tables.
 use Rattle.std.proofs.Common.{◌≡◌, ◌≤◌, ◌+◌, ℕ, Bool, true, false, not, ◌&&◌, ◌==◌, nat_lt, List, [], ◌∷◌, ◌++◌, length, Option, Some, None, refl, sym, ◌∙◌, ap, subst, arith}
-use Rattle.std.specs.Option.{is_some}
 use Rattle.std.specs.Str.{bytes_eq}
 use Rattle.std.specs.Cmp.Lexicographic.{bytes_decides}
 use Rattle.std.proofs.lemmas.Bool.{not-false, true≢false}
@@ -8,7 +7,8 @@ use Rattle.std.proofs.lemmas.Bool.Decides.{nat_tests}
 use Rattle.block_grammar.specs.Transaction.{TxInput, Transaction, txid_of}
 use Rattle.hash160.specs.Hash160.{hash160}
 use Rattle.name_script.specs.NameScript.{NameOperation, name_new, name_firstupdate, name_update}
-use Rattle.nmc_base.specs.declared.limits.TheConstants.{DIGEST_LENGTH, LONGEST_RAND, MATURITY, NAME_VERSION}
+use Rattle.nmc_base.specs.declared.limits.TheConstants.{DIGEST_LENGTH, LONGEST_NAME, LONGEST_RAND, LONGEST_VALUE, MATURITY, NAME_VERSION}
+use Rattle.nmc_base.specs.declared.hashes.Hash20.{Hash20}
 use Rattle.nmc_base.specs.declared.hashes.OutPoint.{OutPoint}
 use Rattle.nmc_base.specs.declared.chain_ends.Profile.{Profile}
 use Rattle.nmc_base.specs.Expiry.{least_amount}
@@ -18,7 +18,7 @@ use Rattle.chain_names.specs.declared.coin.Coin.TheVariants.{New, Named}
 use Rattle.chain_names.specs.declared.coin.HeldCoin.{HeldCoin}
 use Rattle.chain_names.specs.Points.{point_at, spent_by}
 use Rattle.chain_names.specs.Coins.{Maps}
-use Rattle.chain_names.specs.Verdict.{Verdict, plain, commits, opens, updates, refused, Test, NameOutput, with_held, name_inputs, name_outputs, first_of, count_tests, output_tests, spent_tests, made_tests, by_input, by_output, verdict_by, verdict}
+use Rattle.chain_names.specs.Verdict.{Verdict, plain, commits, opens, updates, refused, Test, NameOutput, with_held, name_inputs, name_outputs, first_of, count_tests, output_tests, spent_tests, made_tests, by_input, by_output, verdict_by, verdict, is_commitment, is_coin_of, commits_to, made_at, commitment_in, kind_of}
 use Rattle.chain_names.proofs.Shown.{is_refused}
 use Rattle.chain_names.specs.Meaning.{IsPlain, HasOutput, HasInput, FitsName, Means}
 
@@ -83,131 +83,152 @@ held_there coins [] point coin more e = absurd (cc)
 held_there coins (input ∷ inputs) point coin more e =
     held_first coins (spent_by input) point coin (coins (spent_by input)) (name_inputs coins inputs) more refl (held_there coins inputs point coin more) e
 
+-- ---- what is spent
+
+record IsNew (coin : Coin) : Type 0 where
+  hash : Hash20
+  made : ℕ
+  is : coin ≡ New hash made
+
+new_coin : (coin : Coin) → not (is_commitment coin) ≡ false → IsNew coin
+new_coin (New hash made) e = record { hash = hash; made = made; is = refl }
+new_coin (Named name made) e = absurd (true≢false e)
+
+record IsCoinOf (name : List ℕ) (coin : Coin) : Type 0 where
+  made : ℕ
+  is : coin ≡ Named name made
+
+coin_of_name : (name : List ℕ) (coin : Coin) → not (is_coin_of coin name) ≡ false → IsCoinOf name coin
+coin_of_name name (New hash made) e = absurd (true≢false e)
+coin_of_name name (Named named made) e = record { made = made; is = ap (λ (n : List ℕ). Named n made) (sym (not_unequal_bytes name named e)) }
+
 -- ---- one name output
 
-abbrev output_of : ℕ → ℕ → NameOperation → NameOutput
-output_of place amount operation = record { place = place; value = amount; operation = operation }
+-- the output, where it does this
+abbrev doing : NameOutput → NameOperation → NameOutput
+doing output operation = record { place = output.place; value = output.value; operation = operation }
 
--- what the lists of name inputs and name outputs are, and the version
-record Counted (maps : Maps) (t : Transaction) (inputs : List HeldCoin) (outputs : List NameOutput) : Type 0 where
+-- the version, and what the lists of name inputs and name outputs are; and the output isn't refused
+record Judged (profile : Profile) (maps : Maps) (height : ℕ) (t : Transaction) (output : NameOutput) (inputs : List HeldCoin) : Type 0 where
   version : t.version ≡ NAME_VERSION
   inputs_are : name_inputs maps.coins t.inputs ≡ inputs
-  outputs_are : name_outputs 0 t.outputs ≡ outputs
+  outputs_are : name_outputs 0 t.outputs ≡ output ∷ []
+  accepted : is_refused (by_output profile maps height (txid_of t) (output ∷ []) inputs) ≡ false
 
-has_output : (profile : Profile) (maps : Maps) (t : Transaction) (inputs : List HeldCoin) (place amount : ℕ) (operation : NameOperation)
-    → Counted maps t inputs (output_of place amount operation ∷ []) → nat_lt amount (least_amount profile) ≡ false
-    → is_some (maps.coins (point_at (txid_of t) place)) ≡ false → HasOutput profile maps t place operation
-has_output profile maps t inputs place amount operation counted enough free = record {
-  version = counted.version;
-  amount = amount;
-  outputs = counted.outputs_are;
-  enough = not_less amount (least_amount profile) enough;
-  fresh = none_there (maps.coins (point_at (txid_of t) place)) free;
-}
+module _ (profile : Profile) (maps : Maps) (height : ℕ) (t : Transaction) where
+  -- ---- the tests that it passes
 
-has_input : (maps : Maps) (t : Transaction) (point : OutPoint) (coin : Coin) → name_inputs maps.coins t.inputs ≡ record { at = point; coin = coin } ∷ []
-    → HasInput maps t point coin
-has_input maps t point coin e = record { inputs = e; held = held_there maps.coins t.inputs point coin [] e }
+  -- of itself
+  of_output : (output : NameOutput) (inputs : List HeldCoin) → Judged profile maps height t output inputs
+      → NoneHolds (output_tests (least_amount profile) output inputs)
+  of_output output inputs judged = (passed (output_tests (least_amount profile) output inputs) (by_input profile maps height (txid_of t) output inputs) judged.accepted).0
 
-commits_says : (profile : Profile) (maps : Maps) (height : ℕ) (t : Transaction) (hash : List ℕ) (place amount : ℕ)
-    → Counted maps t [] (output_of place amount (name_new hash) ∷ [])
-    → is_refused (by_output profile maps height (txid_of t) (output_of place amount (name_new hash) ∷ []) []) ≡ false
-    → Means profile maps height t (by_output profile maps height (txid_of t) (output_of place amount (name_new hash) ∷ []) [])
-commits_says profile maps height t hash place amount counted accepted =
-    let output : NameOutput = output_of place amount (name_new hash) in
-    let tests = passed (output_tests (least_amount profile) output []) (by_input profile maps height (txid_of t) output []) accepted in
-    let free = passed (made_tests maps (point_at (txid_of t) place)) (commits hash place) (ap is_refused (sym tests.1) ∙ accepted) in
-    subst (Means profile maps height t) (sym (tests.1 ∙ free.1)) (record {
-      output = has_output profile maps t [] place amount (name_new hash) counted tests.0.0 free.0.0;
-      inputs = counted.inputs_are;
-      hash_length = not_unequal (length hash) DIGEST_LENGTH tests.0.1.1.0;
-    })
+  -- without a name input: of the outpoint that is made
+  record PassesAlone (output : NameOutput) : Type 0 where
+    made : NoneHolds (made_tests maps (point_at (txid_of t) output.place))
+    says : by_output profile maps height (txid_of t) (output ∷ []) [] ≡ commits (commitment_in output.operation) output.place
 
-fits_name : (name value : List ℕ) → nat_lt 255 (length name) ≡ false → nat_lt 1023 (length value) ≡ false → FitsName name value
-fits_name name value n v = record { name_length = not_less 255 (length name) n; value_length = not_less 1023 (length value) v }
+  passes_alone : (output : NameOutput) → Judged profile maps height t output [] → PassesAlone output
+  passes_alone output judged =
+      let tests = passed (output_tests (least_amount profile) output []) (by_input profile maps height (txid_of t) output []) judged.accepted in
+      let free =
+      passed (made_tests maps (point_at (txid_of t) output.place)) (commits (commitment_in output.operation) output.place) (ap is_refused (sym tests.1) ∙ judged.accepted) in
+      record { made = free.0; says = tests.1 ∙ free.1 }
 
-updates_says : (profile : Profile) (maps : Maps) (height : ℕ) (t : Transaction) (name value : List ℕ) (place amount : ℕ) (point : OutPoint) (coin : Coin)
-    → Counted maps t (record { at = point; coin = coin } ∷ []) (output_of place amount (name_update name value) ∷ [])
-    → is_refused (by_output profile maps height (txid_of t) (output_of place amount (name_update name value) ∷ []) (record { at = point; coin = coin } ∷ [])) ≡ false
-    → Means profile maps height t (by_output profile maps height (txid_of t) (output_of place amount (name_update name value) ∷ []) (record { at = point; coin = coin } ∷ []))
-updates_says profile maps height t name value place amount point (New hash made) counted accepted =
-    let operation : NameOperation = name_update name value in
-    let output : NameOutput = output_of place amount operation in
-    let inputs : List HeldCoin = record { at = point; coin = New hash made } ∷ [] in
-    let tests = passed (output_tests (least_amount profile) output inputs) (by_input profile maps height (txid_of t) output inputs) accepted in
-    let spent = passed (spent_tests profile maps height operation (New hash made)) (first_of (made_tests maps (point_at (txid_of t) place)) (updates name value place point)) (ap is_refused (sym tests.1) ∙ accepted) in
-    absurd (true≢false spent.0.0)
-updates_says profile maps height t name value place amount point (Named named made) counted accepted =
-    let operation : NameOperation = name_update name value in
-    let output : NameOutput = output_of place amount operation in
-    let inputs : List HeldCoin = record { at = point; coin = Named named made } ∷ [] in
-    let tests = passed (output_tests (least_amount profile) output inputs) (by_input profile maps height (txid_of t) output inputs) accepted in
-    let spent = passed (spent_tests profile maps height operation (Named named made)) (first_of (made_tests maps (point_at (txid_of t) place)) (updates name value place point)) (ap is_refused (sym tests.1) ∙ accepted) in
-    let free = passed (made_tests maps (point_at (txid_of t) place)) (updates name value place point) (ap is_refused (sym (tests.1 ∙ spent.1)) ∙ accepted) in
-    let same : name ≡ named = not_unequal_bytes name named spent.0.1.0 in
-    subst (Means profile maps height t) (sym (tests.1 ∙ spent.1 ∙ free.1)) (record {
-      made = made;
-      output = has_output profile maps t inputs place amount operation counted tests.0.0 free.0.0;
-      input = has_input maps t point (Named name made) (counted.inputs_are ∙ ap (λ (x : List ℕ). record { at = point; coin = Named x made } ∷ []) (sym same));
-      fits = fits_name name value tests.0.1.1.1.1.0 tests.0.1.1.1.1.1.0;
-    })
+  -- with one: of the coin that is spent, and of the outpoint that is made
+  record Passes (output : NameOutput) (held : HeldCoin) : Type 0 where
+    spent : NoneHolds (spent_tests profile maps height output.operation held.coin)
+    made : NoneHolds (made_tests maps (point_at (txid_of t) output.place))
+    says : by_output profile maps height (txid_of t) (output ∷ []) (held ∷ []) ≡ kind_of output.operation output.place held.at
 
-opens_says : (profile : Profile) (maps : Maps) (height : ℕ) (t : Transaction) (name rand value : List ℕ) (place amount : ℕ) (point : OutPoint) (coin : Coin)
-    → Counted maps t (record { at = point; coin = coin } ∷ []) (output_of place amount (name_firstupdate name rand value) ∷ [])
-    → is_refused (by_output profile maps height (txid_of t) (output_of place amount (name_firstupdate name rand value) ∷ []) (record { at = point; coin = coin } ∷ [])) ≡ false
-    → Means profile maps height t (by_output profile maps height (txid_of t) (output_of place amount (name_firstupdate name rand value) ∷ []) (record { at = point; coin = coin } ∷ []))
-opens_says profile maps height t name rand value place amount point (Named named made) counted accepted =
-    let operation : NameOperation = name_firstupdate name rand value in
-    let output : NameOutput = output_of place amount operation in
-    let inputs : List HeldCoin = record { at = point; coin = Named named made } ∷ [] in
-    let tests = passed (output_tests (least_amount profile) output inputs) (by_input profile maps height (txid_of t) output inputs) accepted in
-    let spent = passed (spent_tests profile maps height operation (Named named made)) (first_of (made_tests maps (point_at (txid_of t) place)) (opens name value place point)) (ap is_refused (sym tests.1) ∙ accepted) in
-    absurd (true≢false spent.0.1.1.0)
-opens_says profile maps height t name rand value place amount point (New hash made) counted accepted =
-    let operation : NameOperation = name_firstupdate name rand value in
-    let output : NameOutput = output_of place amount operation in
-    let inputs : List HeldCoin = record { at = point; coin = New hash made } ∷ [] in
-    let tests = passed (output_tests (least_amount profile) output inputs) (by_input profile maps height (txid_of t) output inputs) accepted in
-    let spent = passed (spent_tests profile maps height operation (New hash made)) (first_of (made_tests maps (point_at (txid_of t) place)) (opens name value place point)) (ap is_refused (sym tests.1) ∙ accepted) in
-    let free = passed (made_tests maps (point_at (txid_of t) place)) (opens name value place point) (ap is_refused (sym (tests.1 ∙ spent.1)) ∙ accepted) in
-    subst (Means profile maps height t) (sym (tests.1 ∙ spent.1 ∙ free.1)) (record {
-      rand = rand;
-      hash = hash;
-      made = made;
-      output = has_output profile maps t inputs place amount operation counted tests.0.0 free.0.0;
-      input = has_input maps t point (New hash made) counted.inputs_are;
-      fits = fits_name name value tests.0.1.1.1.1.0 tests.0.1.1.1.1.1.0;
-      rand_length = not_less LONGEST_RAND (length rand) spent.0.1.1.1.1.0;
-      mature = not_less height (made + MATURITY) spent.0.1.1.1.0;
-      committed = not_unequal_bytes (hash160 (rand ++ name)) hash.0 spent.0.1.1.1.1.1.0;
-      untaken = spent.0.1.1.1.1.1.1.0;
-    })
+  passes : (output : NameOutput) (held : HeldCoin) → Judged profile maps height t output (held ∷ []) → Passes output held
+  passes output held judged =
+      let kind = kind_of output.operation output.place held.at in
+      let free_tests = made_tests maps (point_at (txid_of t) output.place) in
+      let tests = passed (output_tests (least_amount profile) output (held ∷ [])) (by_input profile maps height (txid_of t) output (held ∷ [])) judged.accepted in
+      let spent = passed (spent_tests profile maps height output.operation held.coin) (first_of free_tests kind) (ap is_refused (sym tests.1) ∙ judged.accepted) in
+      let free = passed free_tests kind (ap is_refused (sym (tests.1 ∙ spent.1)) ∙ judged.accepted) in
+      record { spent = spent.0; made = free.0; says = tests.1 ∙ spent.1 ∙ free.1 }
 
--- ---- by what the output does, and by how many name inputs there are
+  -- ---- what they say
 
-output_says : (profile : Profile) (maps : Maps) (height : ℕ) (t : Transaction) (operation : NameOperation) (place amount : ℕ) (inputs : List HeldCoin)
-    → Counted maps t inputs (output_of place amount operation ∷ []) → nat_lt 1 (length inputs) ≡ false
-    → is_refused (by_output profile maps height (txid_of t) (output_of place amount operation ∷ []) inputs) ≡ false
-    → Means profile maps height t (by_output profile maps height (txid_of t) (output_of place amount operation ∷ []) inputs)
-output_says profile maps height t (name_new hash) place amount [] counted one accepted = commits_says profile maps height t hash place amount counted accepted
-output_says profile maps height t (name_new hash) place amount (held ∷ []) counted one accepted =
-    let output : NameOutput = output_of place amount (name_new hash) in
-    let tests = passed (output_tests (least_amount profile) output (held ∷ [])) (by_input profile maps height (txid_of t) output (held ∷ [])) accepted in
-    absurd (true≢false tests.0.1.0)
-output_says profile maps height t (name_firstupdate name rand value) place amount [] counted one accepted =
-    let output : NameOutput = output_of place amount (name_firstupdate name rand value) in
-    let tests = passed (output_tests (least_amount profile) output []) (by_input profile maps height (txid_of t) output []) accepted in
-    absurd (true≢false tests.0.1.1.1.0)
-output_says profile maps height t (name_firstupdate name rand value) place amount (held ∷ []) counted one accepted =
-    opens_says profile maps height t name rand value place amount held.at held.coin counted accepted
-output_says profile maps height t (name_update name value) place amount [] counted one accepted =
-    let output : NameOutput = output_of place amount (name_update name value) in
-    let tests = passed (output_tests (least_amount profile) output []) (by_input profile maps height (txid_of t) output []) accepted in
-    absurd (true≢false tests.0.1.1.1.0)
-output_says profile maps height t (name_update name value) place amount (held ∷ []) counted one accepted =
-    updates_says profile maps height t name value place amount held.at held.coin counted accepted
-output_says profile maps height t operation place amount (held ∷ next ∷ more) counted one accepted =
-    absurd (not_one held next more one)
+  has_output : (output : NameOutput) (inputs : List HeldCoin) → Judged profile maps height t output inputs
+      → NoneHolds (made_tests maps (point_at (txid_of t) output.place)) → HasOutput profile maps t output.place output.operation
+  has_output output inputs judged made = record {
+    version = judged.version;
+    amount = output.value;
+    outputs = judged.outputs_are;
+    enough = not_less output.value (least_amount profile) (of_output output inputs judged).0;
+    fresh = none_there (maps.coins (point_at (txid_of t) output.place)) made.0;
+  }
+
+  has_input : (held : HeldCoin) (coin : Coin) → name_inputs maps.coins t.inputs ≡ held ∷ [] → held.coin ≡ coin → HasInput maps t held.at coin
+  has_input held coin e is =
+      let inputs = e ∙ ap (λ (c : Coin). record { at = held.at; coin = c } ∷ []) is in
+      record { inputs = inputs; held = held_there maps.coins t.inputs held.at coin [] inputs }
+
+  fits_name : (name value : List ℕ) → nat_lt LONGEST_NAME (length name) ≡ false → nat_lt LONGEST_VALUE (length value) ≡ false → FitsName name value
+  fits_name name value n v = record { name_length = not_less LONGEST_NAME (length name) n; value_length = not_less LONGEST_VALUE (length value) v }
+
+  commits_says : (hash : List ℕ) (output : NameOutput) → Judged profile maps height t (doing output (name_new hash)) []
+      → Means profile maps height t (by_output profile maps height (txid_of t) (doing output (name_new hash) ∷ []) [])
+  commits_says hash output judged =
+      let does = doing output (name_new hash) in
+      let alone = passes_alone does judged in
+      subst (Means profile maps height t) (sym alone.says) (record {
+        output = has_output does [] judged alone.made;
+        inputs = judged.inputs_are;
+        hash_length = not_unequal (length hash) DIGEST_LENGTH (of_output does [] judged).1.1.0;
+      })
+
+  updates_says : (name value : List ℕ) (output : NameOutput) (held : HeldCoin) → Judged profile maps height t (doing output (name_update name value)) (held ∷ [])
+      → Means profile maps height t (by_output profile maps height (txid_of t) (doing output (name_update name value) ∷ []) (held ∷ []))
+  updates_says name value output held judged =
+      let does = doing output (name_update name value) in
+      let tests = of_output does (held ∷ []) judged in
+      let all = passes does held judged in
+      let own = coin_of_name name held.coin all.spent.1.0 in
+      subst (Means profile maps height t) (sym all.says) (record {
+        made = own.made;
+        output = has_output does (held ∷ []) judged all.made;
+        input = has_input held (Named name own.made) judged.inputs_are own.is;
+        fits = fits_name name value tests.1.1.1.1.0 tests.1.1.1.1.1.0;
+      })
+
+  opens_says : (name rand value : List ℕ) (output : NameOutput) (held : HeldCoin)
+      → Judged profile maps height t (doing output (name_firstupdate name rand value)) (held ∷ [])
+      → Means profile maps height t (by_output profile maps height (txid_of t) (doing output (name_firstupdate name rand value) ∷ []) (held ∷ []))
+  opens_says name rand value output held judged =
+      let does = doing output (name_firstupdate name rand value) in
+      let tests = of_output does (held ∷ []) judged in
+      let all = passes does held judged in
+      let spent = all.spent.1.1 in
+      let new = new_coin held.coin spent.0 in
+      subst (Means profile maps height t) (sym all.says) (record {
+        rand = rand;
+        hash = new.hash;
+        made = new.made;
+        output = has_output does (held ∷ []) judged all.made;
+        input = has_input held (New new.hash new.made) judged.inputs_are new.is;
+        fits = fits_name name value tests.1.1.1.1.0 tests.1.1.1.1.1.0;
+        rand_length = not_less LONGEST_RAND (length rand) spent.1.1.0;
+        mature = not_less height (new.made + MATURITY) (subst (λ (c : Coin). nat_lt height (made_at c + MATURITY) ≡ false) new.is spent.1.0);
+        committed = not_unequal_bytes (hash160 (rand ++ name)) new.hash.0 (subst (λ (c : Coin). not (commits_to c (rand ++ name)) ≡ false) new.is spent.1.1.1.0);
+        untaken = spent.1.1.1.1.0;
+      })
+
+  -- ---- by what the output does, and by how many name inputs there are
+
+  output_says : (operation : NameOperation) (output : NameOutput) (inputs : List HeldCoin) → Judged profile maps height t (doing output operation) inputs
+      → nat_lt 1 (length inputs) ≡ false → Means profile maps height t (by_output profile maps height (txid_of t) (doing output operation ∷ []) inputs)
+  output_says (name_new hash) output [] judged one = commits_says hash output judged
+  output_says (name_new hash) output (held ∷ []) judged one = absurd (true≢false (of_output (doing output (name_new hash)) (held ∷ []) judged).1.0)
+  output_says (name_firstupdate name rand value) output [] judged one =
+      absurd (true≢false (of_output (doing output (name_firstupdate name rand value)) [] judged).1.1.1.0)
+  output_says (name_firstupdate name rand value) output (held ∷ []) judged one = opens_says name rand value output held judged
+  output_says (name_update name value) output [] judged one = absurd (true≢false (of_output (doing output (name_update name value)) [] judged).1.1.1.0)
+  output_says (name_update name value) output (held ∷ []) judged one = updates_says name value output held judged
+  output_says operation output (held ∷ next ∷ more) judged one = absurd (not_one held next more one)
 
 -- ---- of the whole
 
@@ -228,13 +249,13 @@ lists_say profile maps height t inputs [] ins outs accepted =
     subst (Means profile maps height t) (sym tests.1) (no_output_says profile maps height t inputs ins outs tests.0.1.1.0 tests.0.1.1.1.1.0)
 lists_say profile maps height t inputs (output ∷ []) ins outs accepted =
     let tests = passed (count_tests t.version inputs (output ∷ [])) (by_output profile maps height (txid_of t) (output ∷ []) inputs) accepted in
-    let counted : Counted maps t inputs (output_of output.place output.value output.operation ∷ []) = record {
+    let judged : Judged profile maps height t output inputs = record {
       version = named_version t.version tests.0.1.1.1.0;
       inputs_are = ins;
       outputs_are = outs;
+      accepted = ap is_refused (sym tests.1) ∙ accepted;
     } in
-    subst (Means profile maps height t) (sym tests.1)
-    (output_says profile maps height t output.operation output.place output.value inputs counted tests.0.0 (ap is_refused (sym tests.1) ∙ accepted))
+    subst (Means profile maps height t) (sym tests.1) (output_says profile maps height t output.operation output inputs judged tests.0.0)
 lists_say profile maps height t inputs (output ∷ next ∷ more) ins outs accepted =
     let tests = passed (count_tests t.version inputs (output ∷ next ∷ more)) (by_output profile maps height (txid_of t) (output ∷ next ∷ more) inputs) accepted in
     absurd (not_one output next more tests.0.1.0)

@@ -125,7 +125,7 @@ listed_too now next (x ∷ xs) ys point due all e = by (same_point x.at point) r
     by false is e' later = later e'
 
 -- the coins that are due, in order, are one list
-pub one_due : (now next : OutPoint → Option Coin) (xs ys : List HeldCoin) → IsDue now next xs → IsDue now next ys → IsSortedByPoint xs → IsSortedByPoint ys → xs ≡ ys
+one_due : (now next : OutPoint → Option Coin) (xs ys : List HeldCoin) → IsDue now next xs → IsDue now next ys → IsSortedByPoint xs → IsSortedByPoint ys → xs ≡ ys
 one_due now next xs ys left right left_sorted right_sorted =
     one_list now xs ys (all-weaker (IsGone now next) (IsThere now) xs (λ held gone. gone.now_is) left.each)
     (all-weaker (IsGone now next) (IsThere now) ys (λ held gone. gone.now_is) right.each)

@@ -38,7 +38,7 @@ same_by_cmp a b =
     ∙ ap (λ x. x && is_eq (nat_cmp a.index b.index)) (is_eq-slice_cmp a.txid.0 b.txid.0)
     ∙ ap (λ x. bytes_eq a.txid.0 b.txid.0 && x) (is_eq-nat_cmp a.index b.index)
 
-pub length-points_of : (helds : List HeldCoin) → length (points_of helds) ≡ length helds
+length-points_of : (helds : List HeldCoin) → length (points_of helds) ≡ length helds
 length-points_of [] = refl
 length-points_of (held ∷ helds) = ap suc (length-points_of helds)
 

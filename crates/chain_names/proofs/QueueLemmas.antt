@@ -68,7 +68,7 @@ queue_of-less coins p name u held = fun_ext (λ v. fun_ext (λ q. less_at coins 
 
 -- ---- coins that aren't queued
 
-abbrev pub IsUnqueued : Option Coin → Type 0
+abbrev IsUnqueued : Option Coin → Type 0
 IsUnqueued coin = (height : ℕ) → is_named_at height coin ≡ false
 
 still_at : (coins : OutPoint → Option Coin) (p : OutPoint) (coin : Option Coin) (v : ℕ) (q : OutPoint) (b : Bool) → same_point p q ≡ b → IsUnqueued (coins p) → IsUnqueued coin

@@ -101,8 +101,11 @@ block_has_undo profile start base block blocks us accepted below undos =
     let u : UndoRecord = record { block = record { 0 = hash_in block }; ops = undo_ops profile height ts before; expired = all.helds } in
     record {
       undo = u;
-      is_undo = undo_by_maps profile start base block blocks accepted.unrefused u refl refl
-          (record { each = all.each; all = λ point coin held gone. all.all point coin held gone (listed.all point coin held gone) }) all.sorted;
+      is_undo = undo_by_maps profile start base block blocks accepted.unrefused u refl (record {
+        ops = refl;
+        due = record { each = all.each; all = λ point coin held gone. all.all point coin held gone (listed.all point coin held gone) };
+        sorted = all.sorted;
+      });
     }
 
 pub record HasUndos (profile : Profile) (start : Log) (base : ℕ) (blocks : List (List ℕ)) : Type 0 where

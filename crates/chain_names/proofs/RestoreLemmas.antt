@@ -39,7 +39,7 @@ restored_at coins target [] point all rest = rest refl
 restored_at coins target (held ∷ helds) point all rest =
     restored_here coins target held helds point all.0 (restored_at coins target helds point all.1) (same_point held.at point) refl rest
 
-pub restored-target : (coins target : OutPoint → Option Coin) (helds : List HeldCoin) → AllByRecursion (IsOf target) helds
+restored-target : (coins target : OutPoint → Option Coin) (helds : List HeldCoin) → AllByRecursion (IsOf target) helds
     → ((point : OutPoint) → list_any (is_held_at point) helds ≡ false → coins point ≡ target point) → restored helds coins ≡ target
 restored-target coins target helds all rest = fun_ext (λ point. restored_at coins target helds point all (rest point))
 
@@ -83,7 +83,7 @@ elsewhere_here : (coins : OutPoint → Option Coin) (held : HeldCoin) (helds : L
 elsewhere_here coins held helds point later true none = absurd (true_is_not_false none)
 elsewhere_here coins held helds point later false none = later none
 
-restored-elsewhere : (coins : OutPoint → Option Coin) (helds : List HeldCoin) (point : OutPoint) → list_any (is_held_at point) helds ≡ false
+pub restored-elsewhere : (coins : OutPoint → Option Coin) (helds : List HeldCoin) (point : OutPoint) → list_any (is_held_at point) helds ≡ false
     → restored helds coins point ≡ coins point
 restored-elsewhere coins [] point none = refl
 restored-elsewhere coins (held ∷ helds) point none =

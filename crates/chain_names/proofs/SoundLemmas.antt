@@ -1,17 +1,14 @@
 -- Soundness goes on from block to block.
-use Rattle.std.proofs.Common.{◌≡◌, ℕ, suc, ◌+◌, ◌<◌, ◌≤◌, ◌^◌, List, [], ◌∷◌, length, refl, sym, ap, subst, ◌∙◌, arith}
-use Rattle.std.specs.Prelude.{None}
+use Rattle.std.proofs.Common.{◌≡◌, ℕ, suc, ◌+◌, List, [], ◌∷◌, length, refl, sym, ap, subst, ◌∙◌, arith}
 use Rattle.block_grammar.specs.Transaction.{Transaction}
 use Rattle.nmc_base.specs.declared.chain_ends.Profile.{Profile}
 use Rattle.chain_names.specs.declared.undo.UndoOp.{UndoOp}
 use Rattle.chain_names.specs.Coins.{Maps}
-use Rattle.chain_names.specs.Changes.{after_all, after_block, first_refused, undo_ops, undone}
+use Rattle.chain_names.specs.Changes.{after_block, undone}
 use Rattle.chain_names.specs.Undo.{UndoRecord}
-use Rattle.chain_names.specs.Expired.{IsSortedByPoint, IsDue}
-use Rattle.nmc_base.specs.Heights.{highest}
+use Rattle.chain_names.specs.UndoOf.{IsUndoByMaps}
 use Rattle.chain_names.specs.State.{IsState}
-use Rattle.block_grammar.specs.Block.{count_outputs}
-use Rattle.chain_names.specs.Sound.{IsSound}
+use Rattle.chain_names.specs.Sound.{IsSound, MayFollow}
 use Rattle.chain_names.proofs.StandLemmas.{state_stands, stands-higher}
 use Rattle.chain_names.proofs.RestoreLemmas.{block_undone}
 use Rattle.chain_names.proofs.StateLemmas.{transactions_stand, transactions_few, block_state}
@@ -22,25 +19,23 @@ pub sound_state : (profile : Profile) (base tip : ℕ) (maps : Maps) (us : List 
 sound_state profile base tip maps [] sound = sound.state
 sound_state profile base tip maps (u ∷ us) sound = sound.1.state
 
-pub block_sound : (profile : Profile) (base tip index : ℕ) (ts : List Transaction) (maps : Maps) (u : UndoRecord) (us : List UndoRecord) → IsSound profile base tip maps us
-    → first_refused profile (suc tip) index ts maps ≡ None → suc tip ≤ highest → count_outputs ts < 2 ^ 32 → u.ops ≡ undo_ops profile (suc tip) ts maps
-    → IsDue (after_all profile (suc tip) ts maps).coins (after_block profile (suc tip) ts maps).coins u.expired → IsSortedByPoint u.expired
-    → IsSound profile base (suc tip) (after_block profile (suc tip) ts maps) (u ∷ us)
-block_sound profile base tip index ts maps u us sound accepted low few ops due sorted =
+pub block_sound : (profile : Profile) (base tip : ℕ) (ts : List Transaction) (maps : Maps) (u : UndoRecord) (us : List UndoRecord) → IsSound profile base tip maps us
+    → MayFollow profile tip ts maps → IsUndoByMaps profile (suc tip) ts maps u → IsSound profile base (suc tip) (after_block profile (suc tip) ts maps) (u ∷ us)
+block_sound profile base tip ts maps u us sound follows undoes =
     let state = sound_state profile base tip maps us sound in
     let before = stands-higher profile (suc tip) tip (suc tip) maps (omega arith) (state_stands profile tip maps state) in
     let stands = transactions_stand profile tip ts maps state in
-    let few_rows = transactions_few profile tip ts maps state few in
+    let few_rows = transactions_few profile tip ts maps state follows.few in
     let left = after_block profile (suc tip) ts maps in (
       tip,
       record {
         above = refl;
-        state = block_state profile tip ts maps state low few;
-        limits = block_limits profile (suc tip) ts maps u before stands few_rows few ops due sorted;
-        fits = block_fits profile (suc tip) index ts maps u before accepted ops due;
+        state = block_state profile tip ts maps state follows.low follows.few;
+        limits = block_limits profile (suc tip) ts maps u before stands few_rows follows.few undoes;
+        fits = block_fits profile (suc tip) follows.index ts maps u before follows.unrefused undoes;
       },
       subst (λ m. IsSound profile base tip m us)
-          (sym (ap (λ (os : List UndoOp). undone os u.expired left) ops ∙ block_undone profile (suc tip) index ts maps u.expired accepted due))
+          (sym (ap (λ (os : List UndoOp). undone os u.expired left) undoes.ops ∙ block_undone profile (suc tip) follows.index ts maps u.expired follows.unrefused undoes.due))
           sound,
     )
 

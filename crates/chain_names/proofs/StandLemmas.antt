@@ -1,28 +1,15 @@
 -- Maps that stand at a height: what a state says, while the transactions of a block change them.
-use Rattle.std.proofs.Common.{◌≡◌, ℕ, suc, ◌≤◌, false, List, le_trans}
+use Rattle.std.proofs.Common.{◌≡◌, ℕ, suc, ◌≤◌, List, le_trans}
 use Rattle.std.specs.Prelude.{Some}
-use Rattle.std.specs.List.{AllByRecursion}
 use Rattle.nmc_base.specs.declared.hashes.OutPoint.{OutPoint}
 use Rattle.nmc_base.specs.declared.chain_ends.Profile.{Profile}
-use Rattle.nmc_base.specs.Expiry.{is_expired}
 use Rattle.chain_names.specs.declared.coin.Coin.{Coin}
-use Rattle.chain_names.specs.declared.coin.Coin.TheVariants.{Named}
+use Rattle.chain_names.specs.declared.coin.Coin.TheVariants.{New, Named}
 use Rattle.chain_names.specs.declared.coin.Item.{Item}
-use Rattle.chain_names.specs.Coins.{Maps, entry_of}
-use Rattle.chain_names.specs.Verdict.{made_at}
+use Rattle.chain_names.specs.Coins.{Maps}
 use Rattle.nmc_base.specs.Heights.{highest}
 use Rattle.nmc_base.proofs.ListLemmas.{all-weaker}
-use Rattle.chain_names.specs.State.{IsUpTo, FitsItem, IsRising, IsStandingCoin, HasFewNames, IsState}
-
--- no coin and no item is higher than the top, and names stand at the height
-pub record Stands (profile : Profile) (height top : ℕ) (maps : Maps) : Type 0 where
-  pub coin_heights : (point : OutPoint) (coin : Coin) → maps.coins point ≡ Some coin → made_at coin ≤ top
-  pub item_heights : (name : List ℕ) → AllByRecursion (IsUpTo top) (maps.names name)
-  pub rising : (name : List ℕ) → IsRising (maps.names name)
-  pub lengths : (name : List ℕ) → AllByRecursion (FitsItem name) (maps.names name)
-  pub named_coins : (point : OutPoint) (name : List ℕ) (made : ℕ) → maps.coins point ≡ Some (Named name made) → IsStandingCoin profile height (maps.names name) made point
-  pub standing_names : (name : List ℕ) (item : Item) → entry_of (maps.names name) ≡ Some item → is_expired profile item.height height ≡ false
-      → maps.coins item.at ≡ Some (Named name item.height)
+use Rattle.chain_names.specs.State.{IsUpTo, IsStandingCoin, HasFewNames, Stands, IsState}
 
 pub state_stands : (profile : Profile) (tip : ℕ) (maps : Maps) → IsState profile tip maps → Stands profile (suc tip) tip maps
 state_stands profile tip maps state = record {
@@ -57,3 +44,15 @@ stands-higher profile height top more maps higher stands = record {
   named_coins = stands.named_coins;
   standing_names = stands.standing_names;
 }
+
+-- ---- coin by coin
+
+-- a name's coin is the name's last item, and isn't expired at the height
+abbrev pub StandsAs : Profile → ℕ → (List ℕ → List Item) → OutPoint → Coin → Type 0
+StandsAs profile height names point (New hash made) = Unit {0}
+StandsAs profile height names point (Named name made) = IsStandingCoin profile height (names name) made point
+
+pub each_stands : (profile : Profile) (height top : ℕ) (maps : Maps) → Stands profile height top maps → (point : OutPoint) (coin : Coin) → maps.coins point ≡ Some coin
+    → StandsAs profile height maps.names point coin
+each_stands profile height top maps stands point (New hash made) held = tt
+each_stands profile height top maps stands point (Named name made) held = stands.named_coins point name made held

@@ -23,40 +23,33 @@ use Rattle.chain_names.specs.Verdict.{made_at}
 use Rattle.chain_names.proofs.Changed.{changed_at, changed_mapped}
 use Rattle.chain_names.proofs.Points.{same_point-Decides, same_point-comm}
 use Rattle.chain_names.proofs.Shown.{true_is_not_false}
-use Rattle.chain_names.proofs.HistoryLemmas.{entry_of-more}
-use Rattle.chain_names.specs.State.{IsUpTo, FitsItem, IsRising, IsStandingCoin, HasFewNames, IsState}
+use Rattle.chain_names.proofs.HistoryLemmas.{each_history, entry_of-more, last_item, own_history}
+use Rattle.chain_names.specs.State.{IsUpTo, FitsItem, IsRising, IsStandingCoin, HasFewNames, IsState, Stands}
 use Rattle.chain_names.specs.Sound.{BeginsRegistration, IsSound}
-use Rattle.chain_names.proofs.PointLemmas.{apart}
-use Rattle.chain_names.proofs.StandLemmas.{Stands, standing_state}
+use Rattle.chain_names.proofs.PointLemmas.{apart, put_or_there}
+use Rattle.chain_names.proofs.StandLemmas.{StandsAs, standing_state}
 use Rattle.chain_names.proofs.MoveLemmas.{commitment_stands}
-use Rattle.chain_names.proofs.RestoredHistoryLemmas.{each_history, last_item, own_history}
 use Rattle.chain_names.proofs.UndoneBlockLemmas.{live_left}
 use Rattle.chain_names.proofs.CountLemmas.{named_left}
 
 -- ---- a name's first value
 
 -- the outpoint has no coin yet and the name no value
-pub record IsFirstValue (profile : Profile) (height top : ℕ) (maps : Maps) (name : List ℕ) (item : Item) : Type 0 where
-  pub stands : Stands profile height top maps
-  pub low : item.height ≤ top
-  pub fresh : maps.coins item.at ≡ None
-  pub one : maps.names name ≡ []
-  pub live : is_expired profile item.height height ≡ false
-  pub fits : FitsName name item.value
+record IsFirstValue (profile : Profile) (base : ℕ) (maps : Maps) (name : List ℕ) (item : Item) : Type 0 where
+  stands : Stands profile (suc base) base maps
+  low : item.height ≤ base
+  fresh : maps.coins item.at ≡ None
+  one : maps.names name ≡ []
+  live : is_expired profile item.height (suc base) ≡ false
+  fits : FitsName name item.value
 
-module _ (profile : Profile) (height top : ℕ) (maps : Maps) (name : List ℕ) (new : Item) (first : IsFirstValue profile height top maps name new) where
+module _ (profile : Profile) (base : ℕ) (maps : Maps) (name : List ℕ) (new : Item) (first : IsFirstValue profile base maps name new) where
   abbrev Now : Maps
   Now = record { coins = changed same_point maps.coins new.at (Some (Named name new.height)); names = with_value maps.names name new }
 
-  coin_low : (q : OutPoint) (c : Coin) (b : Bool) → cond b (Some (Named name new.height)) (maps.coins q) ≡ Some c → made_at c ≤ top
-  coin_low q c true e =
-      let same : Named name new.height ≡ c = cc in
-      subst (λ k. made_at k ≤ top) same first.low
-  coin_low q c false e = first.stands.coin_heights q c e
-
-  own_coin : IsStandingCoin profile height (Now.names name) new.height new.at
+  own_coin : IsStandingCoin profile (suc base) (Now.names name) new.height new.at
   own_coin =
-      subst (λ items. IsStandingCoin profile height items new.height new.at) (sym (own_history maps.names name new))
+      subst (λ items. IsStandingCoin profile (suc base) items new.height new.at) (sym (own_history maps.names name new))
       (record { is_last = last_item (maps.names name) new; live = first.live })
 
   -- no other coin bears the name
@@ -66,17 +59,11 @@ module _ (profile : Profile) (height top : ℕ) (maps : Maps) (name : List ℕ) 
       let bad : None ≡ Some _ = sym (ap entry_of first.one) ∙ standing.is_last.last in
       cc
 
-  named_coin : (q : OutPoint) (n : List ℕ) (made : ℕ) (b : Bool) → same_point new.at q ≡ b → cond b (Some (Named name new.height)) (maps.coins q) ≡ Some (Named n made)
-      → IsStandingCoin profile height (Now.names n) made q
-  named_coin q n made true is e =
-      let named : name ≡ n = cc in
-      let here : new.height ≡ made = cc in
-      subst (λ k. IsStandingCoin profile height (Now.names k) made q) named
-      (subst (λ h. IsStandingCoin profile height (Now.names name) h q) here
-      (subst (λ p. IsStandingCoin profile height (Now.names name) new.height p) ((same_point-Decides new.at q).0 is) own_coin))
-  named_coin q n made false is e =
-      each_history maps.names name new (λ k items. maps.coins q ≡ Some (Named k made) → IsStandingCoin profile height items made q)
-      (λ there. absurd (no_other q made there)) (λ k other. first.stands.named_coins q k made) n e
+  other_coin : (q : OutPoint) (c : Coin) → maps.coins q ≡ Some c → StandsAs profile (suc base) Now.names q c
+  other_coin q (New hash made) there = tt
+  other_coin q (Named n made) there =
+      each_history maps.names name new (λ k items. maps.coins q ≡ Some (Named k made) → IsStandingCoin profile (suc base) items made q)
+      (λ here. absurd (no_other q made here)) (λ k other. first.stands.named_coins q k made) n there
 
   own_entry : (item : Item) → entry_of (maps.names name ++ new ∷ []) ≡ Some item → Now.coins item.at ≡ Some (Named name item.height)
   own_entry item entry =
@@ -89,18 +76,19 @@ module _ (profile : Profile) (height top : ℕ) (maps : Maps) (name : List ℕ) 
   other_entry n item there =
       ap (λ b. cond b (Some (Named name new.height)) (maps.coins item.at)) (apart maps.coins new.at item.at (Named n item.height) first.fresh there) ∙ there
 
-  pub value_stands : Stands profile height top Now
+  value_stands : Stands profile (suc base) base Now
   value_stands = record {
-    coin_heights = λ q c. coin_low q c (same_point new.at q);
-    item_heights = each_history maps.names name new (λ n items. AllByRecursion (IsUpTo top) items)
-        (all-append (IsUpTo top) (maps.names name) (new ∷ []) (first.stands.item_heights name) (first.low, tt)) (λ n other. first.stands.item_heights n);
+    coin_heights = put_or_there (λ q c. made_at c ≤ base) maps.coins new.at (Named name new.height) first.low first.stands.coin_heights;
+    item_heights = each_history maps.names name new (λ n items. AllByRecursion (IsUpTo base) items)
+        (all-append (IsUpTo base) (maps.names name) (new ∷ []) (first.stands.item_heights name) (first.low, tt)) (λ n other. first.stands.item_heights n);
     rising = each_history maps.names name new (λ n items. IsRising items)
         (subst (λ (items : List Item). IsRising (items ++ new ∷ [])) (sym first.one) tt) (λ n other. first.stands.rising n);
     lengths = each_history maps.names name new (λ n items. AllByRecursion (FitsItem n) items)
         (all-append (FitsItem name) (maps.names name) (new ∷ []) (first.stands.lengths name) (first.fits, tt)) (λ n other. first.stands.lengths n);
-    named_coins = λ q n made. named_coin q n made (same_point new.at q) refl;
+    named_coins = λ q n made.
+        put_or_there (StandsAs profile (suc base) Now.names) maps.coins new.at (Named name new.height) own_coin other_coin q (Named n made);
     standing_names = each_history maps.names name new
-        (λ n items. (item : Item) → entry_of items ≡ Some item → is_expired profile item.height height ≡ false → Now.coins item.at ≡ Some (Named n item.height))
+        (λ n items. (item : Item) → entry_of items ≡ Some item → is_expired profile item.height (suc base) ≡ false → Now.coins item.at ≡ Some (Named n item.height))
         (λ item entry alive. own_entry item entry)
         (λ n other item entry alive. other_entry n item (first.stands.standing_names n item entry alive));
   }
@@ -113,38 +101,49 @@ first_update : (below : Log) (point : OutPoint) (made : ℕ) (name value : List 
 first_update below point made name value one =
     ap (λ before. with_value (history_of below) name (updated (entry_of before) made point value)) one
 
--- the live coins with a make more
-live_more : (profile : Profile) (below : Log) (point : OutPoint) (operation : NameOperation) (made height : ℕ) (coin : Coin)
-    → coin_of operation made ≡ coin → unless_expired profile height (Some coin) ≡ Some coin
-    → live_coin profile (Make point operation made ∷ below) height ≡ changed same_point (live_coin profile below height) point (Some coin)
-live_more profile below point operation made height coin is live =
+-- the maps with a make more
+more_maps : (profile : Profile) (below : Log) (point : OutPoint) (operation : NameOperation) (made height : ℕ) (names : List ℕ → List Item)
+    → unless_expired profile height (Some (coin_of operation made)) ≡ Some (coin_of operation made) → history_of (Make point operation made ∷ below) ≡ names
+    → maps_of profile (Make point operation made ∷ below) height
+    ≡ record { coins = changed same_point (live_coin profile below height) point (Some (coin_of operation made)); names = names }
+more_maps profile below point operation made height names live is =
+    let coins =
     changed_mapped same_point (unless_expired profile height) (coin_now below) point (Some (coin_of operation made))
-    ∙ ap (changed same_point (live_coin profile below height) point) (ap (λ c. unless_expired profile height (Some c)) is ∙ live)
+    ∙ ap (changed same_point (live_coin profile below height) point) live in
+    λ i. record { coins = coins i; names = is i }
 
-module _ (profile : Profile) (base : ℕ) (below : Log) (point : OutPoint) (made : ℕ) (low : made ≤ base) (one : coin_now below point ≡ None)
-    (stands : Stands profile (suc base) base (maps_of profile below (suc base))) where
+-- a make on top of makes that stand
+record IsOnTop (profile : Profile) (base : ℕ) (below : Log) (point : OutPoint) (made : ℕ) : Type 0 where
+  stands : Stands profile (suc base) base (maps_of profile below (suc base))
+  low : made ≤ base
   fresh : live_coin profile below (suc base) point ≡ None
-  fresh = ap (unless_expired profile (suc base)) one
 
+module _ (profile : Profile) (base : ℕ) (below : Log) (point : OutPoint) (made : ℕ) (top : IsOnTop profile base below point made) where
   -- the value begins its registration: the name has none before
-  named_make : (operation : NameOperation) (name value : List ℕ) → coin_of operation made ≡ Named name made
-      → history_of (Make point operation made ∷ below) ≡ with_value (history_of below) name (opened made point value)
-      → IsOneValue profile base below name value made → Stands profile (suc base) base (maps_of profile (Make point operation made ∷ below) (suc base))
-  named_make operation name value is names fits =
-      subst (Stands profile (suc base) base)
-      (λ i. record { coins = sym (live_more profile below point operation made (suc base) (Named name made) is (live_left profile (suc base) name made fits.live)) i; names = sym names i })
-      (value_stands profile (suc base) base (maps_of profile below (suc base)) name (opened made point value)
-      (record { stands = stands; low = low; fresh = fresh; one = fits.one; live = fits.live; fits = fits.fits }))
+  value_more : (name value : List ℕ) → IsOneValue profile base below name value made
+      → Stands profile (suc base) base (record {
+        coins = changed same_point (live_coin profile below (suc base)) point (Some (Named name made));
+        names = with_value (history_of below) name (opened made point value);
+      })
+  value_more name value fits =
+      value_stands profile base (maps_of profile below (suc base)) name (opened made point value)
+      (record { stands = top.stands; low = top.low; fresh = top.fresh; one = fits.one; live = fits.live; fits = fits.fits })
 
   make_stands : (operation : NameOperation) → IsStartMake profile base below point operation made
       → Stands profile (suc base) base (maps_of profile (Make point operation made ∷ below) (suc base))
   make_stands (name_new hash) make =
+      subst (Stands profile (suc base) base) (sym (more_maps profile below point (name_new hash) made (suc base) (history_of below) refl refl))
+      (commitment_stands profile (suc base) base made (maps_of profile below (suc base)) point (record { 0 = hash }) top.low top.stands top.fresh)
+  make_stands (name_firstupdate name rand value) make =
       subst (Stands profile (suc base) base)
-      (λ i. record { coins = sym (live_more profile below point (name_new hash) made (suc base) (New (record { 0 = hash }) made) refl refl) i; names = history_of below })
-      (commitment_stands profile (suc base) base made (maps_of profile below (suc base)) point (record { 0 = hash }) low stands fresh)
-  make_stands (name_firstupdate name rand value) make = named_make (name_firstupdate name rand value) name value refl refl make.fits
+      (sym (more_maps profile below point (name_firstupdate name rand value) made (suc base) (with_value (history_of below) name (opened made point value))
+      (live_left profile (suc base) name made make.fits.live) refl))
+      (value_more name value make.fits)
   make_stands (name_update name value) make =
-      named_make (name_update name value) name value refl (first_update below point made name value make.fits.one) make.fits
+      subst (Stands profile (suc base) base)
+      (sym (more_maps profile below point (name_update name value) made (suc base) (with_value (history_of below) name (opened made point value))
+      (live_left profile (suc base) name made make.fits.live) (first_update below point made name value make.fits.one)))
+      (value_more name value make.fits)
 
 makes_stand : (profile : Profile) (base : ℕ) (start : Log) → AreStartMakes profile base start → Stands profile (suc base) base (maps_of profile start (suc base))
 makes_stand profile base [] makes = record {
@@ -157,7 +156,8 @@ makes_stand profile base [] makes = record {
 }
 makes_stand profile base (Spend point ∷ below) makes = absurd makes
 makes_stand profile base (Make point operation made ∷ below) makes =
-    make_stands profile base below point made makes.0.low makes.0.one (makes_stand profile base below makes.1) operation makes.0
+    make_stands profile base below point made
+    (record { stands = makes_stand profile base below makes.1; low = makes.0.low; fresh = ap (unless_expired profile (suc base)) makes.0.one }) operation makes.0
 
 -- ---- how many names there are
 
@@ -193,7 +193,7 @@ few_in profile height log few row = record {
   all = λ point named. touched log row point (named_left profile height row (coin_now log point) named);
 }
 
-pub start_state : (profile : Profile) (start : Log) (base : ℕ) → base ≤ highest → IsStart profile base start → IsState profile base (maps_of profile start (suc base))
+start_state : (profile : Profile) (start : Log) (base : ℕ) → base ≤ highest → IsStart profile base start → IsState profile base (maps_of profile start (suc base))
 start_state profile start base low starts =
     standing_state profile base (maps_of profile start (suc base)) low (few_in profile (suc base) start starts.few) (makes_stand profile base start starts.makes)
 

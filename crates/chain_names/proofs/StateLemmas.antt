@@ -5,9 +5,9 @@ use Rattle.nmc_base.specs.declared.chain_ends.Profile.{Profile}
 use Rattle.chain_names.specs.Coins.{Maps}
 use Rattle.chain_names.specs.Changes.{after_all, after_block}
 use Rattle.nmc_base.specs.Heights.{highest}
-use Rattle.chain_names.specs.State.{IsState, HasFewNames}
+use Rattle.chain_names.specs.State.{IsState, HasFewNames, Stands}
 use Rattle.block_grammar.specs.Block.{count_outputs}
-use Rattle.chain_names.proofs.StandLemmas.{Stands, state_stands, standing_state, stands-higher}
+use Rattle.chain_names.proofs.StandLemmas.{state_stands, standing_state, stands-higher}
 use Rattle.chain_names.proofs.UndoneBlockLemmas.{all_stand, block_stands}
 use Rattle.chain_names.proofs.CountLemmas.{few_after, few_left, few_operations}
 

@@ -16,15 +16,15 @@ use Rattle.chain_names.proofs.DueLemmas.{unless_expired-row, unless_expired-none
 use Rattle.chain_names.specs.Fits.{IsJustExpired, with_restored, FitsOp, FitsOps, FitsState, IsUndoable, AreUndoable}
 use Rattle.chain_names.proofs.LimitLemmas.{row_gone}
 
-allows : (tip : ℕ) (op : UndoOp) (maps : Maps) → FitsOp tip op maps → IsUndoable tip op maps
-allows tip (undo_new made) maps fits = record { coin = New fits.hash tip; held = fits.held; unnamed = λ height. refl }
-allows tip (undo_first made spent coin name before) maps fits = record { name = fits.borne; held = fits.held; free = fits.free }
-allows tip (undo_update made spent coin name None) maps fits = absurd fits
-allows tip (undo_update made spent coin name (Some before)) maps fits = record { name = fits.borne; held = fits.held; free = fits.free }
+pub op_allows : (tip : ℕ) (op : UndoOp) (maps : Maps) → FitsOp tip op maps → IsUndoable tip op maps
+op_allows tip (undo_new made) maps fits = record { coin = New fits.hash tip; held = fits.held; unnamed = λ height. refl }
+op_allows tip (undo_first made spent coin name before) maps fits = record { name = fits.borne; held = fits.held; free = fits.free }
+op_allows tip (undo_update made spent coin name None) maps fits = absurd fits
+op_allows tip (undo_update made spent coin name (Some before)) maps fits = record { name = fits.borne; held = fits.held; free = fits.free }
 
 fits_allow : (tip : ℕ) (ops : List UndoOp) (maps : Maps) → FitsOps tip ops maps → AreUndoable tip ops maps
 fits_allow tip [] maps fits = tt
-fits_allow tip (op ∷ ops) maps fits = (fits_allow tip ops maps fits.0, allows tip op (back_ops ops maps) fits.1)
+fits_allow tip (op ∷ ops) maps fits = (fits_allow tip ops maps fits.0, op_allows tip op (back_ops ops maps) fits.1)
 
 pub fit_allows : (profile : Profile) (tip : ℕ) (u : UndoRecord) (maps : Maps) → FitsState profile tip u maps → AreUndoable tip u.ops (with_restored u.expired maps)
 fit_allows profile tip u maps fits = fits_allow tip u.ops (with_restored u.expired maps) fits.ops

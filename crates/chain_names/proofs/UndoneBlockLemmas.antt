@@ -5,6 +5,7 @@ use Rattle.block_grammar.specs.Transaction.{Transaction, txid_of}
 use Rattle.nmc_base.specs.declared.hashes.OutPoint.{OutPoint}
 use Rattle.nmc_base.specs.declared.chain_ends.Profile.{Profile}
 use Rattle.nmc_base.specs.Expiry.{is_expired}
+use Rattle.chain_names.specs.State.{Stands}
 use Rattle.chain_names.specs.declared.coin.Coin.{Coin}
 use Rattle.chain_names.specs.declared.coin.Coin.TheVariants.{New, Named}
 use Rattle.chain_names.specs.Points.{point_at}
@@ -15,8 +16,7 @@ use Rattle.chain_names.specs.Changes.{after_verdict, after_transaction, after_al
 use Rattle.chain_names.proofs.LogLemmas.{stays_expired}
 use Rattle.chain_names.proofs.Meanings.{verdict_means}
 use Rattle.chain_names.proofs.Shown.{true_is_not_false}
-use Rattle.chain_names.proofs.RestoredHistoryLemmas.{one_point}
-use Rattle.chain_names.proofs.StandLemmas.{Stands}
+use Rattle.chain_names.proofs.HistoryLemmas.{one_point}
 use Rattle.chain_names.proofs.MoveLemmas.{commitment_stands, moved_stands}
 
 -- ---- one transaction
@@ -85,7 +85,7 @@ all_stand profile height (t ∷ ts) maps stands =
 -- ---- the coins that are due are gone
 
 -- a coin that is left was there, and a name's isn't expired
-pub left_coin : (profile : Profile) (height : ℕ) (was : Option Coin) (coin : Coin) → unless_expired profile height was ≡ Some coin → was ≡ Some coin
+left_coin : (profile : Profile) (height : ℕ) (was : Option Coin) (coin : Coin) → unless_expired profile height was ≡ Some coin → was ≡ Some coin
 left_coin profile height None coin e = absurd cc
 left_coin profile height (Some (New hash made)) coin e = e
 left_coin profile height (Some (Named name made)) coin e = by (is_expired profile made height) e
@@ -105,7 +105,7 @@ pub live_left : (profile : Profile) (height : ℕ) (name : List ℕ) (made : ℕ
 live_left profile height name made live = ap (λ b. cond b None (Some (Named name made))) live
 
 -- what isn't expired at the next height isn't at this one
-live_before : (profile : Profile) (made height : ℕ) → is_expired profile made (suc height) ≡ false → is_expired profile made height ≡ false
+pub live_before : (profile : Profile) (made height : ℕ) → is_expired profile made (suc height) ≡ false → is_expired profile made height ≡ false
 live_before profile made height live = by (is_expired profile made height) refl
   where
     by : (b : Bool) → is_expired profile made height ≡ b → b ≡ false

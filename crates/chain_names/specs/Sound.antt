@@ -1,11 +1,12 @@
 -- Sound states, and the chains that are accepted on a base.
-use Rattle.std.specs.Prelude.{◌≡◌, ℕ, suc, ◌≤◌, List, [], ◌∷◌, length, None}
+use Rattle.std.specs.Prelude.{◌≡◌, ℕ, suc, ◌<◌, ◌≤◌, ◌^◌, List, [], ◌∷◌, length, None}
 use Rattle.std.specs.List.{AllByRecursion}
-use Rattle.block_grammar.specs.Block.{Block, IsBlock}
+use Rattle.block_grammar.specs.Block.{Block, IsBlock, count_outputs}
+use Rattle.block_grammar.specs.Transaction.{Transaction}
 use Rattle.nmc_base.specs.declared.chain_ends.Profile.{Profile}
 use Rattle.chain_names.specs.declared.coin.Item.{Item}
 use Rattle.chain_names.specs.Coins.{Maps}
-use Rattle.chain_names.specs.Changes.{undone}
+use Rattle.chain_names.specs.Changes.{first_refused, undone}
 use Rattle.chain_names.specs.Index.{next_height, refused_in}
 use Rattle.chain_names.specs.Log.{Log, behind_coinbase, transactions_in, log_of}
 use Rattle.chain_names.specs.Start.{IsStart}
@@ -38,6 +39,14 @@ pub record IsTipState (profile : Profile) (tip below : ℕ) (u : UndoRecord) (ma
 abbrev pub IsSound : Profile → ℕ → ℕ → Maps → List UndoRecord → Type 0
 IsSound profile base tip maps [] = IsBaseState profile base tip maps
 IsSound profile base tip maps (u ∷ us) = (below : ℕ) × IsTipState profile tip below u maps × IsSound profile base below (undone u.ops u.expired maps) us
+
+-- The transactions may be those of the next block: it is no higher than any chain may be, they have fewer than 2^32 outputs in
+-- all, and none is refused, from whichever index they are counted.
+pub record MayFollow (profile : Profile) (tip : ℕ) (transactions : List Transaction) (maps : Maps) : Type 0 where
+  pub low : suc tip ≤ highest
+  pub few : count_outputs transactions < 2 ^ 32
+  pub index : ℕ
+  pub unrefused : first_refused profile (suc tip) index transactions maps ≡ None
 
 -- ---- accepted chains
 

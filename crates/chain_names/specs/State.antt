@@ -44,6 +44,20 @@ pub record HasFewNames (coins : OutPoint → Option Coin) (height : ℕ) : Type 
   pub few : length points < 2 ^ 32
   pub all : (point : OutPoint) → is_named_at height (coins point) ≡ true → list_any (same_point point) points ≡ true
 
+-- Coins and histories while the transactions of a block change them: no coin and no item is higher than the top, and names
+-- stand at the height.
+pub record Stands (profile : Profile) (height top : ℕ) (maps : Maps) : Type 0 where
+  pub coin_heights : (point : OutPoint) (coin : Coin) → maps.coins point ≡ Some coin → made_at coin ≤ top
+  pub item_heights : (name : List ℕ) → AllByRecursion (IsUpTo top) (maps.names name)
+  -- the items of a name don't fall in height, and names and values are within their lengths
+  pub rising : (name : List ℕ) → IsRising (maps.names name)
+  pub lengths : (name : List ℕ) → AllByRecursion (FitsItem name) (maps.names name)
+  -- the coin of a name is its last item and isn't expired at the height, and a last item that isn't has its coin
+  pub named_coins : (point : OutPoint) (name : List ℕ) (made : ℕ) → maps.coins point ≡ Some (Named name made)
+      → IsStandingCoin profile height (maps.names name) made point
+  pub standing_names : (name : List ℕ) (item : Item) → entry_of (maps.names name) ≡ Some item → is_expired profile item.height height ≡ false
+      → maps.coins item.at ≡ Some (Named name item.height)
+
 -- Coins and histories as they are where the tip has this height:
 pub record IsState (profile : Profile) (tip : ℕ) (maps : Maps) : Type 0 where
   pub tip_height : tip ≤ highest

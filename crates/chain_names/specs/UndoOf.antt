@@ -7,9 +7,9 @@ use Rattle.block_grammar.specs.Transaction.{Transaction, txid_of}
 use Rattle.nmc_base.specs.declared.chain_ends.Profile.{Profile}
 use Rattle.chain_names.specs.declared.undo.UndoOp.{UndoOp}
 use Rattle.chain_names.specs.Log.{Log, touches, behind_coinbase, transactions_in, log_of}
-use Rattle.chain_names.specs.Coins.{live_coin, maps_of}
+use Rattle.chain_names.specs.Coins.{Maps, live_coin, maps_of}
 use Rattle.chain_names.specs.Verdict.{verdict}
-use Rattle.chain_names.specs.Changes.{undo_of_verdict}
+use Rattle.chain_names.specs.Changes.{after_all, after_block, undo_of_verdict, undo_ops}
 use Rattle.chain_names.specs.Index.{next_height}
 use Rattle.chain_names.specs.Undo.{UndoRecord}
 use Rattle.chain_names.specs.Expired.{IsSortedByPoint, IsDue}
@@ -46,3 +46,12 @@ AreUndos profile start base [] [] = Unit {0}
 AreUndos profile start base [] (u ∷ us) = ⊥
 AreUndos profile start base (block ∷ blocks) [] = ⊥
 AreUndos profile start base (block ∷ blocks) (u ∷ us) = IsUndoOf profile start base block blocks u × AreUndos profile start base blocks us
+
+-- ---- by the maps
+
+-- The record undoes the transactions of a block at a height on these maps, whatever the block's hash is: their undo
+-- operations, and every coin that is due, in order.
+pub record IsUndoByMaps (profile : Profile) (height : ℕ) (transactions : List Transaction) (maps : Maps) (u : UndoRecord) : Type 0 where
+  pub ops : u.ops ≡ undo_ops profile height transactions maps
+  pub due : IsDue (after_all profile height transactions maps).coins (after_block profile height transactions maps).coins u.expired
+  pub sorted : IsSortedByPoint u.expired

@@ -15,13 +15,13 @@ ghost use Rattle.chain_names.specs.Index.{index_maps, next_height, refused_in};
 ghost use Rattle.chain_names.specs.Start.{IsStart};
 ghost use Rattle.chain_names.specs.Tables.{is_named_at};
 ghost use Rattle.chain_names.specs.Undo.{UndoRecord};
-ghost use Rattle.chain_names.specs.Expired.{IsSortedByPoint, IsGone, IsDue};
+ghost use Rattle.chain_names.specs.Expired.{IsGone, IsDue};
 ghost use Rattle.chain_names.specs.Fits.{AreUndoable, FitsState, IsJustExpired, with_restored};
 ghost use Rattle.block_grammar.specs.Block.{count_outputs};
-ghost use Rattle.chain_names.specs.Sound.{AreAccepted, IsSound};
+ghost use Rattle.chain_names.specs.Sound.{AreAccepted, IsSound, MayFollow};
 ghost use Rattle.nmc_base.specs.Heights.{highest};
 ghost use Rattle.chain_names.specs.State.{IsState};
-ghost use Rattle.chain_names.specs.UndoOf.{AreUndos, IsUndoOf, hash_in, undo_ops_in};
+ghost use Rattle.chain_names.specs.UndoOf.{AreUndos, IsUndoByMaps, IsUndoOf, hash_in, undo_ops_in};
 
 /// Where no transaction is refused, the undo operations by the log, searched anew for each transaction, are those by
 /// the maps.
@@ -56,11 +56,8 @@ pub fn block_keeps_state()
 
 /// The next block keeps a chain sound: its record is that of its operations and of the coins that were due, in order.
 pub fn block_keeps_soundness()
-    ensures { (profile : Profile) (base tip index : ℕ) (transactions : List Transaction) (maps : Maps) (u : UndoRecord) (us : List UndoRecord)
-        → IsSound profile base tip maps us → first_refused profile (suc tip) index transactions maps ≡ None
-        → suc tip ≤ highest → count_outputs transactions < 2 ^ 32 → u.ops ≡ undo_ops profile (suc tip) transactions maps
-        → IsDue (after_all profile (suc tip) transactions maps).coins (after_block profile (suc tip) transactions maps).coins u.expired
-        → IsSortedByPoint u.expired
+    ensures { (profile : Profile) (base tip : ℕ) (transactions : List Transaction) (maps : Maps) (u : UndoRecord) (us : List UndoRecord)
+        → IsSound profile base tip maps us → MayFollow profile tip transactions maps → IsUndoByMaps profile (suc tip) transactions maps u
         → IsSound profile base (suc tip) (after_block profile (suc tip) transactions maps) (u ∷ us) }
 {}
 
@@ -96,10 +93,8 @@ pub fn undo_of_index()
     ensures { (profile : Profile) (start : Log) (base : ℕ) (block : List ℕ) (blocks : List (List ℕ))
         → refused_in profile (next_height base blocks) 1 (behind_coinbase (transactions_in block)) (log_of start base blocks) ≡ None
         → (u : UndoRecord) → u.block.0 ≡ hash_in block
-        → u.ops ≡ undo_ops profile (next_height base blocks) (behind_coinbase (transactions_in block)) (index_maps profile start base blocks)
-        → IsDue (after_all profile (next_height base blocks) (behind_coinbase (transactions_in block)) (index_maps profile start base blocks)).coins
-        (after_block profile (next_height base blocks) (behind_coinbase (transactions_in block)) (index_maps profile start base blocks)).coins u.expired
-        → IsSortedByPoint u.expired → IsUndoOf profile start base block blocks u }
+        → IsUndoByMaps profile (next_height base blocks) (behind_coinbase (transactions_in block)) (index_maps profile start base blocks) u
+        → IsUndoOf profile start base block blocks u }
 {}
 
 /// Undoing the last block of a chain by its record gives the index of the chain without it.
