@@ -34,15 +34,12 @@ use Rattle.name_tables.specs.Tables.{AreFilled}
 use Rattle.name_tables.specs.Tables.{maps_by}
 use Rattle.chain_state.specs.Work.{HasSpentPlace, HasSpentRow, may_be_empty, may_be_empty_at, IsWork}
 use Rattle.chain_state.specs.Block.{IsReady, HasFewOutputs, AppliedAll}
-use Rattle.chain_state.specs.Stage.{Begins, StagesWell, StagesNames, Stages}
-use Rattle.chain_state.specs.declared.stage.Refusal.TheVariants.{BadBlock, NotOnTip, HeightLimit, MerkleMismatch, Rule, JournalFull}
-use Rattle.chain_state.specs.declared.stage.StageOutcome.{StageOutcome}
-use Rattle.chain_state.specs.declared.stage.StageOutcome.TheVariants.{Staged, Refused, NoMemory}
+use Rattle.chain_state.specs.Stage.{Begins}
 use Rattle.chain_state.specs.Worked.{HandsBack}
 use Rattle.chain_state.proofs.WorkedLemmas.{applied_back}
 use Rattle.chain_state.specs.Whole.{Finishes, Commits, maps_before_block}
 use Rattle.nmc_base.specs.Heights.{highest}
-use Rattle.chain_state.specs.Chain.{rule_refused, Indexed, IsIndexed, SameIndex, IsAtBase, IsStagedIndex, IsConnected, index_of, staged_of, staged_undo, newest_hash}
+use Rattle.chain_state.specs.Chain.{rule_refused, Indexed, IsIndexed, SameIndex, IsAtBase, IsStagedIndex, IsStagedOn, IsConnected, index_of, staged_of, staged_undo, newest_hash}
 use Rattle.name_tables.specs.Parts.{newest_first}
 use Rattle.name_tables.specs.declared.tables.Tables.{Tables}
 use Rattle.chain_state.specs.declared.whole.Committed.{Committed}
@@ -136,31 +133,39 @@ module _ (base : Base) (tip : Tip) (hash : Hash32) (whole : Whole) (undos : Room
 
 -- ---- staging
 
-module _ (c : Indexed) (indexed : IsIndexed c) (low : c.tip.height < highest) (given : Tables) (given_is : given ≡ c.tables) (w : Work) (begins : Begins given (c.tip.height + 1) w) where
+-- the work on a chain's next block begins
+pub record IsBegun (c : Indexed) (w : Work) : Type 0 where
+  pub indexed : IsIndexed c
+  pub low : c.tip.height < highest
+  pub given : Tables
+  pub given_is : given ≡ c.tables
+  pub begins : Begins given (c.tip.height + 1) w
+
+filled_coins : (t : Tables) → AreFilled t → (touched : OutPoint → Bool) → FilledBut touched (coin_places t.coins) (λ point. is_some (coins_in t.coins point))
+filled_coins t filled touched point here free = sym (filled.coins point) ∙ here
+
+filled_rows : (t : Tables) → AreFilled t → (touched : ℕ → OutPoint → Bool) (height : ℕ) → FilledBut (touched height) (queue_places t.queue height) (queued_in t.queue height)
+filled_rows t filled touched height point here free = sym (filled.queue height point) ∙ here
+
+module _ (c : Indexed) (w : Work) (b : IsBegun c w) where
   tables_are : w.tables ≡ c.tables
-  tables_are = begins.tables_are ∙ given_is
+  tables_are = b.begins.tables_are ∙ b.given_is
 
   height_is : w.height ≡ suc c.tip.height
-  height_is = begins.height_is ∙ sym (next_is c.tip.height)
-
-  filled_coins : (t : Tables) → AreFilled t → (touched : OutPoint → Bool) → FilledBut touched (coin_places t.coins) (λ point. is_some (coins_in t.coins point))
-  filled_coins t filled touched point here free = sym (filled.coins point) ∙ here
-
-  filled_rows : (t : Tables) → AreFilled t → (touched : ℕ → OutPoint → Bool) (height : ℕ) → FilledBut (touched height) (queue_places t.queue height) (queued_in t.queue height)
-  filled_rows t filled touched height point here free = sym (filled.queue height point) ∙ here
+  height_is = b.begins.height_is ∙ sym (next_is c.tip.height)
 
   begun_work : IsWork w
   begun_work =
-      let filled = subst AreFilled (sym tables_are) indexed.filled in
+      let filled = subst AreFilled (sym tables_are) b.indexed.filled in
       record {
-        queue = subst (λ (t : Tables). queued_in t.queue ≡ queue_of (coins_in t.coins)) (sym tables_are) indexed.queue;
-        fits = subst (λ ops. AreUndoable w.height ops (maps_by w.tables)) (sym begins.ops) tt;
-        spent_placed = subst (AllByRecursion (HasSpentPlace w.tables)) (sym begins.ops) tt;
-        spent_rows = subst (AllByRecursion (HasSpentRow w.tables)) (sym begins.ops) tt;
+        queue = subst (λ (t : Tables). queued_in t.queue ≡ queue_of (coins_in t.coins)) (sym tables_are) b.indexed.queue;
+        fits = subst (λ ops. AreUndoable w.height ops (maps_by w.tables)) (sym b.begins.ops) tt;
+        spent_placed = subst (AllByRecursion (HasSpentPlace w.tables)) (sym b.begins.ops) tt;
+        spent_rows = subst (AllByRecursion (HasSpentRow w.tables)) (sym b.begins.ops) tt;
         coins_filled = filled_coins w.tables filled (may_be_empty w.ops.items w.empty.items);
         queue_filled = filled_rows w.tables filled (may_be_empty_at w.height w.ops.items w.empty.items);
         names_filled = filled.names;
-        room = subst (λ ops. length ops + 1 ≤ w.empty.spare) (sym begins.ops) begins.room;
+        room = subst (λ ops. length ops + 1 ≤ w.empty.spare) (sym b.begins.ops) b.begins.room;
       }
 
   same_maps : maps_by w.tables ≡ maps_by c.tables
@@ -169,12 +174,12 @@ module _ (c : Indexed) (indexed : IsIndexed c) (low : c.tip.height < highest) (g
   pub begun_ready : IsReady c.base.profile w
   begun_ready = record {
     work = begun_work;
-    none_empty = begins.empty;
-    low = omega (arith, height_is, low);
+    none_empty = b.begins.empty;
+    low = omega (arith, height_is, b.low);
     standing = subst (λ h. Stands c.base.profile h h (maps_by w.tables)) (sym height_is)
         (subst (Stands c.base.profile (suc c.tip.height) (suc c.tip.height)) (sym same_maps)
         (stands-higher c.base.profile (suc c.tip.height) c.tip.height (suc c.tip.height) (maps_by c.tables) (omega arith)
-        (state_stands c.base.profile c.tip.height (maps_by c.tables) (indexed_state c indexed))));
+        (state_stands c.base.profile c.tip.height (maps_by c.tables) (indexed_state c b.indexed))));
   }
 
   pub refused_by : (block : Block) (ts : List Transaction) → ts ≡ behind_coinbase block.transactions → (first : Option RefusedBy)
@@ -187,101 +192,102 @@ module _ (c : Indexed) (indexed : IsIndexed c) (low : c.tip.height < highest) (g
   pub back_maps : (t : Tables) → HandsBack w t → maps_by t ≡ maps_by c.tables
   back_maps t back = back.maps ∙ same_maps
 
-  module _ (done : Work) (ts : List Transaction) (applied : AppliedAll c.base.profile w done ts) where
-    done_height : done.height ≡ suc c.tip.height
-    done_height = applied.height ∙ height_is
+-- the block stands on the tip, its root and hash are these, and these are its transactions behind the coinbase
+pub record IsBlockOf (c : Indexed) (ts : List Transaction) (block : Block) (hash : Hash32) : Type 0 where
+  pub on_tip : block.header.fields.previous ≡ c.tip.hash.0
+  pub root : block.header.fields.root ≡ block_root block
+  pub ts_are : ts ≡ behind_coinbase block.transactions
+  pub hash_is : hash.0 ≡ header_hash block.header
 
-    done_before : back_ops done.ops.items (maps_by done.tables) ≡ maps_by c.tables
-    done_before = applied_back c.base.profile w done ts applied ∙ same_maps
+-- the work on the block is whole
+pub record IsWorkedOut (c : Indexed) (w : Work) (ts : List Transaction) (whole : Whole) (undos : Roomy Undo) : Type 0 where
+  pub begun : IsBegun c w
+  pub done : Work
+  pub applied : AppliedAll c.base.profile w done ts
+  pub finishes : Finishes c.base.profile done whole
+  pub same_undos : newest_first undos.items ≡ c.undos
 
-    module _ (hash : Hash32) (whole : Whole) (finishes : Finishes c.base.profile done whole) (undos : Roomy Undo) (same_undos : newest_first undos.items ≡ c.undos) where
-      abbrev maps : Maps
-      maps = maps_by c.tables
+module _ (c : Indexed) (w : Work) (ts : List Transaction) (whole : Whole) (undos : Roomy Undo) (d : IsWorkedOut c w ts whole undos) where
+  done_height : d.done.height ≡ suc c.tip.height
+  done_height = d.applied.height ∙ height_is c w d.begun
 
-      unrefused : first_refused c.base.profile (suc c.tip.height) 1 ts maps ≡ None
-      unrefused =
-          ap (λ m. first_refused c.base.profile (suc c.tip.height) 1 ts m) (sym same_maps)
-          ∙ ap (λ h. first_refused c.base.profile h 1 ts (maps_by w.tables)) (sym height_is) ∙ applied.accepted
+  done_before : back_ops d.done.ops.items (maps_by d.done.tables) ≡ maps_by c.tables
+  done_before = applied_back c.base.profile w d.done ts d.applied ∙ same_maps c w d.begun
 
-      done_maps : maps_by done.tables ≡ after_all c.base.profile (suc c.tip.height) ts maps
-      done_maps =
-          applied.maps
-          ∙ ap (λ h. after_all c.base.profile h ts (maps_by w.tables)) height_is
-          ∙ ap (after_all c.base.profile (suc c.tip.height) ts) same_maps
+  abbrev maps : Maps
+  maps = maps_by c.tables
 
-      after_is : maps_by whole.work.tables ≡ after_block c.base.profile (suc c.tip.height) ts maps
-      after_is =
-          finishes.maps
-          ∙ ap (λ h. without_expired c.base.profile (suc h) (maps_by done.tables)) done_height
-          ∙ ap (without_expired c.base.profile (suc (suc c.tip.height))) done_maps
+  unrefused : first_refused c.base.profile (suc c.tip.height) 1 ts maps ≡ None
+  unrefused =
+      ap (λ m. first_refused c.base.profile (suc c.tip.height) 1 ts m) (sym (same_maps c w d.begun))
+      ∙ ap (λ h. first_refused c.base.profile h 1 ts (maps_by w.tables)) (sym (height_is c w d.begun)) ∙ d.applied.accepted
 
-      ops_are : whole.work.ops.items ≡ undo_ops c.base.profile (suc c.tip.height) ts maps
-      ops_are =
-          ap (λ (l : Roomy UndoOp). l.items) finishes.ops ∙ applied.ops
-          ∙ ap (λ h. undo_ops c.base.profile h ts (maps_by w.tables)) height_is
-          ∙ ap (undo_ops c.base.profile (suc c.tip.height) ts) same_maps
+  done_maps : maps_by d.done.tables ≡ after_all c.base.profile (suc c.tip.height) ts maps
+  done_maps =
+      d.applied.maps
+      ∙ ap (λ h. after_all c.base.profile h ts (maps_by w.tables)) (height_is c w d.begun)
+      ∙ ap (after_all c.base.profile (suc c.tip.height) ts) (same_maps c w d.begun)
 
-      due_are : IsDue (after_all c.base.profile (suc c.tip.height) ts maps).coins (after_block c.base.profile (suc c.tip.height) ts maps).coins whole.expired.items
-      due_are =
-          subst (λ (m : Maps). IsDue m.coins (after_block c.base.profile (suc c.tip.height) ts maps).coins whole.expired.items) done_maps
-          (subst (λ (m : Maps). IsDue (coins_in done.tables.coins) m.coins whole.expired.items) after_is finishes.due)
+  after_is : maps_by whole.work.tables ≡ after_block c.base.profile (suc c.tip.height) ts maps
+  after_is =
+      d.finishes.maps
+      ∙ ap (λ h. without_expired c.base.profile (suc h) (maps_by d.done.tables)) done_height
+      ∙ ap (without_expired c.base.profile (suc (suc c.tip.height))) done_maps
 
-      grown : count_outputs ts < 2 ^ 32 → IsSound c.base.profile c.base.height (suc c.tip.height) (maps_by whole.work.tables) (staged_undo hash whole ∷ newest_first undos.items)
-      grown few =
-          subst (λ us. IsSound c.base.profile c.base.height (suc c.tip.height) (maps_by whole.work.tables) (staged_undo hash whole ∷ us)) (sym same_undos)
-          (subst (λ m. IsSound c.base.profile c.base.height (suc c.tip.height) m (staged_undo hash whole ∷ c.undos)) (sym after_is)
-          (block_sound c.base.profile c.base.height c.tip.height 1 ts maps (staged_undo hash whole) c.undos indexed.sound unrefused low few ops_are due_are finishes.sorted))
+  ops_are : whole.work.ops.items ≡ undo_ops c.base.profile (suc c.tip.height) ts maps
+  ops_are =
+      ap (λ (l : Roomy UndoOp). l.items) d.finishes.ops ∙ d.applied.ops
+      ∙ ap (λ h. undo_ops c.base.profile h ts (maps_by w.tables)) (height_is c w d.begun)
+      ∙ ap (undo_ops c.base.profile (suc c.tip.height) ts) (same_maps c w d.begun)
 
-      tip_low : suc c.tip.height < 2 ^ 32
-      tip_low = omega (arith, low)
+  due_are : IsDue (after_all c.base.profile (suc c.tip.height) ts maps).coins (after_block c.base.profile (suc c.tip.height) ts maps).coins whole.expired.items
+  due_are =
+      subst (λ (m : Maps). IsDue m.coins (after_block c.base.profile (suc c.tip.height) ts maps).coins whole.expired.items) done_maps
+      (subst (λ (m : Maps). IsDue (coins_in d.done.tables.coins) m.coins whole.expired.items) after_is d.finishes.due)
 
-      pub staged_index : AreMeasured maps → count_outputs ts < 2 ^ 32 → length hash.0 ≡ 32 → IsStagedIndex (staged_of c.base c.tip hash whole undos)
-      staged_index measured few hash_length = record {
-        height = low;
-        tip_hash = indexed.hash ∙ sym (ap (newest_hash c.base) same_undos);
-        work_height = finishes.height ∙ done_height;
-        whole = finishes.whole;
-        sound_before = subst (λ us. IsSound c.base.profile c.base.height c.tip.height (maps_before_block whole) us) (sym same_undos)
-            (subst (λ m. IsSound c.base.profile c.base.height c.tip.height m c.undos) (sym (finishes.before ∙ done_before)) indexed.sound);
-        sound_after = grown few;
-        writable = (
-          block_writable c.base.profile (suc c.tip.height) ts maps (staged_undo hash whole) tip_low (few_each ts few) measured hash_length (grown few).1.limits ops_are due_are,
-          subst (AllByRecursion IsWritable) (sym same_undos) indexed.writable,
-        );
-      }
+  grown : (hash : Hash32) → count_outputs ts < 2 ^ 32 → IsSound c.base.profile c.base.height (suc c.tip.height) (maps_by whole.work.tables) (staged_undo hash whole ∷ newest_first undos.items)
+  grown hash few =
+      subst (λ us. IsSound c.base.profile c.base.height (suc c.tip.height) (maps_by whole.work.tables) (staged_undo hash whole ∷ us)) (sym d.same_undos)
+      (subst (λ m. IsSound c.base.profile c.base.height (suc c.tip.height) m (staged_undo hash whole ∷ c.undos)) (sym after_is)
+      (block_sound c.base.profile c.base.height c.tip.height 1 ts maps (staged_undo hash whole) c.undos d.begun.indexed.sound unrefused d.begun.low few ops_are due_are d.finishes.sorted))
 
-      pub staged_well : (block : Block) → ts ≡ behind_coinbase block.transactions → hash.0 ≡ header_hash block.header → StagesWell c block (staged_of c.base c.tip hash whole undos)
-      staged_well block ts_are hash_is = record {
-        on = λ on root. record {
-          on_tip = on;
-          low = low;
-          root = root;
-          accepted = refused_by block ts ts_are None applied.accepted;
-          base = refl;
-          tip = refl;
-          hash = hash_is;
-          before = finishes.before ∙ done_before;
-          queue = indexed.queue;
-          after = after_is ∙ ap (λ l. after_block c.base.profile (suc c.tip.height) l maps) ts_are;
-          ops = ops_are ∙ ap (λ l. undo_ops c.base.profile (suc c.tip.height) l maps) ts_are;
-          due = subst (λ l. IsDue (after_all c.base.profile (suc c.tip.height) l maps).coins (after_block c.base.profile (suc c.tip.height) l maps).coins whole.expired.items) ts_are due_are;
-          sorted = finishes.sorted;
-          undos = same_undos;
-        };
-      }
+  tip_low : suc c.tip.height < 2 ^ 32
+  tip_low = omega (arith, d.begun.low)
 
--- ---- the whole of staging
+  pub staged_index : (hash : Hash32) → AreMeasured maps → count_outputs ts < 2 ^ 32 → length hash.0 ≡ 32 → IsStagedIndex (staged_of c.base c.tip hash whole undos)
+  staged_index hash measured few hash_length = record {
+    height = d.begun.low;
+    tip_hash = d.begun.indexed.hash ∙ sym (ap (newest_hash c.base) d.same_undos);
+    work_height = d.finishes.height ∙ done_height;
+    whole = d.finishes.whole;
+    sound_before = subst (λ us. IsSound c.base.profile c.base.height c.tip.height (maps_before_block whole) us) (sym d.same_undos)
+        (subst (λ m. IsSound c.base.profile c.base.height c.tip.height m c.undos) (sym (d.finishes.before ∙ done_before)) d.begun.indexed.sound);
+    sound_after = grown hash few;
+    writable = (
+      block_writable c.base.profile (suc c.tip.height) ts maps (staged_undo hash whole) (record { low = tip_low; few = few_each ts few; measured = measured }) hash_length (grown hash few).1.limits ops_are due_are,
+      subst (AllByRecursion IsWritable) (sym d.same_undos) d.begun.indexed.writable,
+    );
+  }
 
-pub stages : (c : Indexed) (block : Block) (outcome : StageOutcome) → block.header.fields.previous ≡ c.tip.hash.0 → c.tip.height < highest → block.header.fields.root ≡ block_root block
-    → StagesNames c block outcome → Stages c block outcome
-stages c block (Staged s) on low root names = names.on on root
-stages c block (Refused chain (BadBlock at)) on low root names = absurd names.1
-stages c block (Refused chain (NotOnTip tip)) on low root names = absurd names.1
-stages c block (Refused chain HeightLimit) on low root names = absurd names.1
-stages c block (Refused chain (MerkleMismatch computed)) on low root names = absurd names.1
-stages c block (Refused chain (Rule index refusal)) on low root names = (names.0, (on, low, root, names.1))
-stages c block (Refused chain JournalFull) on low root names = absurd names.1
-stages c block (NoMemory chain) on low root names = (names, on, low)
+  pub staged_on : (hash : Hash32) (block : Block) → IsBlockOf c ts block hash → IsStagedOn c block (staged_of c.base c.tip hash whole undos)
+  staged_on hash block of = record {
+    on_tip = of.on_tip;
+    low = d.begun.low;
+    root = of.root;
+    accepted = refused_by c w d.begun block ts of.ts_are None d.applied.accepted;
+    base = refl;
+    tip = refl;
+    hash = of.hash_is;
+    before = d.finishes.before ∙ done_before;
+    queue = d.begun.indexed.queue;
+    after = after_is ∙ ap (λ l. after_block c.base.profile (suc c.tip.height) l maps) of.ts_are;
+    ops = ops_are ∙ ap (λ l. undo_ops c.base.profile (suc c.tip.height) l maps) of.ts_are;
+    due = subst (λ l. IsDue (after_all c.base.profile (suc c.tip.height) l maps).coins (after_block c.base.profile (suc c.tip.height) l maps).coins whole.expired.items) of.ts_are due_are;
+    sorted = d.finishes.sorted;
+    undos = d.same_undos;
+  }
+
+-- ---- the base alone
 
 pub begun_index : (base : Base) (c : Tables) → base.height ≤ highest → c.coins ≡ [] → c.names ≡ [] → c.queue ≡ []
     → (undos : Roomy Undo) → undos.items ≡ [] → IsIndexed (index_of base (record { height = base.height; hash = base.hash }) c undos)

@@ -222,10 +222,16 @@ module _ (profile : Profile) (height : ℕ) (low : height < 2 ^ 32) where
       (verdict_ops maps t v means few.0 measured)
       (all_ops ts (after_transaction profile height t maps) few.1 (verdict_measured maps t v means few.0 measured))
 
-pub block_writable : (profile : Profile) (height : ℕ) (ts : List Transaction) (maps : Maps) (u : UndoRecord) → height < 2 ^ 32 → AllByRecursion HasFewOutputs ts → AreMeasured maps
+-- a block of this height on maps of which all is as wide as its fields
+pub record IsMeasuredBlock (height : ℕ) (ts : List Transaction) (maps : Maps) : Type 0 where
+  pub low : height < 2 ^ 32
+  pub few : AllByRecursion HasFewOutputs ts
+  pub measured : AreMeasured maps
+
+pub block_writable : (profile : Profile) (height : ℕ) (ts : List Transaction) (maps : Maps) (u : UndoRecord) → IsMeasuredBlock height ts maps
     → length u.block.0 ≡ 32 → IsWithinLimits u → u.ops ≡ undo_ops profile height ts maps
     → IsDue (after_all profile height ts maps).coins (after_block profile height ts maps).coins u.expired → IsWritable u
-block_writable profile height ts maps u low few measured block limits ops due =
-    record_writable u block limits (subst (AllByRecursion IsMeasuredOp) (sym ops) (all_ops profile height low ts maps few measured))
+block_writable profile height ts maps u b block limits ops due =
+    record_writable u block limits (subst (AllByRecursion IsMeasuredOp) (sym ops) (all_ops profile height b.low ts maps b.few b.measured))
     (all-weaker (IsGone (after_all profile height ts maps).coins (after_block profile height ts maps).coins) IsMeasuredHeld u.expired
-    (λ held gone. (all_measured profile height low ts maps few measured).coins held.at held.coin gone.now_is) due.each)
+    (λ held gone. (all_measured profile height b.low ts maps b.few b.measured).coins held.at held.coin gone.now_is) due.each)

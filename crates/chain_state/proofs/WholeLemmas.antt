@@ -313,10 +313,6 @@ module _ (profile : Profile) (old : Work) (tables : Tables) (expired : Roomy Hel
 
 -- ---- none is due
 
-or_false : (b : Bool) → (b || false) ≡ b
-or_false true = refl
-or_false false = refl
-
 pub finished_none : (profile : Profile) (old : Work) (expired : Roomy HeldCoin) → IsReady profile old → due_height profile (suc old.height) ≡ None → expired.items ≡ []
     → Finishes profile old (record { work = old; expired = expired })
 unfolding IsStrictlySortedBy

@@ -72,9 +72,6 @@ pub filled-made : (touched places held : OutPoint → Bool) (k : OutPoint) → F
     → FilledBut touched (changed same_point places k true) (changed same_point held k true)
 filled-made touched places held k filled q = made_at_filled touched places held k q (same_point k q) filled
 
-none_queued : (u : ℕ) → is_named_at u None ≡ false
-none_queued u = refl
-
 -- a commitment was put into the tables, and the operation that undoes it was noted
 pub record IsCommit (w : Work) (coins : CoinSlots) (ops : Roomy UndoOp) (empty : Roomy OutPoint) : Type 0 where
   pub made : OutPoint

@@ -28,10 +28,6 @@ pub record HasIdsAndRoot (block : Block) (ids : List Hash32) (root : Hash32) : T
   pub ids_are : seen_row ids ≡ map txid_of block.transactions
   pub root_is : root.0 ≡ block_root block
 
--- the block's transactions were accepted and the block is staged, or the first that breaks a rule is named
-pub record StagesWell (old : Indexed) (block : Block) (s : StagedIndex) : Type 0 where
-  pub on : block.header.fields.previous ≡ old.tip.hash.0 → block.header.fields.root ≡ block_root block → IsStagedOn old block s
-
 -- the steps that its commit takes at most
 abbrev pub commit_steps : StagedIndex → ℕ
 commit_steps s = 2 * length s.whole.work.ops.items + 2 * length s.whole.expired.items
@@ -56,19 +52,6 @@ IsRefusal c block (MerkleMismatch computed) =
 IsRefusal c block (Rule index refusal) =
     (block.header.fields.previous ≡ c.tip.hash.0) × (c.tip.height < highest) × (block.header.fields.root ≡ block_root block) × (rule_refused c block ≡ Some (index, refusal))
 IsRefusal c block JournalFull = ⊥
-
-abbrev pub IsNamesRefusal : Indexed → Block → Refusal → Type 0
-IsNamesRefusal c block (BadBlock at) = ⊥
-IsNamesRefusal c block (NotOnTip tip) = ⊥
-IsNamesRefusal c block HeightLimit = ⊥
-IsNamesRefusal c block (MerkleMismatch computed) = ⊥
-IsNamesRefusal c block (Rule index refusal) = rule_refused c block ≡ Some (index, refusal)
-IsNamesRefusal c block JournalFull = ⊥
-
-abbrev pub StagesNames : Indexed → Block → StageOutcome → Type 0
-StagesNames old block (Staged s) = StagesWell old block s
-StagesNames old block (Refused c refusal) = SameIndex c old × IsNamesRefusal old block refusal
-StagesNames old block (NoMemory c) = SameIndex c old
 
 -- the block is staged, or refused by the first condition that holds, or memory ran out, for which the first two don't hold
 abbrev pub Stages : Indexed → Block → StageOutcome → Type 0

@@ -1,8 +1,9 @@
 ghost use Rattle.std.specs.Prelude.{◌≡◌, ◌<◌, map, IfOk, IfErr, IsOk};
 ghost use Rattle.nmc_base.specs.declared.limits.TheConstants.{HIGHEST_HEIGHT};
+ghost use Rattle.block_grammar.specs.Merkle.{block_root};
 ghost use Rattle.block_grammar.specs.Transaction.{txid_of};
 ghost use Rattle.block_reader.specs.Rows.{seen_row};
-ghost use Rattle.chain_state.specs.Stage.{Begins, HasIdsAndRoot, StagesNames, Stages, IsCheap};
+ghost use Rattle.chain_state.specs.Stage.{Begins, HasIdsAndRoot, Stages, IsCheap};
 
 use crate::block::{behind_coinbase, ids_behind};
 use crate::chain::{Chain, StagedChain};
@@ -90,9 +91,11 @@ impl Chain {
         ids: &[Hash32],
         steps: &mut Steps<L>,
     ) -> StageOutcome
+        requires on_tip { block.now.header.fields.previous ≡ self.tip.hash.0 }
         requires low { self.tip.height < HIGHEST_HEIGHT }
+        requires root { block.now.header.fields.root ≡ block_root block.now }
         requires ids { seen_row ids.now ≡ map txid_of block.now.transactions }
-        ensures names { StagesNames self block.now result }
+        ensures stages { Stages self block.now result }
         ensures cost { IsCheap block.now result steps.old steps.new }
     {
         // The count says that an index of a transaction fits its number.

@@ -1,29 +1,26 @@
-use Rattle.std.proofs.Common.{◌≡◌, ◌<◌, sym, ap, subst, ◌∙◌, arith}
-use Rattle.block_grammar.specs.Block.{Block}
-use Rattle.block_grammar.specs.Merkle.{block_root}
+use Rattle.std.proofs.Common.{◌<◌, sym, ap, subst, ◌∙◌, arith}
 use Rattle.block_grammar.specs.Header.{Header}
 use Rattle.nmc_base.specs.declared.hashes.Hash32.{Hash32}
 use Rattle.nmc_base.specs.Heights.{highest}
 use Rattle.chain_state.specs.Chain.{Indexed}
-use Rattle.chain_state.proofs.ChainLemmas.{stages}
 use Rattle.chain_state.proofs.DisconnectLemmas.{is_the_tip}
 use Rattle.chain_state.proofs.chain.Chain.stage.Goals as goal
 
-pub returns-clause-stages : goal.returns-clause-stages
-returns-clause-stages g c =
+pub stage_names-requires-clause-on_tip : goal.stage_names-requires-clause-on_tip
+stage_names-requires-clause-on_tip g c =
     let s = c.self.inside in
-    let block : Block = c.args.block.now in
-    let on : block.header.fields.previous ≡ c.args.self.tip.hash.0 =
     sym (c.previous.ensures ∙ ap (λ (h : Header). h.fields.previous) c.header-header.ensures)
     ∙ ap (λ (h : Hash32). h.0) (is_the_tip c.previous.result s.tip.hash (sym c.if-ne.false ∙ c.ne.ensures))
-    ∙ ap (λ (x : Indexed). x.tip.hash.0) c.self.view_is in
-    let low : c.args.self.tip.height < highest =
-    subst (λ (x : Indexed). x.tip.height < highest) c.self.view_is (omega (arith, c.if-self-ge-HIGHEST_HEIGHT.false)) in
-    let root : block.header.fields.root ≡ block_root block =
+    ∙ ap (λ (x : Indexed). x.tip.hash.0) c.self.view_is
+
+pub stage_names-requires-clause-low : goal.stage_names-requires-clause-low
+stage_names-requires-clause-low g c = subst (λ (x : Indexed). x.tip.height < highest) c.self.view_is (omega (arith, c.if-self-ge-HIGHEST_HEIGHT.false))
+
+pub stage_names-requires-clause-root : goal.stage_names-requires-clause-root
+stage_names-requires-clause-root g c =
     sym (c.root.ensures ∙ ap (λ (h : Header). h.fields.root) c.header-header.ensures)
     ∙ ap (λ (h : Hash32). h.0) (is_the_tip c.root.result c.in-Ok.found.1 (sym c.if-ne-2.false ∙ c.ne-2.ensures))
-    ∙ c.in-Ok.ensures.root_is in
-    stages c.args.self block c.stage_names.result on low root c.stage_names.ensures.names
+    ∙ c.in-Ok.ensures.root_is
 
 pub returns-then-ne-clause-cost : goal.returns-then-ne-clause-cost
 returns-then-ne-clause-cost g c = tt

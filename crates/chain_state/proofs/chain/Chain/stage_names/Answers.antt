@@ -6,13 +6,12 @@ use Rattle.block_grammar.specs.Header.{header_hash}
 use Rattle.chain_names.specs.Log.{behind_coinbase}
 use Rattle.chain_names.proofs.OutputLemmas.{fewer_behind}
 use Rattle.chain_names.specs.declared.undo.Undo.{Undo}
-use Rattle.chain_state.specs.Chain.{rule_refused, Indexed, SameIndex, indexed_of, staged_of}
+use Rattle.chain_state.specs.Chain.{rule_refused, Indexed, SameIndex, IsStagedOn, indexed_of, staged_of}
 use Rattle.name_tables.specs.Parts.{newest_first}
 use Rattle.chain_names.specs.Measured.{AreMeasured}
 use Rattle.name_tables.specs.Tables.{maps_by}
 use Rattle.name_tables.specs.declared.tables.Tables.{Tables}
-use Rattle.chain_state.specs.Stage.{StagesWell}
-use Rattle.chain_state.proofs.ChainLemmas.{begun_ready, staged_index, staged_well, back_maps, refused_by, returned_index, returned_same, unused_index}
+use Rattle.chain_state.proofs.ChainLemmas.{begun_ready, staged_index, staged_on, back_maps, refused_by, returned_index, returned_same, unused_index}
 use Rattle.chain_state.proofs.CostLemmas.{staged_cost}
 use Rattle.chain_state.proofs.MeasureLemmas.{length-header_hash}
 use Rattle.chain_state.proofs.chain.Chain.stage_names.Goals as goal
@@ -26,8 +25,8 @@ joined-requires g c =
 pub do_all-requires-clause-ready : goal.do_all-requires-clause-ready
 do_all-requires-clause-ready g c =
     let s = c.self.inside in
-    begun_ready (indexed_of s.base s.tip s.parts) c.self.invariant (subst (λ (x : Indexed). x.tip.height < highest) (sym c.self.view_is) c.requires.low)
-    c.split-tables.result.0 c.split-tables.ensures.tables c.in-Ok.work c.in-Ok.ensures.ok
+    begun_ready (indexed_of s.base s.tip s.parts) c.in-Ok.work
+    (record { indexed = c.self.invariant; low = subst (λ (x : Indexed). x.tip.height < highest) (sym c.self.view_is) c.requires.low; given = c.split-tables.result.0; given_is = c.split-tables.ensures.tables; begins = c.in-Ok.ensures.ok })
 
 pub do_all-requires-clause-outputs : goal.do_all-requires-clause-outputs
 do_all-requires-clause-outputs g c =
@@ -38,10 +37,15 @@ pub invariant_of-result : goal.invariant_of-result
 invariant_of-result g c =
     let s = c.self.inside in
     let works = c.in-Whole.ensures.works in (
-      staged_index (indexed_of s.base s.tip s.parts) c.self.invariant (subst (λ (x : Indexed). x.tip.height < highest) (sym c.self.view_is) c.requires.low)
-          c.split-tables.result.0 c.split-tables.ensures.tables c.in-Ok.work c.in-Ok.ensures.ok works.done c.behind_coinbase-txs.result works.applied
-          c.hash-hash.result c.in-Whole.whole works.finishes c.begin.new.undos
-          (ap newest_first (c.begin.ensures.undos ∙ ap (λ (l : Roomy Undo). l.items) c.split-tables.ensures.undos))
+      staged_index (indexed_of s.base s.tip s.parts) c.in-Ok.work c.behind_coinbase-txs.result c.in-Whole.whole c.begin.new.undos
+          (record {
+            begun = record { indexed = c.self.invariant; low = subst (λ (x : Indexed). x.tip.height < highest) (sym c.self.view_is) c.requires.low; given = c.split-tables.result.0; given_is = c.split-tables.ensures.tables; begins = c.in-Ok.ensures.ok };
+            done = works.done;
+            applied = works.applied;
+            finishes = works.finishes;
+            same_undos = ap newest_first (c.begin.ensures.undos ∙ ap (λ (l : Roomy Undo). l.items) c.split-tables.ensures.undos);
+          })
+          c.hash-hash.result
           (subst (λ (t : Tables). AreMeasured (maps_by t)) c.split-tables.ensures.tables c.split-tables.ensures.measured)
           (subst (λ ts. count_outputs ts < 2 ^ 32) (sym (c.behind_coinbase-txs.ensures ∙ ap behind_coinbase c.txs.ensures.value))
           (omega (arith, fewer_behind c.args.block.now.transactions, c.txs.ensures.few_outputs)))
@@ -55,8 +59,8 @@ joined-chain-requires g c =
     let back = c.in-Refused.ensures.works.0 in
     returned_index (indexed_of s.base s.tip s.parts) c.self.invariant c.in-Refused.tables c.begin.new.undos
     (ap newest_first (c.begin.ensures.undos ∙ ap (λ (l : Roomy Undo). l.items) c.split-tables.ensures.undos))
-    (back_maps (indexed_of s.base s.tip s.parts) c.self.invariant (subst (λ (x : Indexed). x.tip.height < highest) (sym c.self.view_is) c.requires.low)
-    c.split-tables.result.0 c.split-tables.ensures.tables c.in-Ok.work c.in-Ok.ensures.ok c.in-Refused.tables back) back.queue back.filled
+    (back_maps (indexed_of s.base s.tip s.parts) c.in-Ok.work
+    (record { indexed = c.self.invariant; low = subst (λ (x : Indexed). x.tip.height < highest) (sym c.self.view_is) c.requires.low; given = c.split-tables.result.0; given_is = c.split-tables.ensures.tables; begins = c.in-Ok.ensures.ok }) c.in-Refused.tables back) back.queue back.filled
 
 pub joined-requires-in-NoMemory : goal.joined-requires-in-NoMemory
 joined-requires-in-NoMemory g c =
@@ -64,27 +68,37 @@ joined-requires-in-NoMemory g c =
     let back = c.in-NoMemory.ensures.works in
     returned_index (indexed_of s.base s.tip s.parts) c.self.invariant c.in-NoMemory.tables c.begin.new.undos
     (ap newest_first (c.begin.ensures.undos ∙ ap (λ (l : Roomy Undo). l.items) c.split-tables.ensures.undos))
-    (back_maps (indexed_of s.base s.tip s.parts) c.self.invariant (subst (λ (x : Indexed). x.tip.height < highest) (sym c.self.view_is) c.requires.low)
-    c.split-tables.result.0 c.split-tables.ensures.tables c.in-Ok.work c.in-Ok.ensures.ok c.in-NoMemory.tables back) back.queue back.filled
+    (back_maps (indexed_of s.base s.tip s.parts) c.in-Ok.work
+    (record { indexed = c.self.invariant; low = subst (λ (x : Indexed). x.tip.height < highest) (sym c.self.view_is) c.requires.low; given = c.split-tables.result.0; given_is = c.split-tables.ensures.tables; begins = c.in-Ok.ensures.ok }) c.in-NoMemory.tables back) back.queue back.filled
 
-pub returns-in-Whole-clause-names : goal.returns-in-Whole-clause-names
-returns-in-Whole-clause-names g c =
+pub returns-in-Whole-clause-stages : goal.returns-in-Whole-clause-stages
+returns-in-Whole-clause-stages g c =
     let s = c.self.inside in
     let works = c.in-Whole.ensures.works in
-    subst (λ (x : Indexed). StagesWell x c.args.block.now (staged_of s.base s.tip c.hash-hash.result c.in-Whole.whole c.begin.new.undos)) c.self.view_is
-    (staged_well (indexed_of s.base s.tip s.parts) c.self.invariant (subst (λ (x : Indexed). x.tip.height < highest) (sym c.self.view_is) c.requires.low)
-    c.split-tables.result.0 c.split-tables.ensures.tables c.in-Ok.work c.in-Ok.ensures.ok works.done c.behind_coinbase-txs.result works.applied
-    c.hash-hash.result c.in-Whole.whole works.finishes c.begin.new.undos
-    (ap newest_first (c.begin.ensures.undos ∙ ap (λ (l : Roomy Undo). l.items) c.split-tables.ensures.undos))
-    c.args.block.now (c.behind_coinbase-txs.ensures ∙ ap behind_coinbase c.txs.ensures.value) (c.hash-hash.ensures ∙ ap header_hash c.header.ensures))
+    subst (λ (x : Indexed). IsStagedOn x c.args.block.now (staged_of s.base s.tip c.hash-hash.result c.in-Whole.whole c.begin.new.undos)) c.self.view_is
+    (staged_on (indexed_of s.base s.tip s.parts) c.in-Ok.work c.behind_coinbase-txs.result c.in-Whole.whole c.begin.new.undos
+    (record {
+      begun = record { indexed = c.self.invariant; low = subst (λ (x : Indexed). x.tip.height < highest) (sym c.self.view_is) c.requires.low; given = c.split-tables.result.0; given_is = c.split-tables.ensures.tables; begins = c.in-Ok.ensures.ok };
+      done = works.done;
+      applied = works.applied;
+      finishes = works.finishes;
+      same_undos = ap newest_first (c.begin.ensures.undos ∙ ap (λ (l : Roomy Undo). l.items) c.split-tables.ensures.undos);
+    })
+    c.hash-hash.result c.args.block.now
+    (record {
+      on_tip = subst (λ (x : Indexed). c.args.block.now.header.fields.previous ≡ x.tip.hash.0) (sym c.self.view_is) c.requires.on_tip;
+      root = c.requires.root;
+      ts_are = c.behind_coinbase-txs.ensures ∙ ap behind_coinbase c.txs.ensures.value;
+      hash_is = c.hash-hash.ensures ∙ ap header_hash c.header.ensures;
+    }))
 
 pub returns-in-Whole-clause-cost : goal.returns-in-Whole-clause-cost
 returns-in-Whole-clause-cost g c =
     staged_cost c.args.block.now c.args.steps.now c.do_all.new.steps c.behind_coinbase-txs.result c.in-Whole.whole
     (c.behind_coinbase-txs.ensures ∙ ap behind_coinbase c.txs.ensures.value) c.in-Whole.ensures.cost
 
-pub returns-in-Refused-clause-names : goal.returns-in-Refused-clause-names
-returns-in-Refused-clause-names g c =
+pub returns-in-Refused-clause-stages : goal.returns-in-Refused-clause-stages
+returns-in-Refused-clause-stages g c =
     let s = c.self.inside in
     let back = c.in-Refused.ensures.works.0 in
     let low = subst (λ (x : Indexed). x.tip.height < highest) (sym c.self.view_is) c.requires.low in (
@@ -92,20 +106,28 @@ returns-in-Refused-clause-names g c =
           (subst (λ (x : Indexed). SameIndex x (indexed_of s.base s.tip s.parts)) (sym c.joined-chain.ensures)
           (returned_same (indexed_of s.base s.tip s.parts) c.self.invariant c.in-Refused.tables c.begin.new.undos
           (ap newest_first (c.begin.ensures.undos ∙ ap (λ (l : Roomy Undo). l.items) c.split-tables.ensures.undos))
-          (back_maps (indexed_of s.base s.tip s.parts) c.self.invariant low c.split-tables.result.0 c.split-tables.ensures.tables c.in-Ok.work c.in-Ok.ensures.ok c.in-Refused.tables back)
+          (back_maps (indexed_of s.base s.tip s.parts) c.in-Ok.work (record { indexed = c.self.invariant; low = low; given = c.split-tables.result.0; given_is = c.split-tables.ensures.tables; begins = c.in-Ok.ensures.ok }) c.in-Refused.tables back)
           back.queue)),
-      subst (λ (x : Indexed). rule_refused x c.args.block.now ≡ Some (c.in-Refused.tx, c.in-Refused.refusal)) c.self.view_is
-          (refused_by (indexed_of s.base s.tip s.parts) c.self.invariant low c.split-tables.result.0 c.split-tables.ensures.tables c.in-Ok.work c.in-Ok.ensures.ok
-          c.args.block.now c.behind_coinbase-txs.result (c.behind_coinbase-txs.ensures ∙ ap behind_coinbase c.txs.ensures.value) _ c.in-Refused.ensures.works.1),
+      (
+        c.requires.on_tip,
+        c.requires.low,
+        c.requires.root,
+        subst (λ (x : Indexed). rule_refused x c.args.block.now ≡ Some (c.in-Refused.tx, c.in-Refused.refusal)) c.self.view_is
+            (refused_by (indexed_of s.base s.tip s.parts) c.in-Ok.work (record { indexed = c.self.invariant; low = low; given = c.split-tables.result.0; given_is = c.split-tables.ensures.tables; begins = c.in-Ok.ensures.ok })
+            c.args.block.now c.behind_coinbase-txs.result (c.behind_coinbase-txs.ensures ∙ ap behind_coinbase c.txs.ensures.value) _ c.in-Refused.ensures.works.1),
+      ),
     )
 
-pub returns-in-NoMemory-clause-names : goal.returns-in-NoMemory-clause-names
-returns-in-NoMemory-clause-names g c =
+pub returns-in-NoMemory-clause-stages : goal.returns-in-NoMemory-clause-stages
+returns-in-NoMemory-clause-stages g c =
     let s = c.self.inside in
-    let back = c.in-NoMemory.ensures.works in
-    subst (λ (x : Indexed). SameIndex c.joined-in-NoMemory.result x) c.self.view_is
-    (subst (λ (x : Indexed). SameIndex x (indexed_of s.base s.tip s.parts)) (sym c.joined-in-NoMemory.ensures)
-    (returned_same (indexed_of s.base s.tip s.parts) c.self.invariant c.in-NoMemory.tables c.begin.new.undos
-    (ap newest_first (c.begin.ensures.undos ∙ ap (λ (l : Roomy Undo). l.items) c.split-tables.ensures.undos))
-    (back_maps (indexed_of s.base s.tip s.parts) c.self.invariant (subst (λ (x : Indexed). x.tip.height < highest) (sym c.self.view_is) c.requires.low)
-    c.split-tables.result.0 c.split-tables.ensures.tables c.in-Ok.work c.in-Ok.ensures.ok c.in-NoMemory.tables back) back.queue))
+    let back = c.in-NoMemory.ensures.works in (
+      subst (λ (x : Indexed). SameIndex c.joined-in-NoMemory.result x) c.self.view_is
+          (subst (λ (x : Indexed). SameIndex x (indexed_of s.base s.tip s.parts)) (sym c.joined-in-NoMemory.ensures)
+          (returned_same (indexed_of s.base s.tip s.parts) c.self.invariant c.in-NoMemory.tables c.begin.new.undos
+          (ap newest_first (c.begin.ensures.undos ∙ ap (λ (l : Roomy Undo). l.items) c.split-tables.ensures.undos))
+          (back_maps (indexed_of s.base s.tip s.parts) c.in-Ok.work
+          (record { indexed = c.self.invariant; low = subst (λ (x : Indexed). x.tip.height < highest) (sym c.self.view_is) c.requires.low; given = c.split-tables.result.0; given_is = c.split-tables.ensures.tables; begins = c.in-Ok.ensures.ok }) c.in-NoMemory.tables back) back.queue)),
+      c.requires.on_tip,
+      c.requires.low,
+    )
