@@ -9,7 +9,7 @@ use Rattle.chain_names.specs.Coins.{Maps, entry_of}
 use Rattle.chain_names.specs.Log.{Log}
 use Rattle.chain_names.specs.Tables.{NameSlots, names_in, AreNamesFilled}
 use Rattle.chain_state.specs.Chain.{Indexed}
-use Rattle.chain_state.specs.Tables.{maps_by}
+use Rattle.name_tables.specs.Tables.{maps_by}
 use Rattle.chain_state.specs.Standing.{hash_of, StandsForChain}
 use Rattle.name_report.specs.Order.{has_name, Orders}
 use Rattle.name_report.specs.Text.{Reported, report_text}
