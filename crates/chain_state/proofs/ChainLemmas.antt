@@ -12,10 +12,10 @@ use Rattle.chain_names.specs.declared.undo.UndoOp.{UndoOp}
 use Rattle.chain_names.specs.Expired.{IsDue}
 use Rattle.block_grammar.specs.Block.{count_outputs, Block}
 use Rattle.chain_names.specs.Sound.{IsSound}
-use Rattle.chain_names.specs.State.{IsState}
+use Rattle.chain_names.specs.State.{IsState, Stands}
 use Rattle.chain_names.proofs.SoundLemmas.{block_sound, sound_state}
 use Rattle.chain_names.proofs.StartLemmas.{base_sound}
-use Rattle.chain_names.proofs.StandLemmas.{Stands, state_stands, stands-higher}
+use Rattle.chain_names.proofs.StandLemmas.{state_stands, stands-higher}
 use Rattle.chain_names.specs.Writable.{IsWritable}
 use Rattle.chain_names.specs.Fits.{AreUndoable}
 use Rattle.chain_names.specs.Measured.{AreMeasured}
@@ -249,7 +249,8 @@ module _ (c : Indexed) (w : Work) (ts : List Transaction) (whole : Whole) (undos
   grown hash few =
       subst (λ us. IsSound c.base.profile c.base.height (suc c.tip.height) (maps_by whole.work.tables) (staged_undo hash whole ∷ us)) (sym d.same_undos)
       (subst (λ m. IsSound c.base.profile c.base.height (suc c.tip.height) m (staged_undo hash whole ∷ c.undos)) (sym after_is)
-      (block_sound c.base.profile c.base.height c.tip.height 1 ts maps (staged_undo hash whole) c.undos d.begun.indexed.sound unrefused d.begun.low few ops_are due_are d.finishes.sorted))
+      (block_sound c.base.profile c.base.height c.tip.height ts maps (staged_undo hash whole) c.undos d.begun.indexed.sound
+      (record { low = d.begun.low; few = few; index = 1; unrefused = unrefused }) (record { ops = ops_are; due = due_are; sorted = d.finishes.sorted })))
 
   tip_low : suc c.tip.height < 2 ^ 32
   tip_low = omega (arith, d.begun.low)

@@ -29,7 +29,7 @@ use Rattle.chain_names.specs.Undo.{UndoRecord}
 use Rattle.chain_names.proofs.Meanings.{verdict_means}
 use Rattle.chain_names.specs.Expired.{points_of, IsSortedByPoint, IsGone, IsDue}
 use Rattle.chain_names.specs.Limits.{IsWithinLimitsOp, IsShortBefore, HoldsName, IsWithinLimits}
-use Rattle.chain_names.proofs.RestoredHistoryLemmas.{entry_has}
+use Rattle.chain_names.proofs.HistoryLemmas.{entry_has}
 use Rattle.chain_names.specs.Writable.{IsWritablePoint, IsWritableNamed, IsWritableBefore, IsWritableOp, IsWritableHeld, AreAscending, IsWritable}
 use Rattle.chain_state.specs.Block.{HasFewOutputs}
 use Rattle.chain_names.specs.Measured.{IsMeasuredCoin, IsMeasuredItem, AreItemsMeasured, AreMeasured}

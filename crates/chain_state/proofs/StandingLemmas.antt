@@ -104,12 +104,15 @@ module _ (base : Base) (start : Log) (blocks : List (List ℕ)) (bytes : List �
   undo_joined =
       undo_by_maps base.profile start base.height bytes blocks unrefused (staged_undo staged.hash staged.whole)
       (n.on.hash ∙ sym (ap hash_read (block_again bytes n.block n.is_block)))
-      (n.on.ops ∙ said_alike undo_ops)
-      (subst (λ (m : Maps). IsDue m.coins (after_block base.profile (next_height base.height blocks) (behind_coinbase (transactions_in bytes)) (chain_maps base start blocks)).coins staged.whole.expired.items)
-      (said_alike after_all)
-      (subst (λ (m : Maps). IsDue (after_all c.base.profile (suc c.tip.height) (behind_coinbase n.block.transactions) (maps_by c.tables)).coins m.coins staged.whole.expired.items)
-      (said_alike after_block) n.on.due))
-      n.on.sorted
+      (record {
+        ops = n.on.ops ∙ said_alike undo_ops;
+        due =
+            subst (λ (m : Maps). IsDue m.coins (after_block base.profile (next_height base.height blocks) (behind_coinbase (transactions_in bytes)) (chain_maps base start blocks)).coins staged.whole.expired.items)
+            (said_alike after_all)
+            (subst (λ (m : Maps). IsDue (after_all c.base.profile (suc c.tip.height) (behind_coinbase n.block.transactions) (maps_by c.tables)).coins m.coins staged.whole.expired.items)
+            (said_alike after_block) n.on.due);
+        sorted = n.on.sorted;
+      })
 
   pub valid_next : IsValidOn base start blocks bytes
   valid_next = record {

@@ -11,7 +11,7 @@ use Rattle.name_tables.specs.Tables.{maps_by}
 use Rattle.chain_state.specs.Work.{Advances}
 use Rattle.chain_state.specs.Block.{IsReady, Applied}
 use Rattle.chain_state.specs.declared.work.Work.{Work}
-use Rattle.chain_names.proofs.StandLemmas.{Stands}
+use Rattle.chain_names.specs.State.{Stands}
 use Rattle.chain_names.proofs.UndoneBlockLemmas.{verdict_stands}
 use Rattle.chain_names.proofs.Meanings.{verdict_means}
 

@@ -21,7 +21,7 @@ use Rattle.chain_names.proofs.DueLemmas.{unless_expired-row, unless_expired-none
 use Rattle.chain_names.proofs.Shown.{true_is_not_false}
 use Rattle.chain_names.specs.Fits.{AreUndoable}
 use Rattle.chain_names.specs.Coins.{Maps, unless_expired}
-use Rattle.chain_names.proofs.StandLemmas.{Stands}
+use Rattle.chain_names.specs.State.{Stands}
 use Rattle.chain_names.proofs.FitLemmas.{standing_live}
 use Rattle.name_tables.specs.Tables.{maps_by}
 use Rattle.chain_state.specs.Block.{IsReady}

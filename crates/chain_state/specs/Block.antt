@@ -7,7 +7,7 @@ use Rattle.nmc_base.specs.declared.no_memory.NoMemory.{NoMemory}
 use Rattle.chain_names.specs.declared.refusal.RuleRefusal.{RuleRefusal}
 use Rattle.chain_names.specs.Verdict.{refused, verdict}
 use Rattle.chain_names.specs.Changes.{undo_of_verdict, after_transaction, after_all, undo_ops, first_refused, back_ops}
-use Rattle.chain_names.proofs.StandLemmas.{Stands}
+use Rattle.chain_names.specs.State.{Stands}
 use Rattle.name_tables.specs.Tables.{maps_by}
 use Rattle.chain_state.specs.Work.{IsWork, Halts}
 use Rattle.chain_state.specs.declared.work.Work.{Work}

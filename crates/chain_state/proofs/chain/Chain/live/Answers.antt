@@ -3,7 +3,7 @@ use Rattle.std.specs.Option.{option_copied}
 use Rattle.chain_names.specs.Tables.{names_in}
 use Rattle.chain_state.proofs.ChainLemmas.{indexed_state}
 use Rattle.chain_names.specs.State.{IsUpTo}
-use Rattle.chain_names.proofs.RestoredHistoryLemmas.{entry_has}
+use Rattle.chain_names.proofs.HistoryLemmas.{entry_has}
 use Rattle.chain_state.proofs.chain.Chain.live.Goals as goal
 
 pub expired-requires-clause-made : goal.expired-requires-clause-made

@@ -3,7 +3,7 @@ use Rattle.chain_names.specs.Verdict.{commits, opens, updates}
 use Rattle.chain_names.specs.Tables.{names_in}
 use Rattle.std.proofs.Common.{le_trans}
 use Rattle.chain_names.specs.State.{IsUpTo}
-use Rattle.chain_names.proofs.RestoredHistoryLemmas.{entry_has}
+use Rattle.chain_names.proofs.HistoryLemmas.{entry_has}
 use Rattle.chain_state.proofs.CostLemmas.{plain_cost, one_operation, paid, paid_commitment, with_spent_count, commits_outputs, opens_outputs, opens_inputs, updates_outputs, updates_inputs}
 use Rattle.chain_state.proofs.VerdictLemmas.{applied, applied_with}
 use Rattle.chain_state.proofs.work.Work.apply.Goals as goal
