@@ -185,21 +185,15 @@ impl Work {
                 spent,
                 coin,
                 name,
-                before,
-            } => {
-                drop(before);
-                self.undo_shift(spent, coin, made, name.as_slice(), steps);
-            }
+                ..
+            } => self.undo_shift(spent, coin, made, name.as_slice(), steps),
             UndoOp::Update {
                 made,
                 spent,
                 coin,
                 name,
-                before,
-            } => {
-                drop(before);
-                self.undo_shift(spent, coin, made, name.as_slice(), steps);
-            }
+                ..
+            } => self.undo_shift(spent, coin, made, name.as_slice(), steps),
         }
     }
 
