@@ -34,7 +34,7 @@ name_kept (undo_new made) maps name e = refl
 name_kept (undo_first made spent coin moved before) maps name e = ap (λ b. cond b (without_entry (maps.names moved)) (maps.names name)) e
 name_kept (undo_update made spent coin moved before) maps name e = ap (λ b. cond b (without_entry (maps.names moved)) (maps.names name)) e
 
-pub names_kept : (ops : List UndoOp) (maps : Maps) (name : List ℕ) → list_any (changes name) ops ≡ false → (back_ops ops maps).names name ≡ maps.names name
+names_kept : (ops : List UndoOp) (maps : Maps) (name : List ℕ) → list_any (changes name) ops ≡ false → (back_ops ops maps).names name ≡ maps.names name
 names_kept [] maps name none = refl
 names_kept (op ∷ ops) maps name none =
     let parts = or_parts (changes name op) (list_any (changes name) ops) none in
@@ -122,30 +122,6 @@ pub stays : (profile : Profile) (tip : ℕ) (u : UndoRecord) (maps : Maps) (poin
     → made_at coin ≢ tip → (undone u.ops u.expired maps).coins point ≡ Some coin
 stays profile tip u maps point coin fits held other =
     coins_stay tip u.ops (with_restored u.expired maps) point coin fits.ops (held_restored profile tip u maps point coin fits held) other
-
--- ---- what stays isn't put back
-
-not_returned_by : (tip : ℕ) (op : UndoOp) (maps : Maps) (point : OutPoint) (coin : Coin) → FitsOp tip op maps → maps.coins point ≡ Some coin → returns point op ≡ false
-not_returned_by tip (undo_new made) maps point coin fits held = refl
-not_returned_by tip (undo_first made spent put moved before) maps point coin fits held = apart maps.coins spent point coin fits.free held
-not_returned_by tip (undo_update made spent put moved before) maps point coin fits held =
-    let free = (op_allows tip (undo_update made spent put moved before) maps fits).free in
-    apart maps.coins spent point coin free held
-
-not_returned : (tip : ℕ) (ops : List UndoOp) (maps : Maps) (point : OutPoint) (coin : Coin) → FitsOps tip ops maps → maps.coins point ≡ Some coin → made_at coin ≢ tip
-    → list_any (returns point) ops ≡ false
-not_returned tip [] maps point coin fits held other = refl
-not_returned tip (op ∷ ops) maps point coin fits held other =
-    or_from (returns point op) (list_any (returns point) ops)
-    (not_returned_by tip op (back_ops ops maps) point coin fits.1 (coins_stay tip ops maps point coin fits.0 held other))
-    (not_returned tip ops maps point coin fits.0 held other)
-
-pub not_put_back : (profile : Profile) (tip : ℕ) (u : UndoRecord) (maps : Maps) (point : OutPoint) (coin : Coin) → FitsState profile tip u maps → maps.coins point ≡ Some coin
-    → made_at coin ≢ tip → is_put_back point u ≡ false
-not_put_back profile tip u maps point coin fits held other =
-    or_from (list_any (returns point) u.ops) (list_any (is_held_at point) u.expired)
-    (not_returned tip u.ops (with_restored u.expired maps) point coin fits.ops (held_restored profile tip u maps point coin fits held) other)
-    (not_listed profile tip maps u.expired point coin fits.expired held)
 
 -- ---- the names that operations change have a last item of the tip's height
 
