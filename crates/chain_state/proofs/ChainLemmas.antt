@@ -21,6 +21,7 @@ use Rattle.chain_names.specs.Fits.{AreUndoable}
 use Rattle.chain_names.specs.Measured.{AreMeasured}
 use Rattle.chain_state.proofs.MeasureLemmas.{block_writable}
 use Rattle.chain_names.specs.Seen.{seen_undo}
+use Rattle.chain_names.specs.UndoOf.{IsUndoByMaps}
 use Rattle.chain_names.specs.declared.undo.Undo.{Undo}
 use Rattle.chain_names.specs.Coins.{Maps, maps_of}
 use Rattle.block_grammar.specs.Transaction.{Transaction}
@@ -245,12 +246,15 @@ module _ (c : Indexed) (w : Work) (ts : List Transaction) (whole : Whole) (undos
       subst (λ (m : Maps). IsDue m.coins (after_block c.base.profile (suc c.tip.height) ts maps).coins whole.expired.items) done_maps
       (subst (λ (m : Maps). IsDue (coins_in d.done.tables.coins) m.coins whole.expired.items) after_is d.finishes.due)
 
+  undoes : (hash : Hash32) → IsUndoByMaps c.base.profile (suc c.tip.height) ts maps (staged_undo hash whole)
+  undoes hash = record { ops = ops_are; due = due_are; sorted = d.finishes.sorted }
+
   grown : (hash : Hash32) → count_outputs ts < 2 ^ 32 → IsSound c.base.profile c.base.height (suc c.tip.height) (maps_by whole.work.tables) (staged_undo hash whole ∷ newest_first undos.items)
   grown hash few =
       subst (λ us. IsSound c.base.profile c.base.height (suc c.tip.height) (maps_by whole.work.tables) (staged_undo hash whole ∷ us)) (sym d.same_undos)
       (subst (λ m. IsSound c.base.profile c.base.height (suc c.tip.height) m (staged_undo hash whole ∷ c.undos)) (sym after_is)
       (block_sound c.base.profile c.base.height c.tip.height ts maps (staged_undo hash whole) c.undos d.begun.indexed.sound
-      (record { low = d.begun.low; few = few; index = 1; unrefused = unrefused }) (record { ops = ops_are; due = due_are; sorted = d.finishes.sorted })))
+      (record { low = d.begun.low; few = few; index = 1; unrefused = unrefused }) (undoes hash)))
 
   tip_low : suc c.tip.height < 2 ^ 32
   tip_low = omega (arith, d.begun.low)
@@ -265,7 +269,7 @@ module _ (c : Indexed) (w : Work) (ts : List Transaction) (whole : Whole) (undos
         (subst (λ m. IsSound c.base.profile c.base.height c.tip.height m c.undos) (sym (d.finishes.before ∙ done_before)) d.begun.indexed.sound);
     sound_after = grown hash few;
     writable = (
-      block_writable c.base.profile (suc c.tip.height) ts maps (staged_undo hash whole) (record { low = tip_low; few = few_each ts few; measured = measured }) hash_length (grown hash few).1.limits ops_are due_are,
+      block_writable c.base.profile (suc c.tip.height) ts maps (staged_undo hash whole) (record { low = tip_low; few = few_each ts few; measured = measured }) hash_length (grown hash few).1.limits (undoes hash),
       subst (AllByRecursion IsWritable) (sym d.same_undos) d.begun.indexed.writable,
     );
   }
@@ -282,9 +286,7 @@ module _ (c : Indexed) (w : Work) (ts : List Transaction) (whole : Whole) (undos
     before = d.finishes.before ∙ done_before;
     queue = d.begun.indexed.queue;
     after = after_is ∙ ap (λ l. after_block c.base.profile (suc c.tip.height) l maps) of.ts_are;
-    ops = ops_are ∙ ap (λ l. undo_ops c.base.profile (suc c.tip.height) l maps) of.ts_are;
-    due = subst (λ l. IsDue (after_all c.base.profile (suc c.tip.height) l maps).coins (after_block c.base.profile (suc c.tip.height) l maps).coins whole.expired.items) of.ts_are due_are;
-    sorted = d.finishes.sorted;
+    undoes = subst (λ l. IsUndoByMaps c.base.profile (suc c.tip.height) l maps (staged_undo hash whole)) of.ts_are (undoes hash);
     undos = d.same_undos;
   }
 

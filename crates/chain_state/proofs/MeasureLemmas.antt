@@ -26,8 +26,9 @@ use Rattle.chain_names.specs.Meaning.{Means}
 use Rattle.chain_names.specs.Verdict.{Verdict, plain, commits, opens, updates, refused, verdict, NameOutput, with_output, name_outputs, made_at}
 use Rattle.chain_names.specs.Changes.{with_spent, moved, after_verdict, after_transaction, after_all, after_block, undo_of_verdict, undo_ops}
 use Rattle.chain_names.specs.Undo.{UndoRecord}
+use Rattle.chain_names.specs.UndoOf.{IsUndoByMaps}
 use Rattle.chain_names.proofs.Meanings.{verdict_means}
-use Rattle.chain_names.specs.Expired.{points_of, IsSortedByPoint, IsGone, IsDue}
+use Rattle.chain_names.specs.Expired.{points_of, IsSortedByPoint, IsGone}
 use Rattle.chain_names.specs.Limits.{IsWithinLimitsOp, IsShortBefore, HoldsName, IsWithinLimits}
 use Rattle.chain_names.proofs.HistoryLemmas.{entry_has}
 use Rattle.chain_names.specs.Writable.{IsWritablePoint, IsWritableNamed, IsWritableBefore, IsWritableOp, IsWritableHeld, AreAscending, IsWritable}
@@ -229,9 +230,8 @@ pub record IsMeasuredBlock (height : ℕ) (ts : List Transaction) (maps : Maps) 
   pub measured : AreMeasured maps
 
 pub block_writable : (profile : Profile) (height : ℕ) (ts : List Transaction) (maps : Maps) (u : UndoRecord) → IsMeasuredBlock height ts maps
-    → length u.block.0 ≡ 32 → IsWithinLimits u → u.ops ≡ undo_ops profile height ts maps
-    → IsDue (after_all profile height ts maps).coins (after_block profile height ts maps).coins u.expired → IsWritable u
-block_writable profile height ts maps u b block limits ops due =
-    record_writable u block limits (subst (AllByRecursion IsMeasuredOp) (sym ops) (all_ops profile height b.low ts maps b.few b.measured))
+    → length u.block.0 ≡ 32 → IsWithinLimits u → IsUndoByMaps profile height ts maps u → IsWritable u
+block_writable profile height ts maps u b block limits undoes =
+    record_writable u block limits (subst (AllByRecursion IsMeasuredOp) (sym undoes.ops) (all_ops profile height b.low ts maps b.few b.measured))
     (all-weaker (IsGone (after_all profile height ts maps).coins (after_block profile height ts maps).coins) IsMeasuredHeld u.expired
-    (λ held gone. (all_measured profile height b.low ts maps b.few b.measured).coins held.at held.coin gone.now_is) due.each)
+    (λ held gone. (all_measured profile height b.low ts maps b.few b.measured).coins held.at held.coin gone.now_is) undoes.due.each)

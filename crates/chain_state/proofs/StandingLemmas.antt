@@ -105,13 +105,13 @@ module _ (base : Base) (start : Log) (blocks : List (List ℕ)) (bytes : List �
       undo_by_maps base.profile start base.height bytes blocks unrefused (staged_undo staged.hash staged.whole)
       (n.on.hash ∙ sym (ap hash_read (block_again bytes n.block n.is_block)))
       (record {
-        ops = n.on.ops ∙ said_alike undo_ops;
+        ops = n.on.undoes.ops ∙ said_alike undo_ops;
         due =
             subst (λ (m : Maps). IsDue m.coins (after_block base.profile (next_height base.height blocks) (behind_coinbase (transactions_in bytes)) (chain_maps base start blocks)).coins staged.whole.expired.items)
             (said_alike after_all)
             (subst (λ (m : Maps). IsDue (after_all c.base.profile (suc c.tip.height) (behind_coinbase n.block.transactions) (maps_by c.tables)).coins m.coins staged.whole.expired.items)
-            (said_alike after_block) n.on.due);
-        sorted = n.on.sorted;
+            (said_alike after_block) n.on.undoes.due);
+        sorted = n.on.undoes.sorted;
       })
 
   pub valid_next : IsValidOn base start blocks bytes

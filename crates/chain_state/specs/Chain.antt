@@ -10,11 +10,11 @@ use Rattle.nmc_base.specs.Roomy.{Roomy}
 use Rattle.nmc_base.specs.declared.hashes.Hash32.{Hash32}
 use Rattle.chain_names.specs.Coins.{maps_of}
 use Rattle.chain_names.specs.Log.{Log, behind_coinbase}
-use Rattle.chain_names.specs.Changes.{Refused, first_refused, after_all, after_block, undo_ops}
+use Rattle.chain_names.specs.Changes.{Refused, first_refused, after_block}
 use Rattle.chain_names.specs.Tables.{coins_in, queued_in, queue_of}
 use Rattle.chain_names.specs.Undo.{UndoRecord}
+use Rattle.chain_names.specs.UndoOf.{IsUndoByMaps}
 use Rattle.std.specs.List.{AllByRecursion}
-use Rattle.chain_names.specs.Expired.{IsDue, IsSortedByPoint}
 use Rattle.chain_names.specs.Sound.{IsBeginning, IsSound}
 use Rattle.name_tables.specs.declared.parts.Parts.{Parts}
 use Rattle.chain_names.specs.declared.undo.Undo.{Undo}
@@ -129,10 +129,7 @@ pub record IsStagedOn (c : Indexed) (block : Block) (s : StagedIndex) : Type 0 w
   pub queue : queued_in c.tables.queue ≡ queue_of (coins_in c.tables.coins)
   pub after : maps_by s.whole.work.tables ≡ after_block c.base.profile (suc c.tip.height) (behind_coinbase block.transactions) (maps_by c.tables)
   -- what undoes it: its operations in order, and each coin that is expired in the next block, by their outpoints
-  pub ops : s.whole.work.ops.items ≡ undo_ops c.base.profile (suc c.tip.height) (behind_coinbase block.transactions) (maps_by c.tables)
-  pub due : IsDue (after_all c.base.profile (suc c.tip.height) (behind_coinbase block.transactions) (maps_by c.tables)).coins
-      (after_block c.base.profile (suc c.tip.height) (behind_coinbase block.transactions) (maps_by c.tables)).coins s.whole.expired.items
-  pub sorted : IsSortedByPoint s.whole.expired.items
+  pub undoes : IsUndoByMaps c.base.profile (suc c.tip.height) (behind_coinbase block.transactions) (maps_by c.tables) (staged_undo s.hash s.whole)
   pub undos : s.undos ≡ c.undos
 
 -- the chain with the block
