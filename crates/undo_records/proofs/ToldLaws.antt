@@ -15,24 +15,30 @@ use Rattle.undo_records.specs.Reading.{undo_from}
 use Rattle.undo_records.specs.Text.{item_text, before_text, change_text, op_text, undo_text}
 use Rattle.undo_records.specs.declared.version.Version.{Version}
 use Rattle.undo_records.specs.declared.version.Version.TheVariants.{One, Two}
-use Rattle.undo_records.specs.Versions.{before_without, op_without, told, IsBeforeIn, IsOpIn, IsUndoIn}
-use Rattle.chain_names.specs.Writable.{Change, change_of, IsWritableNew, IsWritableNamed, IsWritableBefore, IsWritableChange, IsWritableOp, IsWritable}
+use Rattle.undo_records.specs.Versions.{item_without, before_without, op_without, told, IsItemIn, IsBeforeIn, IsOpIn, IsUndoIn}
+use Rattle.chain_names.specs.Writable.{Change, change_of, IsWritableNew, IsWritableNamed, IsWritableItem, IsWritableBefore, IsWritableChange, IsWritableOp, IsWritable}
 use Rattle.undo_records.specs.Faults.{IsUnsorted}
 use Rattle.undo_records.proofs.Laws.{ended}
 use Rattle.undo_records.proofs.RecordLaws.{out_of_order, all_told, undo_core, front_cut, unsorted_grows}
 
-before_without_text : (before : Option Item) → before_text One (before_without before) ≡ before_text One before
-unfolding before_text item_text
-before_without_text None = refl
-before_without_text (Some item) = refl
+-- ---- without registration heights, each part has the same text of version 1
 
-op_without_text : (op : UndoOp) → op_text One (op_without op) ≡ op_text One op
+pub item_without_text : (item : Item) → item_text One (item_without item) ≡ item_text One item
+unfolding item_text
+item_without_text item = refl
+
+before_without_text : (before : Option Item) → before_text One (before_without before) ≡ before_text One before
+unfolding before_text
+before_without_text None = refl
+before_without_text (Some item) = ap (λ (l : List ℕ). 1 ∷ l) (item_without_text item)
+
+pub op_without_text : (op : UndoOp) → op_text One (op_without op) ≡ op_text One op
 unfolding op_text change_text
 op_without_text (New made) = refl
 op_without_text (First made spent coin name before) = rw (before_without_text before) refl
 op_without_text (Update made spent coin name before) = rw (before_without_text before) refl
 
-ops_without_text : (ops : List UndoOp) → flat_map (op_text One) (map op_without ops) ≡ flat_map (op_text One) ops
+pub ops_without_text : (ops : List UndoOp) → flat_map (op_text One) (map op_without ops) ≡ flat_map (op_text One) ops
 ops_without_text [] = refl
 ops_without_text (op ∷ ops) = ap (λ (l : List ℕ). l ++ flat_map (op_text One) (map op_without ops)) (op_without_text op) ∙ ap (λ (l : List ℕ). op_text One op ++ l) (ops_without_text ops)
 
@@ -42,23 +48,28 @@ unfolding undo_text
 told_text One undo = rw (ops_without_text undo.ops, length-map undo.ops op_without) refl
 told_text Two undo = refl
 
+-- ---- and each part with a text has one of version 1
+
+pub item_fits : (item : Item) → IsWritableItem item → IsItemIn One (item_without item)
+item_fits item fits = (record { height = fits.height; registered = omega arith; at = fits.at; value = fits.value }, refl)
+
 before_fits : (before : Option Item) → IsWritableBefore before → IsBeforeIn One (before_without before)
 before_fits None fits = (tt, tt)
-before_fits (Some item) fits = (record { height = fits.height; registered = omega arith; at = fits.at; value = fits.value }, refl)
+before_fits (Some item) fits = item_fits item fits
 
 change_fits : (FitsCoin : Coin → Type 0) (c : Change) → IsWritableChange FitsCoin c → IsWritableChange FitsCoin (change_of c.made c.spent c.coin c.name (before_without c.before))
 change_fits FitsCoin c fits = record { made = fits.made; spent = fits.spent; coin = fits.coin; name = fits.name; before = (before_fits c.before fits.before).0 }
 
-op_fits : (op : UndoOp) → IsWritableOp op → IsOpIn One (op_without op)
+pub op_fits : (op : UndoOp) → IsWritableOp op → IsOpIn One (op_without op)
 op_fits (New made) fits = (fits, tt)
 op_fits (First made spent coin name before) fits = (change_fits IsWritableNew (change_of made spent coin name before) fits, (before_fits before fits.before).1)
 op_fits (Update made spent coin name before) fits = (change_fits IsWritableNamed (change_of made spent coin name before) fits, (before_fits before fits.before).1)
 
-ops_fit : (ops : List UndoOp) → AllByRecursion IsWritableOp ops → AllByRecursion (IsOpIn One) (map op_without ops)
+pub ops_fit : (ops : List UndoOp) → AllByRecursion IsWritableOp ops → AllByRecursion (IsOpIn One) (map op_without ops)
 ops_fit [] all = tt
 ops_fit (op ∷ ops) all = (op_fits op all.0, ops_fit ops all.1)
 
--- and a record with a text has one in each version, of what that tells
+-- a record with a text has one of each version, of what that tells
 pub told_fits : (version : Version) (undo : UndoRecord) → IsWritable undo → IsUndoIn version (told version undo)
 told_fits One undo fits =
     let f = fits.fits in
