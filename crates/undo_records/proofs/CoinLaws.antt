@@ -16,7 +16,7 @@ use Rattle.undo_records.specs.Reading.{Reads, point_from, named_coin_from, is_le
 use Rattle.undo_records.specs.Text.{point_text, held_text}
 use Rattle.chain_names.specs.Writable.{IsWritablePoint, IsWritableHeld, IsAfter, AreAscending}
 use Rattle.undo_records.specs.Faults.{last_point}
-use Rattle.undo_records.proofs.Laws.{Spot, Part, Core, Ends, PairFlaw, in_first, in_second, then_part, then_core, then_ends, IsSeenBy, seen_core, seen_ends, IsSaid, said_core, many_part, many_core, many_ends}
+use Rattle.undo_records.proofs.Laws.{Spot, Part, Core, Ends, PairFlaw, in_first, in_second, then_part, then_core, then_ends, IsSeenBy, seen_core, seen_ends, IsSaid, said_core, many_part, many_ends}
 use Rattle.undo_records.proofs.Choices.{CheckFlaw, checked_part, checked_core}
 use Rattle.undo_records.proofs.FieldLaws.{point_part, point_core, point_ends}
 use Rattle.undo_records.proofs.PartLaws.{named_coin_part, named_coin_core, named_coin_ends}

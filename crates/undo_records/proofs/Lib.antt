@@ -6,4 +6,5 @@ pub mod PartLaws
 pub mod OpLaws
 pub mod CoinLaws
 pub mod RecordLaws
+pub mod ToldLaws
 pub mod ReadAnswers

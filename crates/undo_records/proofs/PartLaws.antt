@@ -145,7 +145,7 @@ named_coin_ends = said_ends (tagged_part 2 behind_named_part) named_coin_part na
 abbrev pub registered_part : Version → Part ℕ
 registered_part version = record { text = registered_text version; Fits = IsTold version; Flawed = NoFlaw; read = registered_from version }
 
--- no byte is left out by a version that has the height, and none is read by the other
+-- in version 1 it has no bytes, and is read with 0
 registered_core : (version : Version) → Core (registered_part version)
 registered_core One = record {
   takes = λ bytes x fits e.
@@ -170,10 +170,10 @@ registered_ends One = record {
     no_front (b ∷ bytes) next more e = absurd cc
 registered_ends Two = ends32
 
--- a height that is told has four bytes
-told_fits : (version : Version) (registered : ℕ) → IsTold version registered → registered < 2 ^ 32
-told_fits One registered fits = omega (arith, fits)
-told_fits Two registered fits = fits
+-- four bytes are enough for a height that is told
+told_below : (version : Version) (registered : ℕ) → IsTold version registered → registered < 2 ^ 32
+told_below One registered fits = omega (arith, fits)
+told_below Two registered fits = fits
 
 -- ---- items
 
@@ -240,7 +240,7 @@ module _ (version : Version) where
     read = λ bytes. refl;
     back = λ item fits. refl;
     spell = λ x fits. refl;
-    to = λ x fits. (record { height = fits.0; registered = told_fits version x.1.0 fits.1.0; at = fits.1.1.0; value = fits.1.1.1 }, fits.1.0);
+    to = λ x fits. (record { height = fits.0; registered = told_below version x.1.0 fits.1.0; at = fits.1.1.0; value = fits.1.1.1 }, fits.1.0);
     from = λ item fits. (fits.0.height, (fits.1, (fits.0.at, fits.0.value)));
     flaw_to = item_to;
     flaw_from = item_of_flaw;

@@ -18,7 +18,8 @@ use Rattle.undo_records.specs.Faults.{HasFault, BeginsWith}
 use Rattle.undo_records.specs.Answers.{placed_fault, StopsAt, GivesUndo, IsCausedBy, AnswersUndo, AnswersFault}
 use Rattle.undo_records.proofs.Laws.{Spot, ended}
 use Rattle.undo_records.proofs.Choices.{no_cut}
-use Rattle.undo_records.proofs.RecordLaws.{kinds_apart, undo_core, UndoFlaw, bad_tag as tag_flaw, out_of_order, tag_cause, unsorted_cause, cut_cause, front_cut, told_again}
+use Rattle.undo_records.proofs.RecordLaws.{kinds_apart, undo_core, UndoFlaw, bad_tag as tag_flaw, out_of_order, tag_cause, unsorted_cause, cut_cause, front_cut}
+use Rattle.undo_records.proofs.ToldLaws.{told_again}
 
 -- what stands behind a front
 pub behind_front : (bytes front rest : List ℕ) → bytes ≡ front ++ rest → (length rest ≤ length bytes) × (rest ≡ drop (length bytes - length rest) bytes)

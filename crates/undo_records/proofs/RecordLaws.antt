@@ -1,12 +1,10 @@
 -- The laws of the record.
-use Rattle.std.proofs.Common.{◌≡◌, ℕ, ◌<◌, ◌^◌, ◌⊎◌, true, false, List, [], ◌∷◌, ◌++◌, length, map, Option, Some, None, refl, sym, ap, subst, ◌∙◌, append_assoc, append-nil, arith, inl, inr}
-use Rattle.std.specs.Prelude.{Ok, Err}
-use Rattle.std.proofs.lemmas.List.{length-map}
+use Rattle.std.proofs.Common.{◌≡◌, ℕ, ◌<◌, ◌^◌, ◌⊎◌, true, false, List, [], ◌∷◌, ◌++◌, length, Option, Some, None, refl, sym, ap, subst, ◌∙◌, append_assoc, arith, inl, inr}
+use Rattle.std.specs.Prelude.{Err}
 use Rattle.std.specs.List.{flat_map, AllByRecursion}
 use Rattle.std.specs.Int.{w32, to_le_bytes}
 use Rattle.std.proofs.lemmas.Bool.{false≢true, cases_Bool}
 use Rattle.nmc_base.specs.declared.hashes.OutPoint.{OutPoint}
-use Rattle.chain_names.specs.declared.coin.Coin.{Coin}
 use Rattle.chain_names.specs.declared.coin.HeldCoin.{HeldCoin}
 use Rattle.chain_names.specs.declared.coin.Item.{Item}
 use Rattle.chain_names.specs.declared.undo.UndoOp.{UndoOp}
@@ -14,15 +12,15 @@ use Rattle.chain_names.specs.declared.undo.UndoOp.TheVariants.{New, First, Updat
 use Rattle.chain_names.specs.Undo.{UndoRecord}
 use Rattle.block_grammar.proofs.Readers.{IsBytes}
 use Rattle.block_grammar.specs.Combinators.{then_from, map_from, many_from}
-use Rattle.block_grammar.proofs.ReaderLaws.{ok_is, err_is, ok_err}
+use Rattle.block_grammar.proofs.ReaderLaws.{err_is}
 use Rattle.undo_records.specs.declared.fault.FaultKind.{FaultKind}
 use Rattle.undo_records.specs.declared.fault.FaultKind.TheVariants.{Cut, BadTag, Unsorted}
 use Rattle.undo_records.specs.Reading.{Reads, number_from, piece_from, op_from, ops_from, is_after, coins_from, expired_from, undo_from}
-use Rattle.undo_records.specs.Text.{point_text, item_text, before_text, change_text, op_text, held_text, undo_text}
+use Rattle.undo_records.specs.Text.{point_text, op_text, held_text, undo_text}
 use Rattle.undo_records.specs.declared.version.Version.{Version}
 use Rattle.undo_records.specs.declared.version.Version.TheVariants.{One, Two}
-use Rattle.undo_records.specs.Versions.{before_without, op_without, told, IsToldBefore, IsToldOp, AreTold, IsBeforeIn, IsOpIn, HasPartsIn, IsUndoIn}
-use Rattle.chain_names.specs.Writable.{Change, change_of, IsWritableNew, IsWritableNamed, IsWritableBefore, IsWritableChange, IsWritableOp, IsWritableHeld, IsAfter, AreAscending, IsWritable}
+use Rattle.undo_records.specs.Versions.{told, IsToldBefore, IsToldOp, AreTold, IsOpIn, HasPartsIn, IsUndoIn}
+use Rattle.chain_names.specs.Writable.{IsWritableBefore, IsWritableOp, IsWritableHeld, IsAfter, AreAscending}
 use Rattle.undo_records.specs.Faults.{IsOther, last_point, ReachesOperation, ReachesCoin, IsBadTag, operation, expired_coin, IsUnsorted, IsCut}
 use Rattle.undo_records.proofs.Laws.{Spot, ended, Flaw, Part, Core, Ends, PairFlaw, in_first, in_second, then_part, then_core, then_ends, IsSeenBy, seen_core, seen_ends, IsSaid, said_core, TagFlaw, many_part, many_core, many_ends}
 use Rattle.undo_records.proofs.Choices.{no_cut}
@@ -117,7 +115,7 @@ abbrev of_record : UndoRecord → List ℕ × Tail
 of_record undo = (undo.block.0, (undo.ops, undo.expired))
 
 -- a version's condition on a record is that on its operations
-all_told : (version : Version) (ops : List UndoOp) → AllByRecursion (IsOpIn version) ops → AllByRecursion IsWritableOp ops × AllByRecursion (IsToldOp version) ops
+pub all_told : (version : Version) (ops : List UndoOp) → AllByRecursion (IsOpIn version) ops → AllByRecursion IsWritableOp ops × AllByRecursion (IsToldOp version) ops
 all_told version [] all = (tt, tt)
 all_told version (op ∷ ops) all = let rest = all_told version ops all.1 in ((all.0.0, rest.0), (all.0.1, rest.1))
 
@@ -398,7 +396,7 @@ module _ (version : Version) where
       go (unsorted rest is) = absurd (cut.sorted rest (unsorted_cause bytes rest fits is))
 
   -- bytes that begin the same way are out of order too
-  unsorted_grows : (bytes rest more : List ℕ) → IsUnsorted version bytes rest → IsUnsorted version (bytes ++ more) (rest ++ more)
+  pub unsorted_grows : (bytes rest more : List ℕ) → IsUnsorted version bytes rest → IsUnsorted version (bytes ++ more) (rest ++ more)
   unsorted_grows bytes rest more u =
       let r = u.reached in
       record {
@@ -430,80 +428,3 @@ module _ (version : Version) where
           ∙ ap (λ (l : List ℕ). b ++ l) (append_assoc c (d ++ (e ++ f)) g
           ∙ ap (λ (l : List ℕ). c ++ l) (append_assoc d (e ++ f) g
           ∙ ap (λ (l : List ℕ). d ++ l) (append_assoc e f g))))
-
--- ---- what a text tells
-
-before_spelled : (before : Option Item) → before_text One (before_without before) ≡ before_text One before
-unfolding before_text item_text
-before_spelled None = refl
-before_spelled (Some item) = refl
-
-op_spelled : (op : UndoOp) → op_text One (op_without op) ≡ op_text One op
-unfolding op_text change_text
-op_spelled (New made) = refl
-op_spelled (First made spent coin name before) = rw (before_spelled before) refl
-op_spelled (Update made spent coin name before) = rw (before_spelled before) refl
-
-ops_spelled : (ops : List UndoOp) → flat_map (op_text One) (map op_without ops) ≡ flat_map (op_text One) ops
-ops_spelled [] = refl
-ops_spelled (op ∷ ops) = ap (λ (l : List ℕ). l ++ flat_map (op_text One) (map op_without ops)) (op_spelled op) ∙ ap (λ (l : List ℕ). op_text One op ++ l) (ops_spelled ops)
-
--- a text of version 1 says nothing of registration heights
-told_text : (version : Version) (undo : UndoRecord) → undo_text version (told version undo) ≡ undo_text version undo
-unfolding undo_text
-told_text One undo = rw (ops_spelled undo.ops, length-map undo.ops op_without) refl
-told_text Two undo = refl
-
-before_fits : (before : Option Item) → IsWritableBefore before → IsBeforeIn One (before_without before)
-before_fits None fits = (tt, tt)
-before_fits (Some item) fits = (record { height = fits.height; registered = omega arith; at = fits.at; value = fits.value }, refl)
-
-change_fits : (FitsCoin : Coin → Type 0) (c : Change) → IsWritableChange FitsCoin c → IsWritableChange FitsCoin (change_of c.made c.spent c.coin c.name (before_without c.before))
-change_fits FitsCoin c fits = record { made = fits.made; spent = fits.spent; coin = fits.coin; name = fits.name; before = (before_fits c.before fits.before).0 }
-
-op_fits : (op : UndoOp) → IsWritableOp op → IsOpIn One (op_without op)
-op_fits (New made) fits = (fits, tt)
-op_fits (First made spent coin name before) fits = (change_fits IsWritableNew (change_of made spent coin name before) fits, (before_fits before fits.before).1)
-op_fits (Update made spent coin name before) fits = (change_fits IsWritableNamed (change_of made spent coin name before) fits, (before_fits before fits.before).1)
-
-ops_fit : (ops : List UndoOp) → AllByRecursion IsWritableOp ops → AllByRecursion (IsOpIn One) (map op_without ops)
-ops_fit [] all = tt
-ops_fit (op ∷ ops) all = (op_fits op all.0, ops_fit ops all.1)
-
--- and a record with a text has one in each version, of what that tells
-pub told_fits : (version : Version) (undo : UndoRecord) → IsWritable undo → IsUndoIn version (told version undo)
-told_fits One undo fits =
-    let f = fits.fits in
-    let all = all_told One (map op_without undo.ops) (ops_fit undo.ops f.ops) in
-    let count : length (map op_without undo.ops) < 2 ^ 32 = omega (arith, f.op_count, length-map undo.ops op_without) in
-    (record { fits = record { block = f.block; op_count = count; ops = all.0; expired_count = f.expired_count; expired = f.expired }; in_order = fits.in_order }, all.1)
-told_fits Two undo fits = (fits, tt)
-
--- what a text tells is read again, whatever follows
-pub told_again : (version : Version) (undo : UndoRecord) (more : List ℕ) → IsWritable undo → undo_from version (undo_text version undo ++ more) ≡ Ok (told version undo, more)
-told_again version undo more fits =
-    ap (λ (l : List ℕ). undo_from version (l ++ more)) (sym (told_text version undo)) ∙ (undo_core version).again (told version undo) more (told_fits version undo fits)
-
--- each proper front of a text is cut
-pub text_cut : (version : Version) (undo : UndoRecord) (front : List ℕ) (next : ℕ) (more : List ℕ) → IsBytes front → IsWritable undo → undo_text version undo ≡ front ++ next ∷ more
-    → undo_from version front ≡ Err ended
-text_cut version undo front next more front_bytes fits text = front_cut version front front_bytes (record {
-  front = record { value = told version undo; fits = ((told_fits version undo fits).0.fits, (told_fits version undo fits).1); next = next; more = more; text_is = told_text version undo ∙ text };
-  sorted = in_order;
-})
-  where
-    in_order : (rest : List ℕ) → ¬ (IsUnsorted version front rest)
-    in_order rest u =
-        let grown : IsUnsorted version (front ++ next ∷ more) (rest ++ next ∷ more) = unsorted_grows version front rest (next ∷ more) u in
-        let read : undo_from version (undo_text version undo ++ []) ≡ Ok (told version undo, []) = told_again version undo [] fits in
-        let fault : undo_from version (front ++ next ∷ more) ≡ Err (Unsorted, rest ++ next ∷ more) =
-        (undo_core version).flawed (front ++ next ∷ more) (Unsorted, rest ++ next ∷ more) (out_of_order (rest ++ next ∷ more) grown refl) in
-        ok_err (undo_from version (front ++ next ∷ more)) (told version undo, []) (Unsorted, rest ++ next ∷ more) (ap (undo_from version) (sym (append-nil (undo_text version undo) ∙ text)) ∙ read) fault
-
--- bytes begin with the text of what is told of one record alone
-pub one_record : (version : Version) (undo other : UndoRecord) (more others : List ℕ) → IsWritable undo → IsWritable other → undo_text version undo ++ more ≡ undo_text version other ++ others
-    → (told version undo ≡ told version other) × (more ≡ others)
-one_record version undo other more others fits other_fits e =
-    let same : (told version undo, more) ≡ (told version other, others) =
-    ok_is (told version undo, more) (told version other, others) (sym (told_again version undo more fits) ∙ ap (undo_from version) e ∙ told_again version other others other_fits) in
-    (ap (λ (x : UndoRecord × List ℕ). x.0) same, ap (λ (x : UndoRecord × List ℕ). x.1) same)

@@ -1,4 +1,4 @@
-use Rattle.undo_records.proofs.RecordLaws.{told_again, one_record, text_cut}
+use Rattle.undo_records.proofs.ToldLaws.{told_again, one_record, text_cut}
 use Rattle.undo_records.proofs.law.text_laws.Goals as goal
 
 pub returns-clause-again : goal.returns-clause-again

@@ -1,4 +1,4 @@
-use Rattle.std.proofs.Common.{ℕ, None, add-one}
+use Rattle.std.proofs.Common.{None, add-one}
 use Rattle.std.proofs.lemmas.Result.{err_from_is_err_and}
 use Rattle.chain_names.specs.declared.coin.HeldCoin.{HeldCoin}
 use Rattle.undo_records.specs.Reading.{held_from, coins_from}

@@ -1,6 +1,6 @@
 use Rattle.chain_names.specs.Seen.{seen_undo}
 use Rattle.undo_records.specs.declared.version.Version.TheVariants.{Two}
-use Rattle.undo_records.proofs.RecordLaws.{told_again}
+use Rattle.undo_records.proofs.ToldLaws.{told_again}
 use Rattle.undo_records.proofs.writing.write.Goals as goal
 
 pub returns-in_err-add_undo-clause-again : goal.returns-in_err-add_undo-clause-again
