@@ -74,9 +74,11 @@ returns-clause-ends g c o at =
     let b = seen_below c.args.name.now in
     let here = node_at live o b (drop c.loop-left.left b.path) in
     let w = c.loop-left.invariant.2 o at in
-    let e = ends_here live o b c.loop-left.left here w.0 (omega arith) in
-    (e.0, record {
-      own = sym c.in_ok-node-2.ensures.own;
-      top = sym (c.in_ok-node-2.ensures.top ∙ c.requires.top);
-      of = rw c.in_ok-node-2.ensures.of (is_node_by c.loop-left.room c.loop-left.of here _ e.1 w.1);
-    })
+    let e = ends_here live o b c.loop-left.left here w.0 (omega arith) in (
+      e.0,
+      record {
+        own = sym c.in_ok-node-2.ensures.own;
+        top = sym (c.in_ok-node-2.ensures.top ∙ c.requires.top);
+        of = rw c.in_ok-node-2.ensures.of (is_node_by c.loop-left.room c.loop-left.of here _ e.1 w.1);
+      },
+    )
