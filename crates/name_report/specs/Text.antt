@@ -27,9 +27,9 @@ tip_line height hash = codes "tip " ++ decimal height ++ codes " " ++ display_te
 abbrev pub entry_line : List ℕ → Item → Bool → List ℕ
 entry_line name entry served = codes "name " ++ bytes_text name ++ codes " " ++ decimal entry.height ++ state_text served ++ bytes_text entry.value ++ codes "\n"
 
--- a value that a name was given
+-- a value that a name was given, and the height at which its registration began
 abbrev pub item_line : Item → List ℕ
-item_line item = codes "  at " ++ decimal item.height ++ codes " " ++ bytes_text item.value ++ codes "\n"
+item_line item = codes "  at " ++ decimal item.height ++ codes " since " ++ decimal item.registered ++ codes " " ++ bytes_text item.value ++ codes "\n"
 
 abbrev pub item_lines : List Item → List ℕ
 item_lines [] = []

@@ -99,6 +99,7 @@ fn put_item<K: Sink>(page: &mut Page, sink: &mut K, item: &Item) -> Result<(), U
     ensures { Puts (outgoing (K.seen sink.old) page.old) (outgoing (K.seen sink.new) page.new) (item_line item.now) result }
 {
     put_number(page, sink, b"  at ", item.height)?;
+    put_number(page, sink, b" since ", item.registered)?;
     put_bytes(page, sink, b" ", item.value.as_slice())?;
     page.put(sink, b"\n")
 }
