@@ -207,6 +207,7 @@ pub(crate) fn each(alloc: Global, key: Key, values: &[Value]) -> Result<Elements
     ensures { IfOk result (λ v. v.items ≡ each_of (element_in key) (items_view values.now)) }
 {
     let mut found = Elements::new(alloc);
+    found.reserve(values.len())?;
     for value in values {
         match element(alloc, key, value)? {
             Some(element) => {
