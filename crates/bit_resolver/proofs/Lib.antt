@@ -1,6 +1,7 @@
 pub mod PlaceLemmas
 pub mod WayLemmas
 pub mod ChaseLemmas
+pub mod AnswerForms
 pub mod AnswerLaws
 pub mod WritingLemmas
 pub mod ReplyLaws

@@ -1,5 +1,5 @@
 -- Going down the way.
-use Rattle.std.proofs.Common.{◌≡◌, ℕ, Bool, not, zero, suc, ◌+◌, ◌-◌, ◌<◌, ◌≤◌, List, [], ◌∷◌, ◌++◌, length, take, drop, get_or, Some, None, true, false, refl, sym, ap, ◌∙◌, arith, drop-cons}
+use Rattle.std.proofs.Common.{◌≡◌, ℕ, zero, suc, ◌+◌, ◌-◌, ◌<◌, ◌≤◌, List, [], ◌∷◌, ◌++◌, length, take, drop, get_or, Some, None, true, false, refl, sym, ap, ◌∙◌, arith, drop-cons}
 use Rattle.std.specs.Option.{option_map}
 use Rattle.std.proofs.lemmas.List.{take-append-drop, length-drop}
 use Rattle.std.proofs.lemmas.Grind.{common_steps}
@@ -8,8 +8,11 @@ use Rattle.ifa_value.specs.declared.item.Key.TheVariants as key
 use Rattle.import_expand.specs.Sources.{Live, node, child_of}
 use Rattle.bit_resolver.specs.Places.{Below, own_of, top_of}
 use Rattle.bit_resolver.specs.Nodes.{Node, node_at, rdata_at, target_at, is_nil}
-use Rattle.bit_resolver.specs.Ends.{ShowsNode, Ends}
+use Rattle.bit_resolver.specs.Ends.{ShowsNode, Ends, Stops}
+use Rattle.bit_resolver.specs.declared.way.Stop.{Stop as StopIn}
+use Rattle.bit_resolver.specs.declared.way.Stop.TheVariants.{Free}
 use Rattle.bit_resolver.specs.declared.way.Walk.{Walk}
+use Rattle.import_expand.specs.Rooms.{IsNode, IsPlain}
 use Rattle.import_expand.specs.declared.room.Room.{Room}
 use Rattle.bit_resolver.specs.declared.node.Node.{Node as NodeIn}
 use Rattle.bit_resolver.specs.Way.{Stop, missing, cut, moved, or_else, stop_with, stop_here, stop_above, stop_before, stop_on_way, if_missing}
@@ -103,7 +106,7 @@ ends_missing live o b left next here below on step servers target is none =
     let f = further live o b left next here below on step servers target is in
     ends_at live o b next (omega (arith, on.within)) f.0 (ap (λ n. n.of) (sym f.1) ∙ nil_of_length below.of none)
 
-at_top : (labels : List (List ℕ)) → drop (length labels) labels ≡ []
+pub at_top : (labels : List (List ℕ)) → drop (length labels) labels ≡ []
 at_top [] = refl
 at_top (label ∷ labels) = at_top labels
 
@@ -125,20 +128,22 @@ ends_here live o b left here on none =
 pub take-below : {A : Type 0} (xs : List A) (left : ℕ) → left ≤ length xs → take (length xs - length (drop left xs)) xs ≡ take left xs
 take-below xs left le = ap (λ n. take n xs) (omega (arith, length-drop left xs))
 
-pub yes_cut : (r none : Bool) → r ≡ true → r ≡ not none → none ≡ false
-yes_cut r true t e = absurd (cc)
-yes_cut r false t e = refl
-
-pub no_cut : (r none : Bool) → r ≡ false → r ≡ not none → none ≡ true
-no_cut r true t e = refl
-no_cut r false t e = absurd (cc)
-
 -- the node of the labels from `left` on, by its own name
 pub at_node : (live : Live) (o : Members) (b : Below) (left : ℕ) (here : Node) → OnWay live o b left here → OnWay live o b left (node_at live o b (drop left b.path))
 at_node live o b left here on = record { within = on.within; is_node = refl; exists = sym (ap (λ n. is_nil n.of) on.is_node) ∙ on.exists; free = on.free }
 
 pub shows_node : (r : Room) (n : NodeIn) (x y : Node) → x ≡ y → ShowsNode r n x → ShowsNode r n y
 shows_node r n x y e h = rw (sym e) h
+
+pub is_node_by : (r : Room) (k : ℕ) (x y : Node) → x ≡ y → IsNode r k x.of → IsNode r k y.of
+is_node_by r k x y e h = rw (sym e) h
+
+pub stops_is : (r : Room) (m : Node) (s t : StopIn) → s ≡ t → Stops r m s → Stops r m t
+stops_is r m s t e h = rw (sym e) h
+
+-- nothing ends a way at a node whose sources have no item that may
+pub plain_is_free : (r : Room) (m : Node) → IsPlain m.of → Stops r m Free
+plain_is_free r m plain = (rw plain.ns refl, rw plain.translate refl)
 
 pub ends_is : (live : Live) (r : Room) (b : Below) (o : Members) (w v : Walk) → w ≡ v → Ends live r b o w → Ends live r b o v
 ends_is live r b o w v e h = rw (sym e) h

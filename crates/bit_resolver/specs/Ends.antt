@@ -1,17 +1,20 @@
 -- Values of the code as definitions see them.
-use Rattle.std.specs.Prelude.{◌≡◌, ◌≤◌, drop, length, Some, None}
+use Rattle.std.specs.Prelude.{◌≡◌, ℕ, List, ◌≤◌, drop, length, Some, None, true, false}
 use Rattle.serde_json.specs.Data.{Members}
 use Rattle.import_expand.specs.Sources.{Live}
 use Rattle.import_expand.specs.Rooms.{IsNode}
 use Rattle.import_expand.specs.declared.room.Room.{Room}
 use Rattle.bit_resolver.specs.Places.{Below, Place, outside, apex, below, top_of}
-use Rattle.bit_resolver.specs.Nodes.{Node, node_at}
+use Rattle.ifa_value.specs.declared.item.Key.TheVariants as key
+use Rattle.bit_resolver.specs.Nodes.{Node, node_at, rdata_at, target_at, is_nil}
 use Rattle.bit_resolver.specs.Way.{missing, cut, moved, stop_on_way}
 use Rattle.bit_resolver.specs.Answers.{Answer, Found, done, renamed}
 use Rattle.bit_resolver.specs.declared.place.Below.{Below as BelowIn}
 use Rattle.bit_resolver.specs.declared.place.Place.{Place as PlaceIn}
 use Rattle.bit_resolver.specs.declared.place.Place.TheVariants as place_in
 use Rattle.bit_resolver.specs.declared.node.Node.{Node as NodeIn}
+use Rattle.bit_resolver.specs.declared.way.Stop.{Stop}
+use Rattle.bit_resolver.specs.declared.way.Stop.TheVariants.{Free, Cut as CutHere, Moved as MovedHere}
 use Rattle.bit_resolver.specs.declared.way.Walk.{Walk}
 use Rattle.bit_resolver.specs.declared.way.Walk.TheVariants.{Arrived, Missing, Cut, Moved}
 use Rattle.bit_resolver.specs.declared.resource.Sections.{Sections}
@@ -31,6 +34,18 @@ pub record ShowsNode (r : Room) (n : NodeIn) (m : Node) : Type 0 where
   pub own : m.own ≡ n.own
   pub top : m.top ≡ n.top.now
   pub of : IsNode r n.of m.of
+
+-- what ends a way at a node above the name
+abbrev pub Stops : Room → Node → Stop → Type 0
+Stops r m Free = (is_nil (rdata_at key.Ns m) ≡ true) × (target_at key.Translate m ≡ None)
+Stops r m (CutHere n) = (is_nil (rdata_at key.Ns m) ≡ false) × ShowsNode r n m
+Stops r m (MovedHere n target) = (is_nil (rdata_at key.Ns m) ≡ true) × (target_at key.Translate m ≡ Some target) × ShowsNode r n m
+
+-- that node stands below this name at the top
+abbrev pub IsStopBelow : List ℕ → Stop → Type 0
+IsStopBelow top Free = Unit
+IsStopBelow top (CutHere n) = n.top.now ≡ top
+IsStopBelow top (MovedHere n target) = n.top.now ≡ top
 
 -- how a walk down to a name ends
 abbrev pub Ends : Live → Room → Below → Members → Walk → Type 0

@@ -1,13 +1,13 @@
 //! What a node answers.
 
-ghost use Rattle.std.specs.Prelude.{◌≡◌, ◌≤◌, ◌++◌, drop, length, IfOk, IfErr, OnOk, Some};
+ghost use Rattle.std.specs.Prelude.{◌≡◌, ◌≤◌, ◌++◌, [], if◌then◌else◌, drop, length, IfOk, IfErr, OnOk, Some};
 ghost use Rattle.serde_json.specs.Data.{Members};
 ghost use Rattle.import_expand.specs.Books.{IsAt};
 ghost use Rattle.import_expand.specs.Rooms.{objects_in, values_read, IsSound};
 ghost use Rattle.import_expand.specs.declared.exhausted.Exhausted.TheVariants.{Values};
 ghost use Rattle.bit_resolver.specs.Nodes.{Node as NodeOf};
 ghost use Rattle.bit_resolver.specs.Places.{IsBelow, own_of, top_of};
-ghost use Rattle.bit_resolver.specs.Answers.{negative as negative_of, or_no_data as or_no_data_of, apex_records as apex_records_of, answered as answered_of, referral as referral_of, is_asked as is_asked_of, matching as matching_of, record_items, by_cname as by_cname_of, in_zone as in_zone_of, at_cut as at_cut_of, at_name as at_name_of, by_dname as by_dname_of, dname_of, replaced, by_value};
+ghost use Rattle.bit_resolver.specs.Answers.{negative as negative_of, or_no_data as or_no_data_of, apex_records as apex_records_of, answered as answered_of, referral as referral_of, is_asked as is_asked_of, records_at, matching as matching_of, record_items, by_cname as by_cname_of, in_zone as in_zone_of, at_cut as at_cut_of, at_name as at_name_of, by_dname as by_dname_of, dname_of, replaced, by_value};
 ghost use Rattle.bit_resolver.specs.Ends.{seen_sections, seen_asked, ShowsNode, seen_below};
 
 use crate::node::{Node, type_of};
@@ -96,6 +96,23 @@ fn is_asked(kind: u16, key: Key) -> bool
     kind == rr_type::ANY || kind == type_of(key)
 }
 
+/// Adds the records of an item, where they match a QTYPE.
+fn add_asked(
+    alloc: Global,
+    node: &Node<'_>,
+    kind: u16,
+    key: Key,
+    room: &Room,
+    into: &mut Resources,
+) -> Result<(), NoMemory>
+    ensures { OnOk result ((n : NodeOf) → ShowsNode room.now node.now n → into.new.items ≡ into.old.items ++ (if is_asked_of kind key then records_at key n else [])) }
+{
+    if is_asked(kind, key) {
+        node.add_item(alloc, key, room, into)?;
+    }
+    Ok(())
+}
+
 /// The records of these items that match a QTYPE.
 fn matching(
     alloc: Global,
@@ -108,9 +125,7 @@ fn matching(
 {
     let mut found = Resources::new(alloc);
     for key in keys {
-        if is_asked(kind, *key) {
-            node.add_item(alloc, *key, room, &mut found)?;
-        }
+        add_asked(alloc, node, kind, *key, room, &mut found)?;
     }
     Ok(found)
 }

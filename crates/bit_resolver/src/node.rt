@@ -114,6 +114,7 @@ impl<'a> Node<'a> {
     ) -> Result<(), NoMemory>
         ensures { OnOk result (into.new.items ≡ into.old.items ++ records_of self.now.own kind (flat_map (λ e. alone (rdata_of (host_name_of self.now.own self.now.top.now) e)) elements.now)) }
     {
+        into.reserve(elements.len())?;
         for element in elements {
             self.add_element(alloc, kind, element, into)?;
         }

@@ -198,6 +198,9 @@ impl Below {
         requires left { left ≤ length self.now.path.items }
         ensures { IfOk result (λ n. n ≡ own_of (seen_below self.now) (drop left self.now.path.items)) }
     {
+        if left == self.path.len() {
+            return Ok(top.copy());
+        }
         match name_before(alloc, &self.path[left..], top)? {
             Some(name) => Ok(name),
             None => unreachable!(),

@@ -15,7 +15,7 @@ ghost use Rattle.bit_resolver.specs.declared.limits.TheConstants.{MOST_CNAMES as
 use crate::cases::{answered, apex_records, by_object, negative, or_no_data};
 use crate::limits::{CLASS_IN, MOST_CNAMES};
 use crate::place::{Place, find_place, is_domain_label, value_name};
-use crate::resource::{Asked, Resources, Sections, add_all};
+use crate::resource::{Asked, Resources, Sections, append};
 use crate::rr_type;
 use crate::zone::Zone;
 use dns_message::{Question, rcode};
@@ -79,27 +79,20 @@ fn ask<N: Names>(
 }
 
 /// An answer behind the records that were answered before.
-fn after_records(alloc: Global, before: Resources, last: Sections) -> Result<Sections, NoMemory>
+fn after_records(before: Resources, last: Sections) -> Result<Sections, NoMemory>
     ensures { IfOk result (λ s. seen_sections s ≡ after_records_of before.items (seen_sections last)) }
 {
     if before.len() == 0 {
         return Ok(last);
     }
     let mut answer = before;
-    add_all(alloc, last.answer.as_slice(), &mut answer)?;
+    append(last.answer, &mut answer)?;
     Ok(Sections {
         answer,
         authority: last.authority,
         rcode: last.rcode,
         aa: true,
     })
-}
-
-/// Adds the records that were found.
-fn add_found(alloc: Global, found: Resources, into: &mut Resources) -> Result<(), NoMemory>
-    ensures { OnOk result (into.new.items ≡ into.old.items ++ found.items) }
-{
-    add_all(alloc, found.as_slice(), into)
 }
 
 /// The place of the name that is asked next.
@@ -131,11 +124,11 @@ fn chase<N: Names>(
     while left > 0 {
         match ask(alloc, names, zone, kind, &place, room)? {
             Asked::Done(last) => {
-                let sections = after_records(alloc, before, last)?;
+                let sections = after_records(before, last)?;
                 return Ok(sections);
             }
             Asked::Renamed(found, target) => {
-                add_found(alloc, found, &mut before)?;
+                append(found, &mut before)?;
                 place = target_place(alloc, target)?;
             }
         }

@@ -3,7 +3,7 @@
 ghost use Rattle.std.specs.Prelude.{◌≡◌, ◌++◌, ◌∷◌, [], OnOk, IfOk};
 
 use domain_text::Name;
-use nmc_base::{Bytes, NoMemory, RoomyList};
+use nmc_base::{Bytes, NoMemory};
 use std::alloc::Global;
 
 /// A record of class IN (RFC 1035, 3.2.1).
@@ -18,7 +18,7 @@ pub struct Resource {
 }
 
 /// A list of records.
-pub type Resources = RoomyList<Resource>;
+pub type Resources = Vec<Resource>;
 
 /// An answer.
 #[derive(Drop)]
@@ -63,23 +63,16 @@ impl Resource {
 pub(crate) fn add(into: &mut Resources, resource: Resource) -> Result<(), NoMemory>
     ensures { OnOk result (into.new.items ≡ into.old.items ++ resource ∷ []) }
 {
-    into.reserve(1)?;
-    into.push(resource);
+    into.push(resource)?;
     Ok(())
 }
 
-/// Adds the same records again.
-pub(crate) fn add_all(
-    alloc: Global,
-    from: &[Resource],
-    into: &mut Resources,
-) -> Result<(), NoMemory>
-    ensures { OnOk result (into.new.items ≡ into.old.items ++ from.now) }
+/// Moves records behind others.
+pub(crate) fn append(from: Resources, into: &mut Resources) -> Result<(), NoMemory>
+    ensures { OnOk result (into.new.items ≡ into.old.items ++ from.items) }
 {
-    for record in from {
-        let resource = Resource::new(alloc, &record.owner, record.kind, record.rdata.as_slice())?;
-        add(into, resource)?;
-    }
+    let mut from = from;
+    into.append(&mut from)?;
     Ok(())
 }
 

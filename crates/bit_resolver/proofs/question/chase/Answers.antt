@@ -10,7 +10,7 @@ returns-in-Done-clause-answer g c =
 
 pub loop-left-preserved : goal.loop-left-preserved
 loop-left-preserved g c = (
-  hop (g.N.Names.served c.args.names.now) c.args.zone.now c.args.kind c.loop-left.left (c.loop-left.left - 1) c.loop-left.before.items c.in-Renamed.found.items _ (seen_place c.loop-left.place) _ c.in-Renamed.target _ _ (omega arith) (sym c.in_ok-last.ensures.asked ∙ ap seen_asked c.in-Renamed.is) c.in_ok-add_found-in-Renamed.ensures c.in_ok-place-in-Renamed.ensures.place refl c.loop-left.invariant.0,
+  hop (g.N.Names.served c.args.names.now) c.args.zone.now c.args.kind c.loop-left.left (c.loop-left.left - 1) c.loop-left.before.items c.in-Renamed.found.items _ (seen_place c.loop-left.place) _ c.in-Renamed.target _ _ (omega arith) (sym c.in_ok-last.ensures.asked ∙ ap seen_asked c.in-Renamed.is) c.in_ok-append-in-Renamed.ensures c.in_ok-place-in-Renamed.ensures.place refl c.loop-left.invariant.0,
   c.in_ok-place-in-Renamed.ensures.named,
   c.in_ok-last.ensures.sound,
 )
@@ -20,4 +20,4 @@ returns-clause-answer g c =
     c.answered.ensures ∙ stop (g.N.Names.served c.args.names.now) c.args.zone.now c.args.kind c.loop-left.left c.loop-left.before.items (seen_place c.loop-left.place) _ (omega arith) c.loop-left.invariant.0
 
 pub loop-left-init : goal.loop-left-init
-loop-left-init g c = (nothing_before (chase (g.N.Names.served c.args.names.now) c.args.zone.now c.args.kind 8 (seen_place c.args.first)) c.new-before.result.items (ap (λ r. r.items) c.new-before.ensures), c.requires.place, c.requires.sound)
+loop-left-init g c = (nothing_before (chase (g.N.Names.served c.args.names.now) c.args.zone.now c.args.kind 8 (seen_place c.args.first)) c.new-before.result.items c.new-before.ensures.items, c.requires.place, c.requires.sound)

@@ -30,6 +30,6 @@ returns-clause-text c =
     let held = c.add_records-2.ensures.holds answered (c.add_records.ensures.holds asked c.new-reply.ensures.holds refl) tt in
     let limit = c.add_records-2.ensures.limit ∙ c.add_records.ensures.limit ∙ c.new-reply.ensures.limit in
     let said : all ≡ contents_of q s =
-    ap (λ rs. record { query = q; answer = map written rs; authority = map written c.as_slice-2.result.now }) c.as_slice.ensures
-    ∙ ap (λ rs. record { query = q; answer = map written s.answer; authority = map written rs }) c.as_slice-2.ensures in
+    ap (λ rs. record { query = q; answer = map written rs; authority = map written c.as_slice-2.result.now }) c.as_slice.ensures.value
+    ∙ ap (λ rs. record { query = q; answer = map written s.answer; authority = map written rs }) c.as_slice-2.ensures.value in
     c.finish.ensures.text all held ∙ ap (λ most. reply_text most all s.rcode s.aa) limit ∙ ap (λ t. reply_text c.args.limit t s.rcode s.aa) said
