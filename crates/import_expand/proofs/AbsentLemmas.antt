@@ -12,11 +12,15 @@ use Rattle.import_expand.proofs.ExpandLemmas.{finds_is_none}
 abbrev pub HaveNone : Book → List ℕ → List ℕ → ℕ → Type 0
 HaveNone b label numbers n = (live : Live) → IsSound live b → (k : ℕ) → k < n → (o : Members) → IsAt (objects b) (get_or numbers k 0) o → entry_of label o ≡ None
 
-pub one_more : (b c later : Book) (label numbers : List ℕ) (n at : ℕ) (r : Option ℕ) → Keeps b c → get_or numbers n 0 ≡ at → r ≡ None
-    → ((live : Live) (o : Members) → IsSound live c → IsAt (objects c) at o → Finds (objects later) r (entry_of label o)) → HaveNone b label numbers n → HaveNone b label numbers (n + 1)
-one_more b c later label numbers n at r k e none found have =
-    λ live sound. below_more _ _ (have live sound)
-    (λ o here. finds_is_none (objects later) (entry_of label o) (rw none at (found live o (k.sound live sound) (k.grows at o (rw e at here)))))
+-- the object of a number has no entry under a label
+abbrev pub HasNone : Book → List ℕ → ℕ → Type 0
+HasNone b label at = (live : Live) → IsSound live b → (o : Members) → IsAt (objects b) at o → entry_of label o ≡ None
+
+pub has_none : (b c later : Book) (label : List ℕ) (at : ℕ) (r : Option ℕ) → Keeps b c → r ≡ None → ((live : Live) (o : Members) → IsSound live c → IsAt (objects c) at o → Finds (objects later) r (entry_of label o)) → HasNone b label at
+has_none b c later label at r k none found = λ live sound o here. finds_is_none (objects later) (entry_of label o) (rw none at (found live o (k.sound live sound) (k.grows at o here)))
+
+pub one_more : (b : Book) (label numbers : List ℕ) (n at : ℕ) → get_or numbers n 0 ≡ at → HasNone b label at → HaveNone b label numbers n → HaveNone b label numbers (n + 1)
+one_more b label numbers n at e none have = λ live sound. below_more _ _ (have live sound) (λ o here. none live sound o (rw e at here))
 
 get_or_front : (xs ys : List ℕ) (k : ℕ) → k < length xs → get_or (xs ++ ys) k 0 ≡ get_or xs k 0
 get_or_front [] ys k h = absurd (omega arith)
@@ -27,13 +31,12 @@ get_or_end : (xs : List ℕ) (y : ℕ) → get_or (xs ++ y ∷ []) (length xs) 0
 get_or_end [] y = refl
 get_or_end (x ∷ xs) y = get_or_end xs y
 
-pub pushed : (b c later : Book) (label asked more : List ℕ) (at : ℕ) (r : Option ℕ) → more ≡ asked ++ at ∷ [] → Keeps b c → r ≡ None
-    → ((live : Live) (o : Members) → IsSound live c → IsAt (objects c) at o → Finds (objects later) r (entry_of label o)) → HaveNone b label asked (length asked) → HaveNone b label more (length more)
-pushed b c later label asked more at r e k none found have =
+pub pushed : (b : Book) (label asked more : List ℕ) (at : ℕ) → more ≡ asked ++ at ∷ [] → HasNone b label at → HaveNone b label asked (length asked) → HaveNone b label more (length more)
+pushed b label asked more at e none have =
     rw e (λ live sound i within. let w : i < length asked + 1 = rw (length-append asked (at ∷ [])) at within in
     below_more (λ (i : ℕ). (o : Members) → IsAt (objects b) (get_or (asked ++ at ∷ []) i 0) o → entry_of label o ≡ None) (length asked)
     (λ j l o here. have live sound j l o (rw (get_or_front asked (at ∷ []) j l) at here))
-    (λ o here. let h : IsAt (objects b) at o = rw (get_or_end asked at) at here in finds_is_none (objects later) (entry_of label o) (rw none at (found live o (k.sound live sound) (k.grows at o h)))) i w)
+    (λ o here. none live sound o (rw (get_or_end asked at) at here)) i w)
 
 -- a source that was asked before
 pub asked_before : (b : Book) (label numbers asked : List ℕ) (n j : ℕ) → j < length asked → get_or asked j 0 ≡ get_or numbers n 0 → HaveNone b label asked (length asked) → HaveNone b label numbers n → HaveNone b label numbers (n + 1)

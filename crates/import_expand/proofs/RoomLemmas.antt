@@ -5,7 +5,7 @@ use Rattle.std.proofs.lemmas.List.Elements.{All-push, All-weaker, All-get_or, Al
 use borrow.Author.Tests.{ltb-true}
 use Rattle.std.proofs.lemmas.Option.{same_Some}
 use Rattle.serde_json.specs.Data.{Members}
-use Rattle.import_expand.specs.Sources.{Live, sources_of, child_of, entries}
+use Rattle.import_expand.specs.Sources.{Live, sources_of, child_of}
 use Rattle.import_expand.specs.Books as books
 use Rattle.import_expand.specs.Books.{objects, IsAt, Shows, Grows}
 use Rattle.import_expand.specs.Rooms.{objects_in, nodes_in, numbers_of, IsNodeAt, IsNode, GrowsBy, IsPlain, IsShown, IsChild, IsTop, IsSound, Keeps, LacksEntry, Later}
@@ -164,10 +164,10 @@ pub empty_sound : (live : Live) (r : Room) → books.IsSound live r.book → r.n
 empty_sound live r b n c t = record { book = b; nodes = rw n (All-from_recursion (IsShown (objects_in r)) [] tt); children = rw c (All-from_recursion (IsChild live (objects_in r) (nodes_in r)) [] tt); tops = rw t (All-from_recursion (IsTop live (objects_in r) (nodes_in r)) [] tt) }
 
 -- a child that is remembered
-pub child_known : (live : Live) (r : Room) (c : Child) (k : ℕ) (label : List ℕ) (ns : List Members) → IsSound live r → k < length r.children.items → c ≡ get_or r.children.items k c → c.label ≡ label → IsNode r c.of ns
+pub child_known : (live : Live) (r : Room) (c : Child) (k : ℕ) (label : List ℕ) (ns : List Members) → IsSound live r → (k < length r.children.items) × (c ≡ get_or r.children.items k c) → c.label ≡ label → IsNode r c.of ns
     → IsNode r c.at (child_of live ns label)
-child_known live r c k label ns sound within e same node =
-    let is : IsChild live (objects_in r) (nodes_in r) c = subst (IsChild live (objects_in r) (nodes_in r)) (sym e) (All-get_or (IsChild live (objects_in r) (nodes_in r)) r.children.items k c within sound.children) in
+child_known live r c k label ns sound there same node =
+    let is : IsChild live (objects_in r) (nodes_in r) c = subst (IsChild live (objects_in r) (nodes_in r)) (sym there.1) (All-get_or (IsChild live (objects_in r) (nodes_in r)) r.children.items k c there.0 sound.children) in
     let one : is.of ≡ ns = node_one (objects_in r) (nodes_in r) c.of is.of ns is.is_of node in
     subst (λ (x : List Members). IsNodeAt (objects_in r) (nodes_in r) c.at (child_of live x label)) one
     (subst (λ (x : List ℕ). IsNodeAt (objects_in r) (nodes_in r) c.at (child_of live is.of x)) same is.is)
@@ -189,9 +189,6 @@ node_plain live r k s ns sound within e node plain =
     let there : IsNode r k shown.of = node_by r k s shown.of (node_numbers r.nodes.items k s within e) shown.shown in
     subst IsPlain (node_one (objects_in r) (nodes_in r) k shown.of ns there node) (shown.plain plain)
 
-pub lacks_by : (r : Room) (k : ℕ) (label : List ℕ) (ns : List Members) → LacksEntry r k label → IsNode r k ns → entries label ns ≡ []
-lacks_by r k label ns lacks node = rw (node_one (objects_in r) (nodes_in r) k ns lacks.of node lacks.is) lacks.none
-
 pub later_both : (live : Live) (a b c : Room) → Later live a b → Later live b c → Later live a c
 later_both live a b c k l = record { grows = λ i o h. l.grows i o (k.grows i o h); nodes = λ i n h. l.nodes i n (k.nodes i n h); sound = l.sound }
 
@@ -206,30 +203,31 @@ pub record Placed (live : Live) (a d : Room) (at : ℕ) (ns : List Members) : Ty
   pub later : Later live a d
   pub node : IsNode d at ns
 
--- a node's child that was found just now
-pub child_new : (live : Live) (a b c d : Room) (of at : ℕ) (label numbers : List ℕ) (ns : List Members) → IsNode a of ns → Later live a b → Shows (objects_in b) numbers (child_of live ns label)
-    → (Keeps b c × IsNode c at (child_of live ns label))
-    → ((other : Live) (ms : List Members) → IsNode c of ms → IsNode c at (child_of other ms label) → IsSound other c → Later other c d) → Placed live a d at (child_of live ns label)
-child_new live a b c d of at label numbers ns node l shown put more =
-    let m : Later live a c = later_both live a b c l (keeps_later live b c put.0 l.sound) in
-    let last : Later live c d = more live ns (node_after live a c of ns m node) put.1 m.sound in
-    record { later = later_both live a c d m last; node = node_after live c d at (child_of live ns label) last put.1 }
+-- a node that got its number just now
+pub placed : (live : Live) (a b c : Room) (at : ℕ) (ns : List Members) → Later live a b → Keeps b c → IsNode c at ns → Placed live a c at ns
+placed live a b c at ns l put node = record { later = later_both live a b c l (keeps_later live b c put l.sound); node = node }
 
--- a node's child under `*`, which is remembered under a label as well
-pub child_any : (live : Live) (a b c : Room) (of at : ℕ) (label : List ℕ) (ns : List Members) → IsNode a of ns → entries label ns ≡ [] → Later live a b → IsNode b at (child_of live ns (42 ∷ []))
-    → ((other : Live) (ms : List Members) → IsNode b of ms → IsNode b at (child_of other ms label) → IsSound other b → Later other b c) → Placed live a c at (child_of live ns label)
-child_any live a b c of at label ns node none l found more =
-    let here : IsNode b at (child_of live ns label) = subst (λ (x : List Members). IsNodeAt (objects_in b) (nodes_in b) at x) (child_of_any live ns label none) found in
-    let last : Later live b c = more live ns (node_after live a b of ns l node) here l.sound in
-    record { later = later_both live a b c l last; node = node_after live b c at (child_of live ns label) last here }
+-- a node's child that was found just now
+pub child_new : (live : Live) (a c d : Room) (of at : ℕ) (label : List ℕ) (n : NodeOf a of) → Placed live a c at (child_of live n.of label)
+    → ((other : Live) (ms : List Members) → IsNode c of ms → IsNode c at (child_of other ms label) → IsSound other c → Later other c d) → Placed live a d at (child_of live n.of label)
+child_new live a c d of at label n new more =
+    let last : Later live c d = more live n.of (node_after live a c of n.of new.later n.is) new.node new.later.sound in
+    record { later = later_both live a c d new.later last; node = node_after live c d at (child_of live n.of label) last new.node }
+
+-- a node's child under `*`, where no source has an entry under the label
+pub child_any : (live : Live) (a c : Room) (of at : ℕ) (label : List ℕ) (lacks : LacksEntry a of label) → Placed live a c at (child_of live lacks.of (42 ∷ [])) → Placed live a c at (child_of live lacks.of label)
+child_any live a c of at label lacks new = record { later = new.later; node = subst (λ (x : List Members). IsNodeAt (objects_in c) (nodes_in c) at x) (child_of_any live lacks.of label lacks.none) new.node }
+
+-- the child of the sources that a node has
+pub child_by : (live : Live) (a d : Room) (of at : ℕ) (label : List ℕ) (n : NodeOf a of) (ns : List Members) → IsNode a of ns → Placed live a d at (child_of live n.of label) → IsNode d at (child_of live ns label)
+child_by live a d of at label n ns node new = subst (λ (x : List Members). IsNodeAt (objects_in d) (nodes_in d) at (child_of live x label)) (node_one (objects_in a) (nodes_in a) of n.of ns n.is node) new.node
 
 -- a node at the top that was found just now
-pub top_new : (live : Live) (a b c d : Room) (of at : ℕ) (o : Members) → IsAt (objects_in a) of o → Later live a b → (Keeps b c × IsNode c at (sources_of live 0 o))
+pub top_new : (live : Live) (a c d : Room) (of at : ℕ) (o : Members) → IsAt (objects_in a) of o → Placed live a c at (sources_of live 0 o)
     → ((other : Live) (p : Members) → IsAt (objects_in c) of p → IsNode c at (sources_of other 0 p) → IsSound other c → Later other c d) → Placed live a d at (sources_of live 0 o)
-top_new live a b c d of at o here l put more =
-    let m : Later live a c = later_both live a b c l (keeps_later live b c put.0 l.sound) in
-    let last : Later live c d = more live o (m.grows of o here) put.1 m.sound in
-    record { later = later_both live a c d m last; node = node_after live c d at (sources_of live 0 o) last put.1 }
+top_new live a c d of at o here new more =
+    let last : Later live c d = more live o (new.later.grows of o here) new.node new.later.sound in
+    record { later = later_both live a c d new.later last; node = node_after live c d at (sources_of live 0 o) last new.node }
 
 -- what a look-up by an index found
 pub found_at : {A : Type 0} (xs ys : List A) (k : ℕ) (x : A) → ys ≡ xs → true ≡ nat_lt k (length ys) → x ≡ get_or ys k x → (k < length xs) × (x ≡ get_or xs k x)

@@ -1,6 +1,6 @@
 use Rattle.std.proofs.Common.{◌≡◌, ℕ, ◌<◌, List, length, arith, refl, subst, ◌∙◌, get_or}
 use Rattle.import_expand.proofs.BookLemmas.{keeps_both}
-use Rattle.import_expand.proofs.AbsentLemmas.{one_more, pushed, asked_before, all_none}
+use Rattle.import_expand.proofs.AbsentLemmas.{has_none, one_more, pushed, asked_before, all_none}
 use Rattle.import_expand.proofs.expansion.are_absent.Goals as goal
 use Rattle.import_expand.proofs.expansion.are_absent.Goals.{then-not-is_near+in_ok-entry+in-None+in_ok-push-in-None, else-not-is_near}
 
@@ -17,11 +17,12 @@ loop-source-preserved c = elim c.if-not-is_near.branch [
       let b = c.loop-source.book in
       let at = get_or c.args.of.now c.loop-source.source-index 0 in
       let inv = c.loop-source.invariant in
+      let none = has_none a b w.entry.new.self c.args.label.now at w.in_ok-entry.field-0 inv.keeps w.in-None.is w.in_ok-entry.ensures.found in
       rw (w.book-is, w.asked-is) (record {
         keeps = keeps_both a b w.entry.new.self inv.keeps w.in_ok-entry.ensures.keeps;
         values = w.in_ok-entry.ensures.values ∙ inv.values;
-        none = one_more a b w.entry.new.self c.args.label.now c.args.of.now c.loop-source.source-index at w.in_ok-entry.field-0 inv.keeps refl w.in-None.is w.in_ok-entry.ensures.found inv.none;
-        asked = pushed a b w.entry.new.self c.args.label.now c.loop-source.asked.items _ at w.in_ok-entry.field-0 w.in_ok-push-in-None.ensures.items inv.keeps w.in-None.is w.in_ok-entry.ensures.found inv.asked;
+        none = one_more a c.args.label.now c.args.of.now c.loop-source.source-index at refl none inv.none;
+        asked = pushed a c.args.label.now c.loop-source.asked.items _ at w.in_ok-push-in-None.ensures.items none inv.asked;
       })
   | else-not-is_near w ↦
       let inv = c.loop-source.invariant in

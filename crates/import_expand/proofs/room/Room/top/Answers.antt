@@ -4,7 +4,7 @@ use Rattle.serde_json.specs.Data.{no_members}
 use Rattle.import_expand.specs.Sources.{sources_of}
 use Rattle.import_expand.specs.Rooms.{objects_in}
 use Rattle.import_expand.specs.declared.room.Room.{Room}
-use Rattle.import_expand.proofs.RoomLemmas.{book_later, top_new}
+use Rattle.import_expand.proofs.RoomLemmas.{book_later, placed, top_new}
 use Rattle.import_expand.proofs.room.Room.top.Goals as goal
 
 pub returns-in_ok-keep_top-in-None-clause-found : goal.returns-in_ok-keep_top-in-None-clause-found
@@ -13,8 +13,8 @@ returns-in_ok-keep_top-in-None-clause-found g c o here =
     let a = c.args.self.now in
     let b : Room = record a { book = c.sources.new.book } in
     let shown = c.in_ok-found-in-None.ensures.found o here in
-    (top_new live a b c.put.new.self c.keep_top.new.self c.args.of c.in_ok-at-in-None.at o here (book_later live a b c.in_ok-found-in-None.ensures.later refl refl refl c.requires.sound)
-    (c.in_ok-at-in-None.ensures.keeps (sources_of live 0 o) shown, c.in_ok-at-in-None.ensures.at (sources_of live 0 o) shown) c.in_ok-keep_top-in-None.ensures.later).node
+    let new = placed live a b c.put.new.self c.in_ok-at-in-None.at (sources_of live 0 o) (book_later live a b c.in_ok-found-in-None.ensures.later refl refl refl c.requires.sound) (c.in_ok-at-in-None.ensures.keeps (sources_of live 0 o) shown) (c.in_ok-at-in-None.ensures.at (sources_of live 0 o) shown) in
+    (top_new live a c.put.new.self c.keep_top.new.self c.args.of c.in_ok-at-in-None.at o here new c.in_ok-keep_top-in-None.ensures.later).node
 
 pub returns-in_ok-keep_top-in-None-clause-later : goal.returns-in_ok-keep_top-in-None-clause-later
 returns-in_ok-keep_top-in-None-clause-later g c =
@@ -24,5 +24,5 @@ returns-in_ok-keep_top-in-None-clause-later g c =
     let o = get_or (objects_in a) c.args.of no_members in
     let here = slice_get-get_or (objects_in a) c.args.of no_members (omega arith) in
     let shown = c.in_ok-found-in-None.ensures.found o here in
-    (top_new live a b c.put.new.self c.keep_top.new.self c.args.of c.in_ok-at-in-None.at o here (book_later live a b c.in_ok-found-in-None.ensures.later refl refl refl c.requires.sound)
-    (c.in_ok-at-in-None.ensures.keeps (sources_of live 0 o) shown, c.in_ok-at-in-None.ensures.at (sources_of live 0 o) shown) c.in_ok-keep_top-in-None.ensures.later).later
+    let new = placed live a b c.put.new.self c.in_ok-at-in-None.at (sources_of live 0 o) (book_later live a b c.in_ok-found-in-None.ensures.later refl refl refl c.requires.sound) (c.in_ok-at-in-None.ensures.keeps (sources_of live 0 o) shown) (c.in_ok-at-in-None.ensures.at (sources_of live 0 o) shown) in
+    (top_new live a c.put.new.self c.keep_top.new.self c.args.of c.in_ok-at-in-None.at o here new c.in_ok-keep_top-in-None.ensures.later).later
