@@ -2,7 +2,7 @@ ghost use Rattle.std.specs.Prelude.{Some, None, nat_eq, ◌≤◌, if◌then◌e
 ghost use Rattle.std.specs.Cmp.Lexicographic.{pointwise};
 
 use ifa_value::{Element, IfaObject, Key};
-use import_expand::{Names, Room};
+use import_expand::{Exhausted, MOST_VALUES, Names, Room};
 use std::alloc::Global;
 use std::cell::Cell;
 use std::process::Abort;
@@ -63,12 +63,25 @@ fn first_mark(alloc: Global, room: &Room, of: usize, key: Key) -> Result<u8, Fai
 
 /// What is looked at of a node: how many sources it has, and the marks of the first with an address and of the first with a
 /// text.
-type Seen = (usize, u8, u8);
+#[derive(Clone, Copy, PartialEq, Eq, Debug)]
+struct Seen {
+    sources: usize,
+    address: u8,
+    text: u8,
+}
 
-fn seen(alloc: Global, room: &Room, of: usize) -> Result<Seen, Fail> {
+fn shows(sources: usize, address: u8, text: u8) -> Seen {
+    Seen {
+        sources,
+        address,
+        text,
+    }
+}
+
+fn look_at(alloc: Global, room: &Room, of: usize) -> Result<Seen, Fail> {
     let address = first_mark(alloc, room, of, Key::Ip)?;
     let text = first_mark(alloc, room, of, Key::Txt)?;
-    Ok((room.len(of), address, text))
+    Ok(shows(room.len(of), address, text))
 }
 
 /// What the node of `d/a` shows.
@@ -76,7 +89,7 @@ fn top_of(alloc: Global, names: &Fake<'_>) -> Result<Seen, Fail> {
     let mut room = Room::new(alloc);
     let object = room.named(alloc, names, b"d/a")?.ok_or("not served")?;
     let top = room.top(alloc, names, object)?;
-    seen(alloc, &room, top)
+    look_at(alloc, &room, top)
 }
 
 /// The node of `d/a` shows this.
@@ -102,26 +115,26 @@ const SERVED: &[u8] =
 #[test]
 fn imports(rt: HostRuntime) -> Result<(), Fail> {
     let nine = names(NINE, b"{\"ip\":\"0.0.0.2\",\"txt\":5}");
-    gives(&rt, rt.alloc(), &nine, (9, 1, 2))?;
+    gives(&rt, rt.alloc(), &nine, shows(9, 1, 2))?;
     let below = names(BELOW, SERVED);
-    gives(&rt, rt.alloc(), &below, (2, 1, 3))?;
+    gives(&rt, rt.alloc(), &below, shows(2, 1, 3))?;
     let none = names(
         b"{\"ip\":\"0.0.0.1\",\"import\":[[\"d/none\",\"x.y\"],[\"d/b\",\"z\"]]}",
         SERVED,
     );
-    gives(&rt, rt.alloc(), &none, (1, 1, 0))?;
+    gives(&rt, rt.alloc(), &none, shows(1, 1, 0))?;
     let empty = names(
         b"{\"ip\":\"0.0.0.1\",\"map\":{\"\":{\"ip\":\"0.0.0.5\",\"txt\":5,\"import\":\"d/b\"}}}",
         SERVED,
     );
-    gives(&rt, rt.alloc(), &empty, (2, 1, 5))
+    gives(&rt, rt.alloc(), &empty, shows(2, 1, 5))
 }
 
 /// A name that imports itself eight times: 256 sources, and one value is read.
 #[test]
 fn ring(rt: HostRuntime) -> Result<(), Fail> {
     let ring = names(RING, b"{}");
-    gives(&rt, rt.alloc(), &ring, (256, 1, 0))?;
+    gives(&rt, rt.alloc(), &ring, shows(256, 1, 0))?;
     assert!(rt; ring.asked.get() == 1);
     Ok(())
 }
@@ -132,7 +145,7 @@ fn child_of(alloc: Global, names: &Fake<'_>, label: &[u8]) -> Result<Seen, Fail>
     let object = room.named(alloc, names, b"d/a")?.ok_or("not served")?;
     let top = room.top(alloc, names, object)?;
     let below = room.child(alloc, names, top, label)?;
-    seen(alloc, &room, below)
+    look_at(alloc, &room, below)
 }
 
 /// The child of `d/a` under a label shows this.
@@ -157,9 +170,43 @@ fn children(rt: HostRuntime) -> Result<(), Fail> {
         PARENT,
         b"{\"map\":{\"*\":{\"ip\":\"0.0.0.8\",\"txt\":5},\"b\":{\"ip\":\"0.0.0.9\",\"txt\":5}}}",
     );
-    child_gives(&rt, rt.alloc(), &all, b"b", (2, 6, 9))?;
-    child_gives(&rt, rt.alloc(), &all, b"c", (2, 5, 8))?;
-    child_gives(&rt, rt.alloc(), &all, b"B", (2, 5, 8))?;
+    child_gives(&rt, rt.alloc(), &all, b"b", shows(2, 6, 9))?;
+    child_gives(&rt, rt.alloc(), &all, b"c", shows(2, 5, 8))?;
+    child_gives(&rt, rt.alloc(), &all, b"B", shows(2, 5, 8))?;
     let one = names(PARENT, b"{\"map\":{\"d\":{\"ip\":\"0.0.0.7\"}}}");
-    child_gives(&rt, rt.alloc(), &one, b"d", (1, 7, 0))
+    child_gives(&rt, rt.alloc(), &one, b"d", shows(1, 7, 0))
+}
+
+/// A node with many sources has the same child where it is asked for again, also under another label that no source has.
+#[test]
+fn children_of_many(rt: HostRuntime) -> Result<(), Fail> {
+    let many = names(
+        b"{\"map\":{\"*\":{\"import\":\"d/a\",\"ip\":\"0.0.0.4\"}},\"import\":[[\"d/a\"],[\"d/a\"],[\"d/a\"]]}",
+        b"{}",
+    );
+    let mut room = Room::new(rt.alloc());
+    let object = room.named(rt.alloc(), &many, b"d/a")?.ok_or("not served")?;
+    let top = room.top(rt.alloc(), &many, object)?;
+    let first = room.child(rt.alloc(), &many, top, b"x")?;
+    let second = room.child(rt.alloc(), &many, top, b"y")?;
+    let found = look_at(rt.alloc(), &room, second)?;
+    assert!(rt; first == second && found == shows(256, 4, 0) && many.asked.get() == 1);
+    Ok(())
+}
+
+/// The names that 4,097 values are asked of: the last is refused, and so is no other.
+#[test]
+fn values_are_counted(rt: HostRuntime) -> Result<(), Fail> {
+    let all = names(b"{}", b"{}");
+    let mut room = Room::new(rt.alloc());
+    for number in 0..MOST_VALUES {
+        let name = number.to_be_bytes();
+        assert!(rt; room.named(rt.alloc(), &all, &name)?.is_some());
+    }
+    let again = room.named(rt.alloc(), &all, &[0, 7])?;
+    let refused = room.named(rt.alloc(), &all, b"d/one more");
+    assert!(rt;
+        again.is_some() && refused == Err(Exhausted::Values) && room.values_read() == MOST_VALUES
+    );
+    Ok(())
 }
