@@ -6,11 +6,16 @@ length that say little.
 """
 import json
 import random
+import string
 import typing
 
 A, TXT = 1, 16
 LONGEST_VALUE = 1023
 MOST_LABELS = 100
+# So many labels, no two of which are the same, are as long as a name may be.
+MOST_DIFFERENT = 90
+# Items that would end a way, of no shape that they may have.
+NO_END = {"ns": 5, "translate": 5}
 # How many names import one another, and how many do so where more are met than may be read for one message.
 WIDE, WHOLE = 1000, 6000
 
@@ -41,6 +46,13 @@ def below(labels, label="a", top="x.bit."):
     return f"{label}." * labels + top
 
 
+def different(top="x.bit."):
+    """As many labels as there may be, no two of which are the same."""
+    one = string.ascii_lowercase + string.digits
+    labels = [*one, *(first + second for first in one for second in one)]
+    return ".".join(labels[:MOST_DIFFERENT]) + "." + top
+
+
 def seven(name="d/b"):
     """Eight imports of a name, of which one fits."""
     return [[name]] + [[name, "z"]] * 7
@@ -61,13 +73,13 @@ def ring(imports, under="*", **more):
 
 
 def rings():
-    """The names of the rows that ask with one to 100 labels."""
-    for told, imports in (("seven", seven()), ("eight", eight())):
+    """The names of the rows that ask with one to 100 labels. Items that end no way make an answer ask for the name of each node."""
+    for told, imports, items in (("seven", seven(), {}), ("eight", eight(), {}), ("seven with items that end no way", seven(), NO_END)):
         for labels in (1, 5, 20, 50, MOST_LABELS):
-            value = ring(imports)
+            value = ring(imports, **items)
             yield Row(f"{told}, {labels} labels", {"d/b": value, "d/x": value}, below(labels), 0)
         for labels in (1, 5, 20, 50, MOST_LABELS):
-            value = ring(imports, alias=below(labels))
+            value = ring(imports, alias=below(labels), **items)
             yield Row(f"{told}, {labels} labels, alias", {"d/b": value, "d/x": value}, below(labels), 0)
 
 
@@ -92,6 +104,9 @@ def forms():
     labels = below(25, "a.b.c.d")
     alias = ring(seven(), alias=labels)
     yield Row("labels that differ", {"d/b": alias, "d/x": alias}, labels, 0)
+    for told, items in (("all labels differ", {}), ("all labels differ, items that end no way", NO_END)):
+        differ = ring(seven(), alias=different(), **items)
+        yield Row(told, {"d/b": differ, "d/x": differ}, different(), 0)
     hops = {f"d/x{n}": ring(seven(), alias=below(90, top=f"x{n + 1}.bit.")) for n in range(8)}
     yield Row("eight names in turn", {"d/b": ring(seven()), **hops}, below(90, top="x0.bit."), 0)
 
