@@ -2,10 +2,12 @@ ghost use Rattle.std.specs.Prelude.{◌≡◌, suc, ◌≤◌, IfOk, OnOk};
 ghost use Rattle.std.specs.Option.{option_copied};
 ghost use Rattle.nmc_base.specs.Expiry.{is_expired};
 ghost use Rattle.nmc_base.specs.Heights.{highest};
+ghost use Rattle.chain_names.specs.Coins as coins;
 ghost use Rattle.chain_names.specs.Fits.{with_restored};
 ghost use Rattle.chain_names.specs.Seen.{seen_undo};
 ghost use Rattle.states_below.specs.StepTests as tests;
 ghost use Rattle.states_below.specs.StepTests.{Stepped};
+ghost use Rattle.states_below.specs.Tests.{is_item_at};
 ghost use Rattle.states_below.specs.Undoing.{maps_below};
 
 use crate::below::Below;
@@ -87,6 +89,13 @@ impl<'a> Below<'a> {
         }
     }
 
+    /// Whether the name's last item is of this height and outpoint.
+    fn is_last(&self, name: &[u8], made: u32, point: &OutPoint) -> bool
+        ensures { result ≡ is_item_at made point.now (coins.entry_of ((maps_below self.now).names name.now)) }
+    {
+        is_item_at(entry_of(self.names.history(name)), made, point)
+    }
+
     fn not_asked(&self, profile: Profile, tip: u32, point: &OutPoint, coin: &Coin) -> bool
         requires { tip ≤ highest }
         ensures { result ≡ tests.not_asked_coin profile tip (maps_below self.now) point.now coin.now }
@@ -95,11 +104,7 @@ impl<'a> Below<'a> {
             Coin::New { .. } => true,
             Coin::Named { name, height } => {
                 *height == tip
-                    || !is_item_at(
-                        entry_of(self.names.history(name.as_slice())),
-                        *height,
-                        point,
-                    )
+                    || !self.is_last(name.as_slice(), *height, point)
                     || expired(profile, *height, tip + 1)
             }
         }
@@ -154,12 +159,7 @@ impl<'a> Below<'a> {
             None => true,
             Some(Coin::New { .. }) => true,
             Some(Coin::Named { name, height }) => {
-                !expired(profile, *height, tip)
-                    && is_item_at(
-                        entry_of(self.names.history(name.as_slice())),
-                        *height,
-                        point,
-                    )
+                !expired(profile, *height, tip) && self.is_last(name.as_slice(), *height, point)
             }
         }
     }
