@@ -24,7 +24,8 @@ impl<'a> Below<'a> {
     /// The state of the tables themselves.
     pub(crate) fn new(alloc: Global, coins: &'a Coins, names: &'a Table) -> Below<'a>
         ensures maps { maps_below result ≡ record { coins = coins_in coins.entry.now; names = names_in names.entry.now } }
-        ensures table { result.coins.under ≡ coins.entry }
+        ensures coins { result.coins.under ≡ coins.entry }
+        ensures names { result.names.under ≡ names.entry }
     {
         Below {
             coins: CoinsBelow::new(alloc, coins),

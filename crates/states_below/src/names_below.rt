@@ -45,7 +45,8 @@ fn front_of<'a>(items: &'a [Item], count: usize) -> &'a [Item]
 impl<'a> NamesBelow<'a> {
     /// The histories of the table itself.
     pub(crate) fn new(alloc: Global, names: &'a Table) -> NamesBelow<'a>
-        ensures { names_below result ≡ names_in names.entry.now }
+        ensures names { names_below result ≡ names_in names.entry.now }
+        ensures table { result.under ≡ names.entry }
     {
         NamesBelow {
             under: names,

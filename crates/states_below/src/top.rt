@@ -7,14 +7,12 @@ ghost use Rattle.states_below.specs.Scan.{TellsWhether};
 ghost use Rattle.states_below.specs.Top as tests;
 ghost use Rattle.states_below.specs.Top.{IsMeasuredState};
 ghost use Rattle.states_below.specs.Undoing.{maps_below};
+ghost use Rattle.states_below.specs.Views.{coins_below, names_below};
 
 use crate::below::Below;
 use crate::scan::coins_pass;
 use chain_names::Item;
-use name_coins::Coins;
-use name_table::Table;
 use nmc_base::{NoMemory, Profile, Steps};
-use std::alloc::Global;
 use std::marker::Brand;
 use std::sync::ledger::{Blank, Ledger};
 
@@ -69,24 +67,25 @@ impl<'a> Below<'a> {
         // So many names aren't in any memory.
         Err(NoMemory)
     }
-}
 
-/// Whether the tables are a state at the tip.
-pub(crate) fn is_state(
-    alloc: Global,
-    profile: Profile,
-    tip: u32,
-    coins: &Coins,
-    names: &Table,
-) -> Result<bool, NoMemory>
-    requires low { tip ≤ highest }
-    requires filled { AreCoinsFilled coins.now }
-    requires measured { IsMeasuredState (record { coins = coins_in coins.now; names = names_in names.now }) }
-    ensures { TellsWhether (IsState profile tip (record { coins = coins_in coins.now; names = names_in names.now })) result }
-{
-    if !coins_pass::<Brand>(profile, tip, coins, names, Blank::new(1))? {
-        return Ok(false);
+    /// Whether the tables are a state at the tip.
+    pub(crate) fn is_state(&self, profile: Profile, tip: u32) -> Result<bool, NoMemory>
+        requires low { tip ≤ highest }
+        requires filled { AreCoinsFilled self.now.coins.under.now }
+        requires coins { coins_below self.now.coins ≡ coins_in self.now.coins.under.now }
+        requires names { names_below self.now.names ≡ names_in self.now.names.under.now }
+        requires measured { IsMeasuredState (maps_below self.now) }
+        ensures { TellsWhether (IsState profile tip (maps_below self.now)) result }
+    {
+        if !coins_pass::<Brand>(
+            profile,
+            tip,
+            self.coins.under,
+            self.names.under,
+            Blank::new(1),
+        )? {
+            return Ok(false);
+        }
+        self.names_at_top::<Brand>(profile, tip, Blank::new(1))
     }
-    let view = Below::new(alloc, coins, names);
-    view.names_at_top::<Brand>(profile, tip, Blank::new(1))
 }
