@@ -94,12 +94,7 @@ fn read_profile(word: &[u8]) -> Option<Profile>
 }
 
 /// The base of these texts, and the name of its host.
-fn read_fields(
-    profile: &[u8],
-    height: &[u8],
-    hash: &[u8],
-    host: &[u8],
-) -> Option<(Base, Name)>
+fn read_fields(profile: &[u8], height: &[u8], hash: &[u8], host: &[u8]) -> Option<(Base, Name)>
     ensures found { IfSome result (λ made. AreFields profile.now height.now hash.now host.now made.0 made.1) }
     ensures one { (base : Base) (name : List ℕ) → AreFields profile.now height.now hash.now host.now base name → result ≡ Some (base, name) }
 {

@@ -11,15 +11,15 @@ use Rattle.nmc_base.specs.declared.chain_ends.Tip.{Tip}
 use Rattle.chain_names.specs.declared.undo.UndoOp.{UndoOp}
 use Rattle.chain_names.specs.Expired.{IsDue}
 use Rattle.block_grammar.specs.Block.{count_outputs, Block}
+use Rattle.chain_names.specs.Limits.{IsWithinLimits}
 use Rattle.chain_names.specs.Sound.{IsSound}
+use Rattle.chain_names.specs.Undo.{UndoRecord}
+use Rattle.nmc_base.specs.declared.chain_ends.Profile.{Profile}
 use Rattle.chain_names.specs.State.{IsState, Stands}
 use Rattle.chain_names.proofs.SoundLemmas.{block_sound, sound_state}
 use Rattle.chain_names.proofs.StartLemmas.{base_sound}
 use Rattle.chain_names.proofs.StandLemmas.{state_stands, stands-higher}
-use Rattle.chain_names.specs.Writable.{IsWritable}
 use Rattle.chain_names.specs.Fits.{AreUndoable}
-use Rattle.chain_names.specs.Measured.{AreMeasured}
-use Rattle.chain_state.proofs.MeasureLemmas.{block_writable}
 use Rattle.chain_names.specs.Seen.{seen_undo}
 use Rattle.chain_names.specs.UndoOf.{IsUndoByMaps}
 use Rattle.chain_names.specs.declared.undo.Undo.{Undo}
@@ -29,7 +29,7 @@ use Rattle.block_grammar.specs.Merkle.{block_root}
 use Rattle.block_grammar.specs.Header.{header_hash}
 use Rattle.nmc_base.specs.declared.hashes.Hash32.{Hash32}
 use Rattle.chain_names.specs.Log.{behind_coinbase}
-use Rattle.chain_names.specs.Changes.{Refused as RefusedBy, without_expired, back_ops, undo_ops, after_all, after_block, first_refused}
+use Rattle.chain_names.specs.Changes.{Refused as RefusedBy, undone, without_expired, back_ops, undo_ops, after_all, after_block, first_refused}
 use Rattle.chain_names.specs.Tables.{AreCoinsFilled, AreNamesFilled, IsQueueFilled, coins_in, coin_places, names_in, queued_in, queue_places, queue_of, FilledBut}
 use Rattle.name_tables.specs.Tables.{AreFilled}
 use Rattle.name_tables.specs.Tables.{maps_by}
@@ -64,6 +64,11 @@ few_each (t ∷ ts) few = (omega (arith, few), few_each ts (omega (arith, few)))
 pub indexed_state : (c : Indexed) → IsIndexed c → IsState c.base.profile c.tip.height (maps_by c.tables)
 indexed_state c indexed = sound_state c.base.profile c.base.height c.tip.height (maps_by c.tables) c.undos indexed.sound
 
+-- each record of a sound state is within its limits
+pub sound_limits : (profile : Profile) (base tip : ℕ) (maps : Maps) (undos : List UndoRecord) → IsSound profile base tip maps undos → AllByRecursion IsWithinLimits undos
+sound_limits profile base tip maps [] sound = tt
+sound_limits profile base tip maps (u ∷ undos) sound = (sound.1.limits, sound_limits profile base sound.0 (undone u.ops u.expired maps) undos sound.2)
+
 -- ---- the same index again
 
 module _ (c : Indexed) (indexed : IsIndexed c) (tables : Tables) (undos : Roomy Undo) (same_undos : newest_first undos.items ≡ c.undos) (same : maps_by tables ≡ maps_by c.tables) where
@@ -74,7 +79,6 @@ module _ (c : Indexed) (indexed : IsIndexed c) (tables : Tables) (undos : Roomy 
     filled = filled;
     sound = subst (λ us. IsSound c.base.profile c.base.height c.tip.height (maps_by tables) us) (sym same_undos)
         (subst (λ m. IsSound c.base.profile c.base.height c.tip.height m c.undos) (sym same) indexed.sound);
-    writable = subst (AllByRecursion IsWritable) (sym same_undos) indexed.writable;
   }
 
   pub returned_same : queued_in tables.queue ≡ queue_of (coins_in tables.coins) → SameIndex (index_of c.base c.tip tables undos) c
@@ -109,7 +113,6 @@ module _ (base : Base) (tip : Tip) (hash : Hash32) (whole : Whole) (undos : Room
       sound = subst (λ us. IsSound base.profile base.height (tip.height + 1) (maps_by c.tables) us) (sym undo_added)
           (subst (λ n. IsSound base.profile base.height n (maps_by c.tables) (staged_undo hash whole ∷ newest_first undos.items)) (next_is tip.height)
           (subst (λ m. IsSound base.profile base.height (suc tip.height) m (staged_undo hash whole ∷ newest_first undos.items)) (sym commits.maps) staged.sound_after));
-      writable = subst (AllByRecursion IsWritable) (sym undo_added) staged.writable;
     }
 
     pub connected : IsConnected (staged_of base tip hash whole undos) (index_of base (record { height = tip.height + 1; hash = hash }) c.tables more)
@@ -129,7 +132,6 @@ module _ (base : Base) (tip : Tip) (hash : Hash32) (whole : Whole) (undos : Room
     queue = queue;
     filled = filled;
     sound = subst (λ m. IsSound base.profile base.height tip.height m (newest_first undos.items)) (sym before) staged.sound_before;
-    writable = staged.writable.1;
   }
 
 -- ---- staging
@@ -256,11 +258,8 @@ module _ (c : Indexed) (w : Work) (ts : List Transaction) (whole : Whole) (undos
       (block_sound c.base.profile c.base.height c.tip.height ts maps (staged_undo hash whole) c.undos d.begun.indexed.sound
       (record { low = d.begun.low; few = few; index = 1; unrefused = unrefused }) (undoes hash)))
 
-  tip_low : suc c.tip.height < 2 ^ 32
-  tip_low = omega (arith, d.begun.low)
-
-  pub staged_index : (hash : Hash32) → AreMeasured maps → count_outputs ts < 2 ^ 32 → length hash.0 ≡ 32 → IsStagedIndex (staged_of c.base c.tip hash whole undos)
-  staged_index hash measured few hash_length = record {
+  pub staged_index : (hash : Hash32) → count_outputs ts < 2 ^ 32 → IsStagedIndex (staged_of c.base c.tip hash whole undos)
+  staged_index hash few = record {
     height = d.begun.low;
     tip_hash = d.begun.indexed.hash ∙ sym (ap (newest_hash c.base) d.same_undos);
     work_height = d.finishes.height ∙ done_height;
@@ -268,10 +267,6 @@ module _ (c : Indexed) (w : Work) (ts : List Transaction) (whole : Whole) (undos
     sound_before = subst (λ us. IsSound c.base.profile c.base.height c.tip.height (maps_before_block whole) us) (sym d.same_undos)
         (subst (λ m. IsSound c.base.profile c.base.height c.tip.height m c.undos) (sym (d.finishes.before ∙ done_before)) d.begun.indexed.sound);
     sound_after = grown hash few;
-    writable = (
-      block_writable c.base.profile (suc c.tip.height) ts maps (staged_undo hash whole) (record { low = tip_low; few = few_each ts few; measured = measured }) hash_length (grown hash few).1.limits (undoes hash),
-      subst (AllByRecursion IsWritable) (sym d.same_undos) d.begun.indexed.writable,
-    );
   }
 
   pub staged_on : (hash : Hash32) (block : Block) → IsBlockOf c ts block hash → IsStagedOn c block (staged_of c.base c.tip hash whole undos)
@@ -304,7 +299,6 @@ begun_index base c low coins names queue undos none = record {
     names = subst AreNamesFilled (sym names) (λ name. refl);
     queue = subst IsQueueFilled (sym queue) (λ height point. refl);
   };
-  writable = subst (λ us. AllByRecursion IsWritable (newest_first us)) (sym none) tt;
 }
 
 pub begun_maps : (base : Base) (c : Tables) → c.coins ≡ [] → c.names ≡ [] → maps_by c ≡ maps_of base.profile [] (suc base.height)

@@ -33,7 +33,6 @@ use Rattle.name_tables.specs.Expiring.{CanReturn}
 use Rattle.name_tables.specs.Room.{IsPlaced, HasRoom}
 use Rattle.chain_state.specs.Chain.{Indexed, IsIndexed, SameIndex, index_of, newest_hash}
 use Rattle.name_tables.specs.Parts.{newest_first}
-use Rattle.chain_names.specs.Writable.{IsWritable}
 use Rattle.chain_state.specs.Back.{block_work, IsStagedBack}
 use Rattle.chain_state.specs.StageBack.{IsBackRefusal, IsDisconnected, newest_work, back_commit_steps}
 use Rattle.chain_state.specs.declared.back.BackRefusal.TheVariants.{AtBase, NotTip}
@@ -182,7 +181,6 @@ module _ (c : Indexed) (indexed : IsIndexed c) (undo : UndoRecord) (below : List
         (subst (λ os. IsWhole (block_work tables (record { items = os; spare = ops.spare }) (record { items = undo.expired; spare = expired.spare }) empty c.tip.height)) (sym ops_are) (work_back ops expired));
     hash = indexed.hash ∙ ap (newest_hash c.base) undos_are;
     sound = subst (λ m. IsSound profile c.base.height c.tip.height m (undo ∷ below)) (sym maps_same) sound_here;
-    writable = subst (AllByRecursion IsWritable) undos_are indexed.writable;
   }
 
 -- the tables hold the same as those that were given
@@ -236,7 +234,6 @@ module _ (base : Base) (tip : Tip) (tables : Tables) (undos : Roomy Undo) (empty
     filled = filled;
     sound = subst (IsSound base.profile base.height tip.height (maps_by after)) (sym staged.undos_are)
         (subst (λ m. IsSound base.profile base.height tip.height m (staged.undo ∷ staged.below)) (sym same) staged.sound);
-    writable = subst (AllByRecursion IsWritable) (sym staged.undos_are) staged.writable;
   }
 
 -- what the commit of a disconnect leaves
@@ -266,16 +263,12 @@ module _ (base : Base) (tip : Tip) (tables : Tables) (undos : Roomy Undo) (after
       subst (λ n. IsSound base.profile base.height n (maps_by after) (newest_first rest.items)) (sym height_is)
       (subst (λ m. IsSound base.profile base.height were_sound.0 m (newest_first rest.items)) (sym u.maps) were_sound.2)
 
-  writable_was : AllByRecursion IsWritable (seen_undo u.undo ∷ newest_first rest.items)
-  writable_was = subst (AllByRecursion IsWritable) (sym (newest_was base tip tables undos u.empty u.staged u.undo rest.items u.were)) u.staged.writable
-
   pub disconnected_index : IsIndexed (index_of base shorter after rest)
   disconnected_index = record {
     hash = u.hash_is;
     queue = u.queue;
     filled = u.filled;
     sound = sound_now;
-    writable = writable_was.1;
   }
 
   pub disconnected : IsDisconnected (index_of base tip tables undos) (index_of base shorter after rest)

@@ -10,7 +10,6 @@ pub mod PlaceLemmas
 pub mod CostLemmas
 pub mod WholeLemmas
 pub mod ClearLemmas
-pub mod MeasureLemmas
 pub mod WorkedLemmas
 pub mod ChainLemmas
 pub mod DisconnectLemmas

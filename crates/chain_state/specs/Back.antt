@@ -1,6 +1,5 @@
 -- Disconnecting the newest block of a chain.
 use Rattle.std.specs.Prelude.{◌≡◌, ℕ, List, ◌∷◌}
-use Rattle.std.specs.List.{AllByRecursion}
 use Rattle.nmc_base.specs.Roomy.{Roomy}
 use Rattle.nmc_base.specs.declared.chain_ends.Base.{Base}
 use Rattle.nmc_base.specs.declared.chain_ends.Tip.{Tip}
@@ -10,7 +9,6 @@ use Rattle.chain_names.specs.declared.undo.UndoOp.{UndoOp}
 use Rattle.chain_names.specs.Undo.{UndoRecord}
 use Rattle.chain_names.specs.Sound.{IsSound}
 use Rattle.chain_names.specs.declared.undo.Undo.{Undo}
-use Rattle.chain_names.specs.Writable.{IsWritable}
 use Rattle.name_tables.specs.Tables.{maps_by}
 use Rattle.chain_state.specs.Whole.{IsWhole}
 use Rattle.chain_state.specs.Chain.{index_of, newest_hash}
@@ -30,4 +28,3 @@ pub record IsStagedBack (base : Base) (tip : Tip) (tables : Tables) (undos : Roo
       → IsWhole (block_work tables ops expired empty tip.height)
   pub hash : tip.hash ≡ newest_hash base (undo ∷ below)
   pub sound : IsSound base.profile base.height tip.height (maps_by tables) (undo ∷ below)
-  pub writable : AllByRecursion IsWritable (undo ∷ below)

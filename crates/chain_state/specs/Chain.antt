@@ -14,11 +14,9 @@ use Rattle.chain_names.specs.Changes.{Refused, first_refused, after_block}
 use Rattle.chain_names.specs.Tables.{coins_in, queued_in, queue_of}
 use Rattle.chain_names.specs.Undo.{UndoRecord}
 use Rattle.chain_names.specs.UndoOf.{IsUndoByMaps}
-use Rattle.std.specs.List.{AllByRecursion}
 use Rattle.chain_names.specs.Sound.{IsBeginning, IsSound}
 use Rattle.name_tables.specs.declared.parts.Parts.{Parts}
 use Rattle.chain_names.specs.declared.undo.Undo.{Undo}
-use Rattle.chain_names.specs.Writable.{IsWritable}
 use Rattle.name_tables.specs.Parts.{newest_first, tables_of}
 use Rattle.name_tables.specs.Tables.{AreFilled}
 use Rattle.name_tables.specs.Tables.{maps_by}
@@ -53,14 +51,13 @@ newest_hash base (undo ∷ undos) = undo.block
 abbrev pub kept_tip : Base → Parts → Tip
 kept_tip base parts = record { height = base.height + length parts.undos.items; hash = newest_hash base (newest_first parts.undos.items) }
 
--- A sound index: the tip is that of its newest record, the queue is that of the coins, each place holds something, coins,
--- histories and records are sound with the base, and each record can be written.
+-- A sound index: the tip is that of its newest record, the queue is that of the coins, each place holds something, and
+-- coins, histories and records are sound with the base.
 pub record IsIndexed (c : Indexed) : Type 0 where
   pub hash : c.tip.hash ≡ newest_hash c.base c.undos
   pub queue : queued_in c.tables.queue ≡ queue_of (coins_in c.tables.coins)
   pub filled : AreFilled c.tables
   pub sound : IsSound c.base.profile c.base.height c.tip.height (maps_by c.tables) c.undos
-  pub writable : AllByRecursion IsWritable c.undos
 
 -- the same index: base, tip, the maps of coins, names and queue, and what undoes the blocks
 pub record SameIndex (a b : Indexed) : Type 0 where
@@ -108,7 +105,6 @@ pub record IsStagedIndex (s : StagedIndex) : Type 0 where
   pub whole : IsWhole s.whole
   pub sound_before : IsSound s.base.profile s.base.height s.tip.height (maps_before_block s.whole) s.undos
   pub sound_after : IsSound s.base.profile s.base.height (suc s.tip.height) (maps_by s.whole.work.tables) (staged_undo s.hash s.whole ∷ s.undos)
-  pub writable : AllByRecursion IsWritable (staged_undo s.hash s.whole ∷ s.undos)
 
 -- ---- what staging a block answers
 

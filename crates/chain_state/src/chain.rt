@@ -5,9 +5,9 @@ ghost use Rattle.block_grammar.specs.Block.{Block};
 ghost use Rattle.chain_state.specs.Chain.{Indexed, IsAtBase, indexed_of, kept_tip, IsIndexed, SameIndex, IsStagedOn, IsConnected, IsAbandoned, ArePartsOf, index_of};
 ghost use Rattle.name_tables.specs.Parts.{newest_first, tables_of};
 ghost use Rattle.std.specs.List.{AllByRecursion};
+ghost use Rattle.chain_names.specs.Limits.{IsWithinLimits};
 ghost use Rattle.chain_names.specs.Sound.{IsSound};
 ghost use Rattle.chain_names.specs.Tables.{coins_in, queued_in, queue_of};
-ghost use Rattle.chain_names.specs.Writable.{IsWritable};
 ghost use Rattle.name_tables.specs.Tables.{maps_by};
 ghost use Rattle.chain_state.specs.Stage.{abandon_steps, commit_steps};
 
@@ -80,7 +80,6 @@ impl Chain {
         requires queue { queued_in parts.queue ≡ queue_of (coins_in parts.coins) }
         requires filled { AreFilled (tables_of parts) }
         requires sound { IsSound base.profile base.height (kept_tip base parts).height (maps_by (tables_of parts)) (newest_first parts.undos.items) }
-        requires writable { AllByRecursion IsWritable (newest_first parts.undos.items) }
         ensures { result ≡ indexed_of base (kept_tip base parts) parts }
     {
         let tip = Tip {
@@ -118,8 +117,10 @@ impl Chain {
     pub fn parts(&self) -> &Parts
         ensures parts { ArePartsOf self.now result.now }
         ensures filled { AreFilled (tables_of result.now) }
-        // They are sound with the base, the queue is that of the coins, and each undo record can be written.
+        // They are sound with the base, and the queue is that of the coins.
         ensures sound { IsIndexed self.now }
+        // Each undo record can be written.
+        ensures limits { AllByRecursion IsWithinLimits (newest_first result.now.undos.items) }
     {
         &self.parts
     }

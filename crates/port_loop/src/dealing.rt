@@ -7,7 +7,7 @@ ghost use Rattle.port_loop.specs.Attending.{AnswersPiece, AnswersPoll};
 
 use crate::answering::answer;
 use crate::polling::{PollRoom, feed_front};
-use crate::sending::{Destination, ToFeed, drop_feed};
+use crate::sending::{Destination, ToFeed, drop_feed, forget_feed};
 use byte_io::{Polled, Port};
 use feed_frames::{Frame, Frames};
 use frame_loop::{Answerer, Halted, Over, QUERY, ReplyBuf, answer_all};
@@ -104,7 +104,7 @@ pub(crate) fn answer_poll<W, T: Answerer<W>, P: Port, L: Ledger>(
             answer_piece(alloc, answerer, world, frames, reply, port, steps)
         }
         Polled::FeedEnd => {
-            frames.reset();
+            forget_feed(frames);
             Ok(())
         }
         Polled::Nothing => Ok(()),

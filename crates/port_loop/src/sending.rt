@@ -74,6 +74,13 @@ impl<P: Port> Outlet<P> for ToFeed {
     }
 }
 
+/// Forgets what the feed has brought: no part of a frame is left.
+pub(crate) fn forget_feed(frames: &mut Frames)
+    ensures { frames.new ≡ fresh_feed frames.old.kinds }
+{
+    frames.reset();
+}
+
 /// Closes the feed, and forgets what it has brought.
 pub(crate) fn drop_feed<P: Port>(frames: &mut Frames, port: &mut P)
     requires { IsBound (P.seen port.old) }
@@ -81,5 +88,5 @@ pub(crate) fn drop_feed<P: Port>(frames: &mut Frames, port: &mut P)
     ensures forgotten { frames.new ≡ fresh_feed frames.old.kinds }
 {
     port.close_feed();
-    frames.reset();
+    forget_feed(frames);
 }

@@ -1,6 +1,6 @@
 ghost use Rattle.std.specs.Prelude.{IfOk};
 ghost use Rattle.chain_names.specs.Seen.{seen_undo};
-ghost use Rattle.chain_names.specs.Writable.{IsWritable};
+ghost use Rattle.chain_names.specs.Limits.{IsWithinLimits};
 
 use crate::comparing::same;
 use nmc_base::{Bytes, NoMemory};
@@ -79,7 +79,7 @@ fn text(alloc: Global, version: Version) -> Result<Bytes, NoMemory> {
 
 /// What a text of this version is read as, with its length.
 fn read_as(alloc: Global, version: Version, text: &[u8]) -> Result<(Undo, usize), UndoFault>
-    ensures { IfOk result (λ x. IsWritable (seen_undo x.0)) }
+    ensures { IfOk result (λ x. IsWithinLimits (seen_undo x.0)) }
 {
     match version {
         Version::One => {

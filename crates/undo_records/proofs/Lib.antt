@@ -8,3 +8,4 @@ pub mod CoinLaws
 pub mod RecordLaws
 pub mod ToldLaws
 pub mod ReadAnswers
+pub mod WidthLaws

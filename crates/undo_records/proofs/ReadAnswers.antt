@@ -12,6 +12,7 @@ use Rattle.undo_records.specs.declared.fault.UndoFault.TheVariants.{Cut, BadTag,
 use Rattle.undo_records.specs.declared.version.Version.{Version}
 use Rattle.undo_records.specs.Versions.{told}
 use Rattle.undo_records.specs.Text.{undo_text}
+use Rattle.chain_names.specs.Limits.{IsWithinLimits}
 use Rattle.chain_names.specs.Writable.{IsWritable}
 use Rattle.undo_records.specs.Reading.{undo_from}
 use Rattle.undo_records.specs.Faults.{HasFault, BeginsWith}
@@ -20,6 +21,7 @@ use Rattle.undo_records.proofs.Laws.{Spot, ended}
 use Rattle.undo_records.proofs.Choices.{no_cut}
 use Rattle.undo_records.proofs.RecordLaws.{kinds_apart, undo_core, UndoFlaw, bad_tag as tag_flaw, out_of_order, tag_cause, unsorted_cause, cut_cause, front_cut}
 use Rattle.undo_records.proofs.ToldLaws.{told_again}
+use Rattle.undo_records.proofs.WidthLaws.{writable_within}
 
 -- what stands behind a front
 pub behind_front : (bytes front rest : List ℕ) → bytes ≡ front ++ rest → (length rest ≤ length bytes) × (rest ≡ drop (length bytes - length rest) bytes)
@@ -97,6 +99,11 @@ module _ {X : Type 0} (view : X → UndoRecord) (version : Version) (bytes : Lis
       let len : length bytes ≡ length (undo_text version (view x.0)) + length (drop x.1 bytes) = ap length t.parts ∙ length-append (undo_text version (view x.0)) (drop x.1 bytes) in
       record { writable = t.fits.0; told = t.fits.1; text = t.parts; length_is = omega (arith, len, g.1, length-drop x.1 bytes) }
   begins (Err fault) g = tt
+
+  -- it can be written
+  pub within : (r : Result (X × ℕ) UndoFault) → GivesUndo view version bytes r → IfOk r (λ x. IsWithinLimits (view x.0))
+  within (Ok x) g = writable_within (view x.0) ((undo_core version).takes bytes (view x.0, drop x.1 bytes) fits g.0).fits.0
+  within (Err fault) g = tt
 
   -- what is wrong
   pub cause : (r : Result (X × ℕ) UndoFault) → GivesUndo view version bytes r → IfErr r (IsCausedBy (HasFault version bytes))

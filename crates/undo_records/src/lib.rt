@@ -16,6 +16,7 @@ pub mod owned;
 mod reading;
 pub mod text;
 mod version;
+pub mod widths;
 mod writing;
 
 pub use chain_names::{Coin, HeldCoin, Item, Undo, UndoOp};

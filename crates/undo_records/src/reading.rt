@@ -1,6 +1,7 @@
 ghost use Rattle.std.specs.Prelude.{◌≡◌, ◌++◌, List, ℕ, length, IfOk, IfErr};
 ghost use Rattle.chain_names.specs.Undo.{UndoRecord};
 ghost use Rattle.chain_names.specs.Seen.{seen_undo};
+ghost use Rattle.chain_names.specs.Limits.{IsWithinLimits};
 ghost use Rattle.chain_names.specs.Writable.{IsWritable};
 ghost use Rattle.undo_records.specs.declared.version.Version.TheVariants.{One, Two};
 ghost use Rattle.undo_records.specs.Versions.{without_heights};
@@ -82,6 +83,7 @@ fn exactly_v1(alloc: Global, bytes: &[u8]) -> Result<(UndoV1, usize), UndoFault>
 pub fn read(alloc: Global, bytes: &[u8]) -> Result<(Undo, usize), UndoFault>
     // What is read stands at the front, and can be written.
     ensures read { IfOk result (λ x. BeginsWith Two bytes.now (seen_undo x.0) x.1) }
+    ensures within { IfOk result (λ x. IsWithinLimits (seen_undo x.0)) }
     // What can be written and stands at the front is read.
     ensures only { (undo : UndoRecord) (more : List ℕ) → IsWritable undo → bytes.now ≡ undo_text Two undo ++ more → AnswersUndo seen_undo undo (length (undo_text Two undo)) result }
     // Each fault has its cause, and each cause its fault.
@@ -96,8 +98,9 @@ pub fn read(alloc: Global, bytes: &[u8]) -> Result<(Undo, usize), UndoFault>
 /// The same of a text of version 1, in which items have no registration height. Each registration height of the record's
 /// field is 0.
 pub fn read_v1(alloc: Global, bytes: &[u8]) -> Result<(UndoV1, usize), UndoFault>
-    // What is read stands at the front, and each of its registration heights is 0.
+    // What is read stands at the front, each of its registration heights is 0, and it can be written.
     ensures read { IfOk result (λ x. BeginsWith One bytes.now (seen_v1 x.0) x.1) }
+    ensures within { IfOk result (λ x. IsWithinLimits (seen_v1 x.0)) }
     // What can be written and stands at the front is read, without its registration heights.
     ensures only { (undo : UndoRecord) (more : List ℕ) → IsWritable undo → bytes.now ≡ undo_text One undo ++ more → AnswersUndo seen_v1 (without_heights undo) (length (undo_text One undo)) result }
     // Each fault has its cause, and each cause its fault.

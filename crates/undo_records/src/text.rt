@@ -4,7 +4,8 @@ ghost use Rattle.std.specs.Prelude.{◌≡◌, ◌++◌, ◌<◌, ◌≤◌, ◌
 ghost use Rattle.std.specs.List.{flat_map, AllByRecursion};
 ghost use Rattle.std.specs.Int.{w16, w32, to_le_bytes};
 ghost use Rattle.nmc_base.specs.declared.limits.TheConstants.{LONGEST_VALUE};
-ghost use Rattle.chain_names.specs.Writable.{change_of, IsWritableName, HasShortName, IsWritableItem, IsWritableBefore, IsWritableOp, IsWritableHeld};
+ghost use Rattle.chain_names.specs.Limits.{IsShortBefore, IsWithinLimitsOp, HoldsName};
+ghost use Rattle.chain_names.specs.Writable.{change_of, IsWritableName, HasShortName};
 ghost use Rattle.undo_records.specs.declared.version.Version.TheVariants.{Two};
 ghost use Rattle.undo_records.specs.Text.{point_text, name_text, coin_text, item_text, before_text, change_text, op_text, held_text};
 
@@ -71,7 +72,7 @@ fn add_value(out: &mut Bytes, value: &[u8]) -> Result<(), NoMemory>
 /// An item of a history, with its registration height.
 #[tactic(auto, unfolding(crate::specs::Text::item_text))]
 pub fn add_item(out: &mut Bytes, item: &Item) -> Result<(), NoMemory>
-    requires { IsWritableItem item.now }
+    requires { length item.now.value ≤ LONGEST_VALUE }
     ensures { OnOk result (out.new ≡ out.old ++ item_text Two item.now) }
 {
     add_u32(out, item.height)?;
@@ -83,7 +84,7 @@ pub fn add_item(out: &mut Bytes, item: &Item) -> Result<(), NoMemory>
 /// The item before, if there was one.
 #[tactic(auto, unfolding(crate::specs::Text::before_text))]
 fn add_before(out: &mut Bytes, before: &Option<Item>) -> Result<(), NoMemory>
-    requires { IsWritableBefore before.now }
+    requires { IsShortBefore before.now }
     ensures { OnOk result (out.new ≡ out.old ++ before_text Two before.now) }
 {
     match before {
@@ -108,7 +109,7 @@ fn add_change(
 ) -> Result<(), NoMemory>
     requires coin { HasShortName coin.now }
     requires name { IsWritableName name.now }
-    requires before { IsWritableBefore before.now }
+    requires before { IsShortBefore before.now }
     ensures { OnOk result (out.new ≡ out.old ++ tag ∷ change_text Two (change_of made.now spent.now coin.now name.now before.now)) }
 {
     out.extend(&[tag])?;
@@ -121,7 +122,7 @@ fn add_change(
 
 #[tactic(auto, unfolding(crate::specs::Text::op_text))]
 fn add_op(out: &mut Bytes, op: &UndoOp) -> Result<(), NoMemory>
-    requires { IsWritableOp op.now }
+    requires { IsWithinLimitsOp op.now }
     ensures { OnOk result (out.new ≡ out.old ++ op_text Two op.now) }
 {
     match op {
@@ -147,7 +148,7 @@ fn add_op(out: &mut Bytes, op: &UndoOp) -> Result<(), NoMemory>
 }
 
 pub(crate) fn add_ops(out: &mut Bytes, ops: &[UndoOp]) -> Result<(), NoMemory>
-    requires { AllByRecursion IsWritableOp ops.now }
+    requires { AllByRecursion IsWithinLimitsOp ops.now }
     ensures { OnOk result (out.new ≡ out.old ++ flat_map (op_text Two) ops.now) }
 {
     let mut rest = ops;
@@ -169,7 +170,7 @@ pub fn add_held(out: &mut Bytes, held: &HeldCoin) -> Result<(), NoMemory>
 }
 
 pub(crate) fn add_expired(out: &mut Bytes, expired: &[HeldCoin]) -> Result<(), NoMemory>
-    requires { AllByRecursion IsWritableHeld expired.now }
+    requires { AllByRecursion HoldsName expired.now }
     ensures { OnOk result (out.new ≡ out.old ++ flat_map held_text expired.now) }
 {
     let mut rest = expired;

@@ -22,7 +22,7 @@ pub(super) struct Held<'a> {
 impl<'a> NameView for Held<'a> {
     ghost maps = { λ v. record {
       coins = λ point. option_map seen_coin (lookup (same_point point) v.coins.now);
-      names = λ name. if bytes_eq name v.name.now then record { height = v.height; at = point_at [] 0; value = [] } ∷ [] else [];
+      names = λ name. if bytes_eq name v.name.now then record { height = v.height; registered = v.height; at = point_at [] 0; value = [] } ∷ [] else [];
     } };
 
     fn coin<L: Ledger>(&self, at: &OutPoint, steps: &mut Steps<L>) -> Option<CoinRef<'_>> {

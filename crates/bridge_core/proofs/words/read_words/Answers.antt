@@ -49,10 +49,10 @@ returns-in_ok-base-in-len5-clause-one c = λ asked is.
       host_at = c.host-item.is;
       long = c.in-len5.len_at_least;
     }) (Some (c.in_ok-base-in-len5.base, c.in_ok-base-in-len5.name)) (λ base name are. c.in_ok-base-in-len5.ensures.one base name (record {
-      profile_is = c.as_slice-in-len5.ensures ∙ are.profile_is;
-      height_is = subst (λ (t : List ℕ). IsHeight t base.height) (sym c.as_slice-in-len5-2.ensures) are.height_is;
-      hash_is = subst (λ (t : List ℕ). IsHash t base.hash.0) (sym c.as_slice-in-len5-3.ensures) are.hash_is;
-      host_is = subst (λ (t : List ℕ). IsHostOf t name) (sym c.as_slice-in-len5-4.ensures) are.host_is;
+      profile_is = c.as_slice-profile.ensures ∙ are.profile_is;
+      height_is = subst (λ (t : List ℕ). IsHeight t base.height) (sym c.as_slice-height.ensures) are.height_is;
+      hash_is = subst (λ (t : List ℕ). IsHash t base.hash.0) (sym c.as_slice-in-len5.ensures) are.hash_is;
+      host_is = subst (λ (t : List ℕ). IsHostOf t name) (sym c.as_slice-in-len5-2.ensures) are.host_is;
     })) asked (subst (λ (w : List (List ℕ)). Asks w asked) (sym c.as_slice.ensures) is)
 
 pub returns-in_err-base-in-len5-clause-one : goal.returns-in_err-base-in-len5-clause-one
@@ -68,8 +68,8 @@ returns-in_err-base-in-len5-clause-one c = λ asked is.
       host_at = c.host-item.is;
       long = c.in-len5.len_at_least;
     }) None (λ base name are. c.in_err-base-in-len5.ensures.one base name (record {
-      profile_is = c.as_slice-in-len5.ensures ∙ are.profile_is;
-      height_is = subst (λ (t : List ℕ). IsHeight t base.height) (sym c.as_slice-in-len5-2.ensures) are.height_is;
-      hash_is = subst (λ (t : List ℕ). IsHash t base.hash.0) (sym c.as_slice-in-len5-3.ensures) are.hash_is;
-      host_is = subst (λ (t : List ℕ). IsHostOf t name) (sym c.as_slice-in-len5-4.ensures) are.host_is;
+      profile_is = c.as_slice-profile.ensures ∙ are.profile_is;
+      height_is = subst (λ (t : List ℕ). IsHeight t base.height) (sym c.as_slice-height.ensures) are.height_is;
+      hash_is = subst (λ (t : List ℕ). IsHash t base.hash.0) (sym c.as_slice-in-len5.ensures) are.hash_is;
+      host_is = subst (λ (t : List ℕ). IsHostOf t name) (sym c.as_slice-in-len5-2.ensures) are.host_is;
     })) asked (subst (λ (w : List (List ℕ)). Asks w asked) (sym c.as_slice.ensures) is)

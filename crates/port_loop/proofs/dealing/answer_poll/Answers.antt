@@ -24,8 +24,8 @@ returns-in-Feed g c =
 
 pub returns-in-FeedEnd : goal.returns-in-FeedEnd
 returns-in-FeedEnd g c =
-    brings_end g.T.Answerer.ready g.T.Answerer.reached (desk (g.P.Port.seen c.args.port.now) c.args.buffers.now.frames (c.args.answerer.now, c.args.world.now)) (g.P.Port.seen c.poll.new.port) c.reset.new.self
-    c.in-FeedEnd.ensures c.reset.ensures c.requires.ready
+    brings_end g.T.Answerer.ready g.T.Answerer.reached (desk (g.P.Port.seen c.args.port.now) c.args.buffers.now.frames (c.args.answerer.now, c.args.world.now)) (g.P.Port.seen c.poll.new.port) c.forget_feed.new.frames
+    c.in-FeedEnd.ensures c.forget_feed.ensures c.requires.ready
 
 pub returns-in-Nothing : goal.returns-in-Nothing
 returns-in-Nothing g c =

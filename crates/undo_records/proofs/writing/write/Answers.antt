@@ -4,7 +4,7 @@ use Rattle.undo_records.proofs.ToldLaws.{told_again}
 use Rattle.undo_records.proofs.writing.write.Goals as goal
 
 pub returns-in_err-add_undo-clause-again : goal.returns-in_err-add_undo-clause-again
-returns-in_err-add_undo-clause-again c more = told_again Two (seen_undo c.args.undo.now) more c.requires
+returns-in_err-add_undo-clause-again c more = told_again Two (seen_undo c.args.undo.now) more c.read_widths.ensures
 
 pub returns-clause-again : goal.returns-clause-again
-returns-clause-again c more = told_again Two (seen_undo c.args.undo.now) more c.requires
+returns-clause-again c more = told_again Two (seen_undo c.args.undo.now) more c.read_widths.ensures

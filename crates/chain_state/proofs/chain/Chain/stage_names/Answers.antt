@@ -1,4 +1,4 @@
-use Rattle.std.proofs.Common.{◌≡◌, ◌<◌, ◌^◌, length, Some, refl, ap, sym, subst, ◌∙◌, arith}
+use Rattle.std.proofs.Common.{◌≡◌, ◌<◌, ◌^◌, Some, refl, ap, sym, subst, ◌∙◌, arith}
 use Rattle.nmc_base.specs.Roomy.{Roomy}
 use Rattle.nmc_base.specs.Heights.{highest}
 use Rattle.block_grammar.specs.Block.{count_outputs}
@@ -8,12 +8,8 @@ use Rattle.chain_names.proofs.OutputLemmas.{fewer_behind}
 use Rattle.chain_names.specs.declared.undo.Undo.{Undo}
 use Rattle.chain_state.specs.Chain.{rule_refused, Indexed, SameIndex, IsStagedOn, indexed_of, staged_of}
 use Rattle.name_tables.specs.Parts.{newest_first}
-use Rattle.chain_names.specs.Measured.{AreMeasured}
-use Rattle.name_tables.specs.Tables.{maps_by}
-use Rattle.name_tables.specs.declared.tables.Tables.{Tables}
 use Rattle.chain_state.proofs.ChainLemmas.{begun_ready, staged_index, staged_on, back_maps, refused_by, returned_index, returned_same, unused_index}
 use Rattle.chain_state.proofs.CostLemmas.{staged_cost}
-use Rattle.chain_state.proofs.MeasureLemmas.{length-header_hash}
 use Rattle.chain_state.proofs.chain.Chain.stage_names.Goals as goal
 
 pub joined-requires : goal.joined-requires
@@ -46,10 +42,8 @@ invariant_of-result g c =
             same_undos = ap newest_first (c.begin.ensures.undos ∙ ap (λ (l : Roomy Undo). l.items) c.split-tables.ensures.undos);
           })
           c.hash-hash.result
-          (subst (λ (t : Tables). AreMeasured (maps_by t)) c.split-tables.ensures.tables c.split-tables.ensures.measured)
           (subst (λ ts. count_outputs ts < 2 ^ 32) (sym (c.behind_coinbase-txs.ensures ∙ ap behind_coinbase c.txs.ensures.value))
-          (omega (arith, fewer_behind c.args.block.now.transactions, c.txs.ensures.few_outputs)))
-          (ap length (c.hash-hash.ensures ∙ ap header_hash c.header.ensures) ∙ length-header_hash _),
+          (omega (arith, fewer_behind c.args.block.now.transactions, c.txs.ensures.few_outputs))),
       c.in-Ok.ensures.room refl,
     )
 
