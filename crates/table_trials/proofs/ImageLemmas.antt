@@ -1,6 +1,7 @@
 -- The tables of an image stay within their limits, and its coins are few.
-use Rattle.std.proofs.Common.{◌≡◌, ℕ, suc, ◌+◌, ◌<◌, ◌≤◌, ◌^◌, Bool, true, false, cond, List, [], ◌∷◌, ◌++◌, length, Option, Some, is_some, refl, sym, ap, subst, ◌∙◌, arith, length-append}
+use Rattle.std.proofs.Common.{◌≡◌, ℕ, suc, ◌+◌, ◌<◌, ◌≤◌, ◌^◌, Bool, true, false, cond, List, [], ◌∷◌, ◌++◌, length, Option, Some, None, is_some, refl, sym, ap, subst, ◌∙◌, arith, length-append}
 use Rattle.std.specs.List.{AllByRecursion, list_any}
+use Rattle.std.specs.List.Sorted.{IsStrictlySortedBy}
 use Rattle.std.specs.Map.{lookup, keys_of}
 use Rattle.std.specs.Str.{bytes_eq}
 use Rattle.std.proofs.lemmas.Map.Entries.{length-keys_of}
@@ -12,7 +13,8 @@ use Rattle.chain_names.specs.declared.coin.Item.{Item}
 use Rattle.chain_names.specs.declared.undo.Undo.{Undo}
 use Rattle.chain_names.specs.declared.undo.UndoOp.{UndoOp}
 use Rattle.chain_names.specs.declared.undo.UndoOp.TheVariants.{New as undo_new, First as undo_first, Update as undo_update}
-use Rattle.chain_names.specs.Expired.{points_of}
+use Rattle.chain_names.specs.Expired.{IsSortedByPoint, points_of}
+use Rattle.chain_names.specs.Limits.{IsNameCoin, IsWithinLimitsOp, HoldsName}
 use Rattle.chain_names.specs.Points.{same_point, changed}
 use Rattle.chain_names.specs.Seen.{seen_undo}
 use Rattle.chain_names.specs.State.{FitsItem}
@@ -62,6 +64,32 @@ few_coins slots names undo few small =
       points = keys_of slots;
       all = placed slots;
       few =
-          omega (arith, length-keys_of slots, few, small.ops, small.expired, spent_few u.ops, expired_few u.expired, length-append (spent_points u.ops) (points_of u.expired),
-          length-append (points_put_back u) []);
+          omega (
+            arith,
+            length-keys_of slots,
+            few,
+            small.ops,
+            small.expired,
+            spent_few u.ops,
+            expired_few u.expired,
+            length-append (spent_points u.ops) (points_of u.expired),
+            length-append (points_put_back u) [],
+          );
+    }
+
+pub small : (undo : Undo) (op : UndoOp) (held : HeldCoin) → undo.ops.items ≡ op ∷ [] → undo.expired.items ≡ held ∷ [] → IsWithinLimitsOp op → IsNameCoin held.coin → IsSmallRecord undo
+unfolding IsStrictlySortedBy
+small undo op held ops expired fits named =
+    let one : length undo.ops.items ≡ 1 = ap (λ (os : List UndoOp). length os) ops in
+    let other : length undo.expired.items ≡ 1 = ap (λ (hs : List HeldCoin). length hs) expired in
+    record {
+      limits = record {
+        few_ops = omega (arith, one);
+        few_expired = omega (arith, other);
+        ops = subst (AllByRecursion IsWithinLimitsOp) (sym ops) (fits, tt);
+        expired = subst (AllByRecursion HoldsName) (sym expired) (named, tt);
+        sorted = subst IsSortedByPoint (sym expired) (tt, tt);
+      };
+      ops = omega (arith, one);
+      expired = omega (arith, other);
     }

@@ -123,8 +123,18 @@ fn histories<L: Ledger>(
 {
     let mut names = Table::new(alloc)?;
     push(&mut names, b"d/a", value(alloc, 90, image.began, 1)?, steps)?;
-    push(&mut names, b"d/a", value(alloc, 100, image.goes_on, 2)?, steps)?;
-    push(&mut names, b"d/b", value(alloc, image.left, image.left, 3)?, steps)?;
+    push(
+        &mut names,
+        b"d/a",
+        value(alloc, 100, image.goes_on, 2)?,
+        steps,
+    )?;
+    push(
+        &mut names,
+        b"d/b",
+        value(alloc, image.left, image.left, 3)?,
+        steps,
+    )?;
     Ok(names)
 }
 
@@ -136,10 +146,20 @@ fn coins_of<L: Ledger>(
     ensures { IfOk result (λ coins. AreCoinsFilled coins) }
 {
     let mut coins = Coins::new(alloc)?;
-    put(&mut coins, output(2, 0), named(alloc, b"d/a", image.made)?, steps)?;
+    put(
+        &mut coins,
+        output(2, 0),
+        named(alloc, b"d/a", image.made)?,
+        steps,
+    )?;
     if image.is_unspent {
         let hash = Hash20([7; 20]);
-        put(&mut coins, output(1, 0), Coin::New { hash, height: 50 }, steps)?;
+        put(
+            &mut coins,
+            output(1, 0),
+            Coin::New { hash, height: 50 },
+            steps,
+        )?;
     }
     Ok(coins)
 }
@@ -200,11 +220,11 @@ fn is_sound<L: Ledger>(alloc: Global, image: &Image, blank: Blank) -> Result<boo
     let coins = coins_of(alloc, image, &mut steps)?;
     let names = histories(alloc, image, &mut steps)?;
     let undos = [record_of(alloc, image)?];
-    if coins.item(4, &mut steps).is_some() {
+    match coins.item(4, &mut steps) {
         // There are two at most.
-        return Ok(false);
+        Some(_) => Ok(false),
+        None => is_image_sound(alloc, Profile::Regtest, 99, 100, &undos, &coins, &names),
     }
-    is_image_sound(alloc, Profile::Regtest, 99, 100, &undos, &coins, &names)
 }
 
 /// What is found of each image, as long as memory is left.
