@@ -1,5 +1,5 @@
 -- The tables of an image stay within their limits, and its coins are few.
-use Rattle.std.proofs.Common.{◌≡◌, ℕ, suc, ◌+◌, ◌<◌, ◌≤◌, ◌^◌, Bool, true, false, cond, List, [], ◌∷◌, ◌++◌, length, Option, Some, None, is_some, refl, sym, ap, subst, ◌∙◌, arith, length-append}
+use Rattle.std.proofs.Common.{◌≡◌, ℕ, ◌≤◌, Bool, true, false, cond, List, [], ◌∷◌, ◌++◌, length, Option, Some, None, is_some, refl, sym, ap, subst, ◌∙◌, arith, length-append}
 use Rattle.std.specs.List.{AllByRecursion, list_any}
 use Rattle.std.specs.List.Sorted.{IsStrictlySortedBy}
 use Rattle.std.specs.Map.{lookup, keys_of}
@@ -20,7 +20,7 @@ use Rattle.chain_names.specs.Seen.{seen_undo}
 use Rattle.chain_names.specs.State.{FitsItem}
 use Rattle.chain_names.specs.Tables.{CoinSlots, NameSlots, filled_by, coins_in, names_in}
 use Rattle.chain_names.proofs.Changed.{bytes_eq-true}
-use Rattle.sound_states.specs.Touched.{spent_points, points_put_back, points_below}
+use Rattle.sound_states.specs.Touched.{spent_points, points_put_back}
 use Rattle.sound_states.specs.Walk.{HasFewCoins}
 use Rattle.table_trials.specs.Images.{AreShort, IsSmallRecord}
 
