@@ -10,7 +10,21 @@ use std::process::Abort;
 use std::sync::ledger::{Blank, Ledger};
 use std::test::Fail;
 
-/// Gives the outpoint a place, and puts a coin of this height there.
+/// Gives the outpoint a place, and puts the coin there.
+pub(crate) fn put<L: Ledger>(
+    coins: &mut Coins,
+    at: OutPoint,
+    coin: Coin,
+    steps: &mut Steps<L>,
+) -> Result<(), NoMemory>
+    ensures { AreCoinsFilled coins.old → AreCoinsFilled coins.new }
+{
+    coins.place(at, steps)?;
+    coins.put(&at, coin, steps);
+    Ok(())
+}
+
+/// Puts a commitment of this height at the outpoint.
 fn commit_to<L: Ledger>(
     coins: &mut Coins,
     at: OutPoint,
@@ -20,9 +34,7 @@ fn commit_to<L: Ledger>(
     ensures { AreCoinsFilled coins.old → AreCoinsFilled coins.new }
 {
     let hash = Hash20([7; 20]);
-    coins.place(at, steps)?;
-    coins.put(&at, Coin::New { hash, height }, steps);
-    Ok(())
+    put(coins, at, Coin::New { hash, height }, steps)
 }
 
 fn commit_to_two<L: Ledger>(coins: &mut Coins, steps: &mut Steps<L>) -> Result<(), NoMemory>

@@ -1,4 +1,4 @@
-//! Trials of the tables of names and of what they are made of: coins, histories, the queue of what expires, verdicts, undo records.
+//! Trials of the tables of names and of what they are made of: coins, histories, the queue of what expires, verdicts, undo records, sound images.
 #![tactic(auto)]
 
 #[cfg(test)]
@@ -7,6 +7,8 @@ mod coins;
 mod comparing;
 #[cfg(test)]
 mod histories;
+#[cfg(test)]
+mod images;
 #[cfg(test)]
 mod outputs;
 #[cfg(test)]

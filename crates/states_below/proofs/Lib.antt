@@ -1,0 +1,10 @@
+mod OverLemmas
+mod TestLemmas
+mod RestoreLaws
+mod StepMeanings
+mod PassLemmas
+mod TellLemmas
+mod WalkingLemmas
+mod BottomLemmas
+mod DecideLemmas
+mod TopLemmas
