@@ -6,7 +6,7 @@ import subprocess
 import time
 
 from common import HERE, SECONDS, Run, free_port, pieces, program
-from model import NEW, Model, expired
+from model import NEW, PROFILES, Model
 
 from answers_model import reply_to, zone_of
 from blocks import CONNECT, block_of, coinbase, frame
@@ -134,7 +134,7 @@ def zone_after(model):
     for event in model.log:
         if event.operation and event.operation[0] != NEW:
             values[event.operation[1]] = (event.operation[-1], event.height)
-    return zone_of({name: value for name, (value, made) in values.items() if not expired(made, height)}, HOST, height)
+    return zone_of({name: value for name, (value, made) in values.items() if not PROFILES["regtest"].expired(made, height)}, HOST, height)
 
 
 class Story:

@@ -15,7 +15,7 @@ use Rattle.chain_names.specs.Sound.{IsAccepted, AreAccepted}
 use Rattle.chain_commands.specs.Chain.{Chain, height_of, with_block, without_newest}
 use Rattle.chain_commands.specs.Event.{Command, Connect, Disconnect}
 use Rattle.chain_commands.specs.Connecting.{BadBlock, HeightLimit, Rule, IsValid, refused_on}
-use Rattle.chain_commands.specs.Surviving.{is_done, stays, SurvivesCommand, Surviving, IsAllowedPayload, IsAllowed, IsAcceptedChain}
+use Rattle.chain_commands.specs.Surviving.{is_done, stays, SurvivesCommand, Surviving, IsAllowedPayload, HasAllowedPayload, IsAcceptedChain}
 
 module _ (chain : Chain) (bytes : List ℕ) (allowed : IsAllowedPayload bytes) (valid : IsValid ⊥ chain bytes) where
   -- where none of the refusals holds, the bytes are a block
@@ -52,13 +52,13 @@ accepted_below chain [] is accepted = subst (λ bs. AreAccepted chain.base.profi
 accepted_below chain (block ∷ blocks) is accepted =
     subst (λ bs. AreAccepted chain.base.profile chain.start chain.base.height (drop 1 bs)) (sym is) (subst (AreAccepted chain.base.profile chain.start chain.base.height) is accepted).1
 
-command_accepted : (command : Command) (old new : Chain) → IsAllowed command → SurvivesCommand old command new → IsAcceptedChain old → IsAcceptedChain new
+command_accepted : (command : Command) (old new : Chain) → HasAllowedPayload command → SurvivesCommand old command new → IsAcceptedChain old → IsAcceptedChain new
 command_accepted (Connect bytes) old new allowed (is_done valid new_is) accepted = subst IsAcceptedChain (sym new_is) (accepted_next old bytes allowed valid accepted)
 command_accepted (Connect bytes) old new allowed (stays refusal first new_is) accepted = subst IsAcceptedChain (sym new_is) accepted
 command_accepted (Disconnect hash) old new allowed (is_done valid new_is) accepted = subst IsAcceptedChain (sym new_is) (accepted_below old old.blocks refl accepted)
 command_accepted (Disconnect hash) old new allowed (stays refusal first new_is) accepted = subst IsAcceptedChain (sym new_is) accepted
 
-pub survivor_accepted : (old new : Chain) (commands : List Command) → AllByRecursion IsAllowed commands → Surviving old commands new → IsAcceptedChain old → IsAcceptedChain new
+pub survivor_accepted : (old new : Chain) (commands : List Command) → AllByRecursion HasAllowedPayload commands → Surviving old commands new → IsAcceptedChain old → IsAcceptedChain new
 survivor_accepted old new [] allowed survives accepted = subst IsAcceptedChain (sym survives) accepted
 survivor_accepted old new (command ∷ commands) allowed (mid, first, rest) accepted =
     survivor_accepted mid new commands allowed.1 rest (command_accepted command old mid allowed.0 first accepted)

@@ -30,9 +30,9 @@ pub record IsAllowedPayload (payload : List ℕ) : Type 0 where
   pub short : length payload ≤ LONGEST_BLOCK
   pub bytes : (i : ℕ) → slice_index payload i < 256
 
-abbrev pub IsAllowed : Command → Type 0
-IsAllowed (Connect block) = IsAllowedPayload block
-IsAllowed (Disconnect hash) = Unit {0}
+abbrev pub HasAllowedPayload : Command → Type 0
+HasAllowedPayload (Connect block) = IsAllowedPayload block
+HasAllowedPayload (Disconnect hash) = Unit {0}
 
 -- its start list and its blocks are accepted
 abbrev pub IsAcceptedChain : Chain → Type 0

@@ -12,7 +12,7 @@ ghost use Rattle.chain_commands.specs.Event.{Command, Connect, Disconnect, Event
 ghost use Rattle.chain_commands.specs.RunState.{RunState, chain_of, IsFull};
 ghost use Rattle.chain_commands.specs.Connecting.{Refusal, Refuses};
 ghost use Rattle.chain_commands.specs.Disconnecting.{BackRefusal, RefusesBack};
-ghost use Rattle.chain_commands.specs.Surviving.{Surviving, IsAllowed, IsAcceptedChain};
+ghost use Rattle.chain_commands.specs.Surviving.{Surviving, HasAllowedPayload, IsAcceptedChain};
 
 /// Each whole frame is one event.
 pub fn one_event()
@@ -31,9 +31,9 @@ pub fn one_refusal()
 /// What survives commands on an accepted chain, as one without blocks is on its start list, is accepted, where no connect is
 /// longer than a block may be; and so its index is sound, with the records that undo its blocks.
 pub fn survivors_are_sound()
-    ensures accepted { (old new : Chain) (commands : List Command) → AllByRecursion IsAllowed commands → Surviving old commands new
+    ensures accepted { (old new : Chain) (commands : List Command) → AllByRecursion HasAllowedPayload commands → Surviving old commands new
         → IsAcceptedChain old → IsAcceptedChain new }
-    ensures sound { (old new : Chain) (commands : List Command) (undos : List UndoRecord) → AllByRecursion IsAllowed commands → Surviving old commands new
+    ensures sound { (old new : Chain) (commands : List Command) (undos : List UndoRecord) → AllByRecursion HasAllowedPayload commands → Surviving old commands new
         → IsAcceptedChain old → AreUndos new.base.profile new.start new.base.height new.blocks undos
         → IsSound new.base.profile new.base.height (height_of new) (index_maps new.base.profile new.start new.base.height new.blocks) undos }
 {}
