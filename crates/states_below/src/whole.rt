@@ -46,10 +46,10 @@ impl<'a> Below<'a> {
 
 /// Whether the tables at the tip and the records that undo the blocks above the base, the oldest first, are sound.
 ///
-/// It goes twice over all coins and twice over all names, at the tip and at the base, with at most three look-ups for each, and
-/// between that once over the records, from the newest to the oldest, with some 17 look-ups for each operation and three for each
-/// coin that expired. Tables and records stay as they are. Memory is taken for what undoing the records changes: an entry for
-/// each outpoint and for each name that a record touches. Want of it is the only answer besides.
+/// It goes over all coins and over all names at the tip, over the records from the newest to the oldest, and over all names and
+/// coins once more as they are at the base: a few look-ups for each coin, name and expired coin, and some 17 for each operation.
+/// Tables and records stay as they are. Memory is taken for what undoing the records changes, an entry for each outpoint and each
+/// name that a record touches; want of it is the only answer besides.
 pub fn is_image_sound(
     alloc: Global,
     profile: Profile,
