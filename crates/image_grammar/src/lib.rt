@@ -1,0 +1,8 @@
+//! The grammar of images: the text of a state with its records in each version, and the reading of it in pieces. Each law is the contract of a function that does nothing.
+#![tactic(auto)]
+
+mod laws;
+
+pub use laws::{
+    few_coins, one_image, readers_are_stable, steps_are_the_reading, written_is_read_again,
+};
