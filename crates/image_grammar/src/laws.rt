@@ -1,4 +1,5 @@
-ghost use Rattle.std.specs.Prelude.{◌≡◌, ℕ, ◌≤◌, ◌^◌, List, ◌++◌, length, reverse};
+ghost use Rattle.std.specs.Prelude.{◌≡◌, ℕ, ◌≤◌, ◌^◌, List, [], ◌∷◌, ◌++◌, length, replicate, reverse, Err};
+ghost use Rattle.undo_records.specs.declared.fault.FaultKind.TheVariants.{Cut, BadTag};
 ghost use Rattle.sound_states.specs.Walk.{HasFewCoins};
 ghost use Rattle.undo_records.specs.declared.version.Version.{Version};
 ghost use Rattle.image_grammar.specs.Answers.{IsWhole};
@@ -33,4 +34,14 @@ pub fn steps_are_the_reading()
 /// All coins of an image and of its records are fewer than 2^32 where its text has at most 2^37 bytes.
 pub fn few_coins()
     ensures { (version : Version) (image : Image) → HasText image → length (image_text version image) ≤ 2 ^ 37 → HasFewCoins (maps_listed image) (reverse image.undos) }
+{}
+
+/// The faults of some bytes: an early end; a byte of the magic, of the version, and of the profile that differs; and a byte behind
+/// the image of a base of height 0 and hash 0 without blocks, coins and names.
+pub fn small_faults()
+    ensures cut { image_from (0x4e ∷ []) ≡ Err (Cut, []) }
+    ensures magic { image_from (0x4e ∷ 0x4d ∷ 0x43 ∷ 0x48 ∷ 2 ∷ []) ≡ Err (BadTag, 0x48 ∷ 2 ∷ []) }
+    ensures version { image_from (0x4e ∷ 0x4d ∷ 0x43 ∷ 0x49 ∷ 3 ∷ 1 ∷ []) ≡ Err (BadTag, 3 ∷ 1 ∷ []) }
+    ensures profile { image_from (0x4e ∷ 0x4d ∷ 0x43 ∷ 0x49 ∷ 2 ∷ 0 ∷ []) ≡ Err (BadTag, 0 ∷ []) }
+    ensures behind { image_from (0x4e ∷ 0x4d ∷ 0x43 ∷ 0x49 ∷ 2 ∷ 1 ∷ (replicate 48 0 ++ 7 ∷ [])) ≡ Err (BadTag, 7 ∷ []) }
 {}
