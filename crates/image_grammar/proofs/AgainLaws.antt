@@ -104,11 +104,11 @@ all_fit add Fits s (x ∷ xs) fits = (fits.0, all_fit add Fits (add s x) xs fits
 
 -- ---- what operations and items leave as it was
 
-ops_last : (g : Gathered) (ops : List UndoOp) → (gathered_all with_op g ops).last ≡ g.last
+pub ops_last : (g : Gathered) (ops : List UndoOp) → (gathered_all with_op g ops).last ≡ g.last
 ops_last g [] = refl
 ops_last g (op ∷ ops) = ops_last (with_op g op) ops
 
-items_name : (g : Gathered) (items : List Item) → (gathered_all with_item g items).name ≡ g.name
+pub items_name : (g : Gathered) (items : List Item) → (gathered_all with_item g items).name ≡ g.name
 items_name g [] = refl
 items_name g (item ∷ items) = items_name (with_item g item) items
 
@@ -158,10 +158,10 @@ some_items (item ∷ items) some = le-leb 1 (suc (length items)) (omega arith)
 undo_head_again : (block : List ℕ) (n : ℕ) (rest : List ℕ) → length block ≡ 32 → n < 2 ^ 32 → undo_head_from (block ++ (to_le_bytes w32 n ++ rest)) ≡ Ok ((block, n), rest)
 undo_head_again block n rest len few = rw ((piece_core 32).again block (to_le_bytes w32 n ++ rest) len, core32.again n rest few) refl
 
-four_parts : (N L I F M : List ℕ) → ((N ++ (L ++ I)) ++ F) ++ M ≡ N ++ (L ++ (I ++ (F ++ M)))
+pub four_parts : (N L I F M : List ℕ) → ((N ++ (L ++ I)) ++ F) ++ M ≡ N ++ (L ++ (I ++ (F ++ M)))
 four_parts N L I F M = append_assoc (N ++ (L ++ I)) F M ∙ append_assoc N (L ++ I) (F ++ M) ∙ ap (λ (t : List ℕ). N ++ t) (append_assoc L I (F ++ M))
 
-six_parts : (B L O K E F M : List ℕ) → ((B ++ (L ++ (O ++ (K ++ E)))) ++ F) ++ M ≡ B ++ (L ++ (O ++ (K ++ (E ++ (F ++ M)))))
+pub six_parts : (B L O K E F M : List ℕ) → ((B ++ (L ++ (O ++ (K ++ E)))) ++ F) ++ M ≡ B ++ (L ++ (O ++ (K ++ (E ++ (F ++ M)))))
 six_parts B L O K E F M =
     append_assoc (B ++ (L ++ (O ++ (K ++ E)))) F M ∙ append_assoc B (L ++ (O ++ (K ++ E))) (F ++ M)
     ∙ ap (λ (t : List ℕ). B ++ t) (append_assoc L (O ++ (K ++ E)) (F ++ M) ∙ ap (λ (t : List ℕ). L ++ t) (append_assoc O (K ++ E) (F ++ M) ∙ ap (λ (t : List ℕ). O ++ t) (append_assoc K E (F ++ M))))

@@ -9,3 +9,6 @@ pub mod VersionLaws
 pub mod WholeLaws
 pub mod OneLaws
 pub mod FewLaws
+pub mod TakeLaws
+pub mod SortedLaws
+pub mod ReadLaws

@@ -71,12 +71,12 @@ pub record IsImageIn (version : Version) (image : Image) : Type 0 where
   pub names : AllByRecursion (IsHistoryIn version) image.names
   pub names_up : NamesAscend None image.names
 
-lists_apart : (LU U LC C LN N : List ℕ) → (LU ++ U) ++ ((LC ++ C) ++ (LN ++ N)) ≡ LU ++ (U ++ (LC ++ (C ++ (LN ++ (N ++ [])))))
+pub lists_apart : (LU U LC C LN N : List ℕ) → (LU ++ U) ++ ((LC ++ C) ++ (LN ++ N)) ≡ LU ++ (U ++ (LC ++ (C ++ (LN ++ (N ++ [])))))
 lists_apart LU U LC C LN N =
     append_assoc LU U ((LC ++ C) ++ (LN ++ N))
     ∙ ap (λ (t : List ℕ). LU ++ (U ++ t)) (append_assoc LC C (LN ++ N) ∙ ap (λ (t : List ℕ). LC ++ (C ++ (LN ++ t))) (sym (append-nil N)))
 
-image_again : (version : Version) (image : Image) → IsImageIn version image → image_from (image_text version image) ≡ Ok (gathered_of image, [])
+pub image_again : (version : Version) (image : Image) → IsImageIn version image → image_from (image_text version image) ≡ Ok (gathered_of image, [])
 image_again version image fit =
     let U : List ℕ = flat_map (undo_text version) image.undos in
     let C : List ℕ = flat_map held_text image.coins in

@@ -1,17 +1,22 @@
-ghost use Rattle.std.specs.Prelude.{◌≡◌, ℕ, ◌≤◌, ◌^◌, List, [], ◌∷◌, ◌++◌, length, replicate, reverse, Err};
+ghost use Rattle.std.specs.Prelude.{◌≡◌, ℕ, ◌<◌, ◌≤◌, ◌^◌, List, [], ◌∷◌, ◌++◌, length, replicate, reverse, slice_index, Ok, Err};
 ghost use Rattle.undo_records.specs.declared.fault.FaultKind.TheVariants.{Cut, BadTag};
 ghost use Rattle.sound_states.specs.Walk.{HasFewCoins};
 ghost use Rattle.undo_records.specs.declared.version.Version.{Version};
-ghost use Rattle.image_grammar.specs.Answers.{IsWhole};
+ghost use Rattle.image_grammar.specs.Answers.{IsTextOf, IsWhole};
 ghost use Rattle.image_grammar.specs.Image.{Image, HasText, image_told, maps_listed};
 ghost use Rattle.image_grammar.specs.Resuming.{IsStable};
-ghost use Rattle.image_grammar.specs.Stages.{Standing, image_from, rest_from, step_from, step_then};
+ghost use Rattle.image_grammar.specs.Stages.{Gathered, Standing, image_from, rest_from, step_from, step_then};
 ghost use Rattle.image_grammar.specs.Text.{image_text};
 
 /// What is written is read again, in either version, and nothing is left: the base, the records and the state that the image
 /// lists. A text of version 1 tells all but the registration heights, which are read with 0.
 pub fn written_is_read_again()
     ensures { (version : Version) (image : Image) → HasText image → IsWhole (image_told version image) (image_from (image_text version image)) }
+{}
+
+/// What is read with nothing left was so written: the bytes are the text of an image, and this is what it lists.
+pub fn what_is_read_was_written()
+    ensures { (text : List ℕ) (g : Gathered) → ((i : ℕ) → slice_index text i < 256) → image_from text ≡ Ok (g, []) → IsTextOf text g }
 {}
 
 /// Bytes are the text of one version alone, and of what it tells of one image.
