@@ -5,7 +5,9 @@ use Rattle.std.specs.Int.{w32, to_le_bytes}
 use Rattle.std.specs.List.{flat_map, AllByRecursion}
 use Rattle.block_grammar.proofs.ReaderLaws.{ok_is}
 use Rattle.nmc_base.specs.declared.chain_ends.Base.{Base}
+use Rattle.chain_names.specs.declared.coin.HeldCoin.{HeldCoin}
 use Rattle.chain_names.specs.declared.coin.Item.{Item}
+use Rattle.chain_names.specs.Undo.{UndoRecord}
 use Rattle.chain_names.specs.Writable.{IsWritableName, IsWritableItem, IsWritable}
 use Rattle.undo_records.specs.declared.version.Version.{Version}
 use Rattle.undo_records.specs.declared.version.Version.TheVariants.{One, Two}
@@ -15,44 +17,53 @@ use Rattle.undo_records.specs.Versions.{told}
 use Rattle.undo_records.proofs.FieldLaws.{core32, name_core}
 use Rattle.undo_records.proofs.PartLaws.{item_core}
 use Rattle.undo_records.proofs.ToldLaws.{one_record}
-use Rattle.image_grammar.specs.Image.{Image, IsWritableEntry, IsWritableHistory, HasText, item_told, history_told, image_told}
+use Rattle.image_grammar.specs.Image.{Image, History, IsWritableEntry, IsWritableHistory, HasText, item_told, history_told, image_told}
 use Rattle.image_grammar.specs.Reading.{Head, entry_from, head_from}
 use Rattle.image_grammar.specs.Text.{magic, version_byte, profile_byte, counted_text, head_text, history_text, image_text}
 use Rattle.image_grammar.proofs.AgainLaws.{entry_again}
 use Rattle.image_grammar.proofs.VersionLaws.{item_told_text, item_in}
 use Rattle.image_grammar.proofs.WholeLaws.{head_again}
 
--- two values whose texts stand at the front of the same bytes are told as one
-abbrev IsOne : {A B : Type 0} → (A → List ℕ) → (A → Type 0) → (A → B) → Type 0
-IsOne {A = A} text Fits tell = (x y : A) (r s : List ℕ) → Fits x → Fits y → text x ++ r ≡ text y ++ s → (tell x ≡ tell y) × (r ≡ s)
+-- Values with a text. Two whose texts stand at the front of the same bytes are told as one.
+record Told (A B : Type 0) : Type 1 where
+  text : A → List ℕ
+  Fits : A → Type 0
+  tell : A → B
+  one : (x y : A) (r s : List ℕ) → Fits x → Fits y → text x ++ r ≡ text y ++ s → (tell x ≡ tell y) × (r ≡ s)
 
 -- so it is where what is told is read again
-read_one : {A B : Type 0} (text : A → List ℕ) (Fits : A → Type 0) (tell : A → B) (read : Reads B)
-    → ((x : A) (rest : List ℕ) → Fits x → read (text x ++ rest) ≡ Ok (tell x, rest)) → IsOne text Fits tell
-read_one {B = B} text Fits tell read again x y r s fx fy e =
-    let same : (tell x, r) ≡ (tell y, s) = ok_is (tell x, r) (tell y, s) (sym (again x r fx) ∙ ap read e ∙ again y s fy) in
-    (ap (λ (z : B × List ℕ). z.0) same, ap (λ (z : B × List ℕ). z.1) same)
+module _ {A B : Type 0} (text : A → List ℕ) (Fits : A → Type 0) (tell : A → B) (read : Reads B) (again : (x : A) (rest : List ℕ) → Fits x → read (text x ++ rest) ≡ Ok (tell x, rest)) where
+  read_one : (x y : A) (r s : List ℕ) → Fits x → Fits y → text x ++ r ≡ text y ++ s → (tell x ≡ tell y) × (r ≡ s)
+  read_one x y r s fx fy e =
+      let same : (tell x, r) ≡ (tell y, s) = ok_is (tell x, r) (tell y, s) (sym (again x r fx) ∙ ap read e ∙ again y s fy) in
+      (ap (λ (z : B × List ℕ). z.0) same, ap (λ (z : B × List ℕ). z.1) same)
+
+  abbrev read_told : Told A B
+  read_told = record { text = text; Fits = Fits; tell = tell; one = read_one }
 
 -- ---- lists
 
-module _ {A B : Type 0} (text : A → List ℕ) (Fits : A → Type 0) (tell : A → B) (one : IsOne text Fits tell) where
-  all_one : (xs ys : List A) (r s : List ℕ) → length xs ≡ length ys → AllByRecursion Fits xs → AllByRecursion Fits ys → flat_map text xs ++ r ≡ flat_map text ys ++ s
-      → (map tell xs ≡ map tell ys) × (r ≡ s)
+abbrev numbers : Told ℕ ℕ
+numbers = read_told (to_le_bytes w32) (λ n. n < 2 ^ 32) (λ n. n) (number_from w32) core32.again
+
+module _ {A B : Type 0} (t : Told A B) where
+  all_one : (xs ys : List A) (r s : List ℕ) → length xs ≡ length ys → AllByRecursion t.Fits xs → AllByRecursion t.Fits ys → flat_map t.text xs ++ r ≡ flat_map t.text ys ++ s
+      → (map t.tell xs ≡ map t.tell ys) × (r ≡ s)
   all_one [] [] r s count fx fy e = (refl, e)
   all_one [] (y ∷ ys) r s count fx fy e = absurd (omega (arith, count))
   all_one (x ∷ xs) [] r s count fx fy e = absurd (omega (arith, count))
   all_one (x ∷ xs) (y ∷ ys) r s count fx fy e =
-      let first = one x y (flat_map text xs ++ r) (flat_map text ys ++ s) fx.0 fy.0 (sym (append_assoc (text x) (flat_map text xs) r) ∙ e ∙ append_assoc (text y) (flat_map text ys) s) in
+      let first = t.one x y (flat_map t.text xs ++ r) (flat_map t.text ys ++ s) fx.0 fy.0 (sym (append_assoc (t.text x) (flat_map t.text xs) r) ∙ e ∙ append_assoc (t.text y) (flat_map t.text ys) s) in
       let rest = all_one xs ys r s (omega (arith, count)) fx.1 fy.1 first.1 in
       ((λ i. first.0 i ∷ rest.0 i), rest.1)
 
   abbrev FitAll : List A → Type 0
-  FitAll xs = (length xs < 2 ^ 32) × AllByRecursion Fits xs
+  FitAll xs = (length xs < 2 ^ 32) × AllByRecursion t.Fits xs
 
-  counted_one : IsOne (counted_text text) FitAll (map tell)
+  counted_one : (xs ys : List A) (r s : List ℕ) → FitAll xs → FitAll ys → counted_text t.text xs ++ r ≡ counted_text t.text ys ++ s → (map t.tell xs ≡ map t.tell ys) × (r ≡ s)
   counted_one xs ys r s fx fy e =
-      let count = read_one (to_le_bytes w32) (λ n. n < 2 ^ 32) (λ n. n) (number_from w32) core32.again (length xs) (length ys) (flat_map text xs ++ r) (flat_map text ys ++ s) fx.0 fy.0
-      (sym (append_assoc (to_le_bytes w32 (length xs)) (flat_map text xs) r) ∙ e ∙ append_assoc (to_le_bytes w32 (length ys)) (flat_map text ys) s) in
+      let count = numbers.one (length xs) (length ys) (flat_map t.text xs ++ r) (flat_map t.text ys ++ s) fx.0 fy.0
+      (sym (append_assoc (to_le_bytes w32 (length xs)) (flat_map t.text xs) r) ∙ e ∙ append_assoc (to_le_bytes w32 (length ys)) (flat_map t.text ys) s) in
       all_one xs ys r s count.0 fx.1 fy.1 count.1
 
 map_itself : {A : Type 0} (xs : List A) → map (λ x. x) xs ≡ xs
@@ -61,26 +72,33 @@ map_itself (x ∷ xs) = ap (λ ys. x ∷ ys) (map_itself xs)
 
 -- ---- coins and names
 
-held_one : IsOne held_text IsWritableEntry (λ held. held)
-held_one = read_one held_text IsWritableEntry (λ held. held) (entry_from None) (λ held rest fits. entry_again None held rest fits refl)
+abbrev helds : Told HeldCoin HeldCoin
+helds = read_told held_text IsWritableEntry (λ held. held) (entry_from None) (λ held rest fits. entry_again None held rest fits refl)
 
-name_one : IsOne name_text IsWritableName (λ name. name)
-name_one = read_one name_text IsWritableName (λ name. name) name_from name_core.again
+abbrev plain_names : Told (List ℕ) (List ℕ)
+plain_names = read_told name_text IsWritableName (λ name. name) name_from name_core.again
 
 module _ (version : Version) where
   item_again : (item : Item) (rest : List ℕ) → IsWritableItem item → item_from version (item_text version item ++ rest) ≡ Ok (item_told version item, rest)
   item_again item rest fits = ap (λ (l : List ℕ). item_from version (l ++ rest)) (sym (item_told_text version item)) ∙ (item_core version).again (item_told version item) rest (item_in version item fits)
 
-  item_one : IsOne (item_text version) IsWritableItem (item_told version)
-  item_one = read_one (item_text version) IsWritableItem (item_told version) (item_from version) item_again
+  abbrev items : Told Item Item
+  items = read_told (item_text version) IsWritableItem (item_told version) (item_from version) item_again
 
-  history_one : IsOne (history_text version) IsWritableHistory (history_told version)
+  history_one : (x y : History) (r s : List ℕ) → IsWritableHistory x → IsWritableHistory y → history_text version x ++ r ≡ history_text version y ++ s
+      → (history_told version x ≡ history_told version y) × (r ≡ s)
   history_one x y r s fx fy e =
-      let items : List ℕ = counted_text (item_text version) x.items in
+      let own : List ℕ = counted_text (item_text version) x.items in
       let others : List ℕ = counted_text (item_text version) y.items in
-      let name = name_one x.name y.name (items ++ r) (others ++ s) fx.name fy.name (sym (append_assoc (name_text x.name) items r) ∙ e ∙ append_assoc (name_text y.name) others s) in
-      let rest = counted_one (item_text version) IsWritableItem (item_told version) item_one x.items y.items r s (fx.count, fx.items) (fy.count, fy.items) name.1 in
+      let name = plain_names.one x.name y.name (own ++ r) (others ++ s) fx.name fy.name (sym (append_assoc (name_text x.name) own r) ∙ e ∙ append_assoc (name_text y.name) others s) in
+      let rest = counted_one items x.items y.items r s (fx.count, fx.items) (fy.count, fy.items) name.1 in
       ((λ i. record { name = name.0 i; items = rest.0 i }), rest.1)
+
+  abbrev histories : Told History History
+  histories = record { text = history_text version; Fits = IsWritableHistory; tell = history_told version; one = history_one }
+
+  abbrev records : Told UndoRecord UndoRecord
+  records = record { text = undo_text version; Fits = IsWritable; tell = told version; one = one_record version }
 
   -- ---- the head
 
@@ -95,6 +113,9 @@ module _ (version : Version) where
       ap (λ (t : List ℕ). head_from (magic ++ (version_byte version ∷ profile_byte base.profile ∷ t))) (append_assoc (to_le_bytes w32 base.height) base.hash.0 rest)
       ∙ head_again version base rest fits.0 fits.1
 
+  abbrev bases : Told Base Head
+  bases = read_told (head_text version) HasShortBase headed head_from base_again
+
   -- ---- the whole
 
   pub image_one : (image other : Image) → HasText image → HasText other → image_text version image ≡ image_text version other → image_told version image ≡ image_told version other
@@ -105,11 +126,10 @@ module _ (version : Version) where
       let coins' : List ℕ = counted_text held_text other.coins ++ names' in
       let undos : List ℕ = counted_text (undo_text version) image.undos ++ coins in
       let undos' : List ℕ = counted_text (undo_text version) other.undos ++ coins' in
-      let base = read_one (head_text version) HasShortBase headed head_from base_again image.base other.base undos undos' (has.height, has.hash) (has'.height, has'.hash) e in
-      let us = counted_one (undo_text version) IsWritable (told version) (one_record version) image.undos other.undos coins coins' (has.undo_count, has.undos) (has'.undo_count, has'.undos) base.1 in
-      let cs = counted_one held_text IsWritableEntry (λ held. held) held_one image.coins other.coins names names' (has.coin_count, has.coins) (has'.coin_count, has'.coins) us.1 in
-      let ns = counted_one (history_text version) IsWritableHistory (history_told version) history_one image.names other.names [] [] (has.name_count, has.names) (has'.name_count, has'.names)
-      (append-nil names ∙ cs.1 ∙ sym (append-nil names')) in
+      let base = bases.one image.base other.base undos undos' (has.height, has.hash) (has'.height, has'.hash) e in
+      let us = counted_one records image.undos other.undos coins coins' (has.undo_count, has.undos) (has'.undo_count, has'.undos) base.1 in
+      let cs = counted_one helds image.coins other.coins names names' (has.coin_count, has.coins) (has'.coin_count, has'.coins) us.1 in
+      let ns = counted_one histories image.names other.names [] [] (has.name_count, has.names) (has'.name_count, has'.names) (append-nil names ∙ cs.1 ∙ sym (append-nil names')) in
       let same_base : image.base ≡ other.base = ap (λ (h : Head). h.1) base.0 in
       let same_coins : image.coins ≡ other.coins = sym (map_itself image.coins) ∙ cs.0 ∙ map_itself other.coins in
       λ i. record { base = same_base i; undos = us.0 i; coins = same_coins i; names = ns.0 i }

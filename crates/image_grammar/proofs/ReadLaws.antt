@@ -1,5 +1,5 @@
 -- What is read of an image whole is the text of one.
-use Rattle.std.proofs.Common.{◌≡◌, ◌≢◌, ℕ, zero, suc, ◌<◌, ◌≤◌, ◌^◌, true, List, [], ◌∷◌, ◌++◌, length, refl, sym, ap, subst, ◌∙◌, append_assoc, append-nil, arith}
+use Rattle.std.proofs.Common.{◌≡◌, ◌≢◌, ℕ, zero, suc, ◌≤◌, true, List, [], ◌∷◌, ◌++◌, length, refl, sym, ap, subst, ◌∙◌, append_assoc, arith}
 use Rattle.std.specs.Prelude.{Option, Some, None, Ok, nat_le}
 use Rattle.std.specs.Int.{w32, to_le_bytes}
 use Rattle.std.specs.Cmp.Lexicographic.{slice_cmp, nat_list_cmp_total}
@@ -8,8 +8,7 @@ use Rattle.std.specs.Ordering.{nat_cmp}
 use Rattle.std.specs.declared.cmp.Ordering.{Ordering}
 use Rattle.std.specs.declared.cmp.Ordering.TheVariants.{Less, Equal, Greater}
 use Rattle.std.proofs.lemmas.Bool.{leb-true}
-use Rattle.block_grammar.specs.Combinators.{◌>>=◌}
-use Rattle.block_grammar.proofs.Readers.{IsBytes, Took}
+use Rattle.block_grammar.proofs.Readers.{IsBytes}
 use Rattle.block_grammar.proofs.ReaderLaws.{bind_ok, ok_is}
 use Rattle.nmc_base.specs.declared.chain_ends.Base.{Base}
 use Rattle.nmc_base.specs.declared.hashes.OutPoint.{OutPoint}
@@ -31,45 +30,64 @@ use Rattle.undo_records.proofs.OpLaws.{op_core}
 use Rattle.undo_records.proofs.CoinLaws.{after_is, HeldFits, held_core}
 use Rattle.image_grammar.specs.Answers.{Holds, IsTextOf}
 use Rattle.image_grammar.specs.Image.{Image, History, IsWritableEntry, IsWritableHistory, HasText, names_of}
-use Rattle.image_grammar.specs.Reading.{Head, entry_from, history_head_from, undo_head_from, comes_after}
-use Rattle.image_grammar.specs.Resuming.{Answer, fold_then}
+use Rattle.image_grammar.specs.Reading.{Head, history_head_from, undo_head_from, comes_after}
+use Rattle.image_grammar.specs.Resuming.{fold_then}
 use Rattle.image_grammar.specs.Stages.{Gathered, nothing_of, begun, with_op, with_expired, closed, without_last, with_entry, named, with_item, end_from, items_then, names_then, name_count_then, coins_then, coin_count_then, ops_then, expired_then, expired_count_then, undos_then, opening_from, image_from}
 use Rattle.image_grammar.specs.Text.{head_text, history_text, image_text}
-use Rattle.image_grammar.proofs.AgainLaws.{IsRecordIn, IsHistoryIn, entries, names_ascend, items_name, ops_last, four_parts, six_parts, with_ops, with_undo, with_undos, with_history, with_names}
+use Rattle.image_grammar.proofs.AgainLaws.{IsRecordIn, IsHistoryIn, entries, names_ascend, items_name, ops_last, four_parts, six_parts, with_undo, with_undos, with_history, with_names}
 use Rattle.image_grammar.proofs.FoldLaws.{gathered_all, AllFit}
-use Rattle.image_grammar.proofs.GatheredLaws.{before_coins, before_names, gathered_of, undos_name, coins_gathered, holds_image}
+use Rattle.image_grammar.proofs.GatheredLaws.{gathered_of, holds_image}
 use Rattle.image_grammar.proofs.SortedLaws.{IsAboveLast, Rise, rise_sorted}
 use Rattle.image_grammar.proofs.WholeLaws.{IsImageIn, image_again, lists_apart}
 use Rattle.image_grammar.proofs.TakeLaws.{TakesText, opening_value, undo_head_value, history_head_value, entry_takes}
 
 -- ---- values that were read one by one
 
-module _ {S A R : Type 0} (text : A → List ℕ) (Fits : S → A → Type 0) (read : S → Reads A) (add : S → A → S) where
-  pub record Folded (n : ℕ) (s : S) (after : S → Reads R) (bytes : List ℕ) (z : R × List ℕ) : Type 0 where
-    pub xs : List A
-    pub rest : List ℕ
-    pub count : length xs ≡ n
-    pub text_is : bytes ≡ flat_map text xs ++ rest
-    pub fit : AllFit add Fits s xs
-    pub rest_bytes : IsBytes rest
-    pub then : after (gathered_all add s xs) rest ≡ Ok z
+-- values of which each was so written as it was read
+record Taken (S A : Type 0) : Type 1 where
+  text : A → List ℕ
+  Fits : S → A → Type 0
+  read : S → Reads A
+  add : S → A → S
+  takes : (s : S) → TakesText text (Fits s) (read s)
 
-  pub fold_takes : ((s : S) → TakesText text (Fits s) (read s)) → (after : S → Reads R) (n : ℕ) (s : S) (bytes : List ℕ) (z : R × List ℕ) → IsBytes bytes
-      → fold_then read add n s after bytes ≡ Ok z → Folded n s after bytes z
-  fold_takes takes after zero s bytes z are e = record { xs = []; rest = bytes; count = refl; text_is = refl; fit = tt; rest_bytes = are; then = e }
-  fold_takes takes after (suc n) s bytes z are e =
-      let first = bind_ok (read s bytes) (λ (y : A × List ℕ). fold_then read add n (add s y.0) after y.1) z e in
-      let took = takes s bytes first.0 are first.1 in
-      let more = fold_takes takes after n (add s first.0.0) first.0.1 z took.rest_bytes first.2 in
+module _ {S A R : Type 0} (t : Taken S A) where
+  record Folded (n : ℕ) (s : S) (after : S → Reads R) (bytes : List ℕ) (z : R × List ℕ) : Type 0 where
+    xs : List A
+    rest : List ℕ
+    count : length xs ≡ n
+    text_is : bytes ≡ flat_map t.text xs ++ rest
+    fit : AllFit t.add t.Fits s xs
+    rest_bytes : IsBytes rest
+    then : after (gathered_all t.add s xs) rest ≡ Ok z
+
+  fold_takes : (after : S → Reads R) (n : ℕ) (s : S) (bytes : List ℕ) (z : R × List ℕ) → IsBytes bytes → fold_then t.read t.add n s after bytes ≡ Ok z → Folded n s after bytes z
+  fold_takes after zero s bytes z are e = record { xs = []; rest = bytes; count = refl; text_is = refl; fit = tt; rest_bytes = are; then = e }
+  fold_takes after (suc n) s bytes z are e =
+      let first = bind_ok (t.read s bytes) (λ (y : A × List ℕ). fold_then t.read t.add n (t.add s y.0) after y.1) z e in
+      let took = t.takes s bytes first.0 are first.1 in
+      let more = fold_takes after n (t.add s first.0.0) first.0.1 z took.rest_bytes first.2 in
       record {
         xs = first.0.0 ∷ more.xs;
         rest = more.rest;
         count = ap suc more.count;
-        text_is = took.parts ∙ ap (λ (t : List ℕ). text first.0.0 ++ t) more.text_is ∙ sym (append_assoc (text first.0.0) (flat_map text more.xs) more.rest);
+        text_is = took.parts ∙ ap (λ (l : List ℕ). t.text first.0.0 ++ l) more.text_is ∙ sym (append_assoc (t.text first.0.0) (flat_map t.text more.xs) more.rest);
         fit = (took.fits, more.fit);
         rest_bytes = more.rest_bytes;
         then = more.then;
       }
+
+abbrev expired_taken : Taken Gathered HeldCoin
+expired_taken = record { text = held_text; Fits = λ g. HeldFits g.last; read = λ g. held_from g.last; add = with_expired; takes = λ g. (held_core g.last).takes }
+
+abbrev entries_taken : Taken Gathered HeldCoin
+entries_taken = record { text = held_text; Fits = entries.Fits; read = entries.read; add = with_entry; takes = λ g. entry_takes g.last }
+
+abbrev ops_taken : Version → Taken Gathered UndoOp
+ops_taken version = record { text = op_text version; Fits = λ g. IsOpIn version; read = λ g. op_from version; add = with_op; takes = λ g. (op_core version).takes }
+
+abbrev items_taken : Version → Taken Gathered Item
+items_taken version = record { text = item_text version; Fits = λ g. IsItemIn version; read = λ g. item_from version; add = with_item; takes = λ g. (item_core version).takes }
 
 -- values that fit whatever was gathered
 each_fits : {S A : Type 0} (add : S → A → S) (Fits Part : A → Type 0) → ((x : A) → Fits x → Part x) → (s : S) (xs : List A) → AllFit add (λ _. Fits) s xs → AllByRecursion Part xs
@@ -101,6 +119,15 @@ name_rises (Some last) name after = less_is (slice_cmp nat_cmp last name) after
     less_is Equal e = absurd cc
     less_is Greater e = absurd cc
 
+-- the texts of a record and of a history, put together
+record_parted : (B L O K E F M : List ℕ) {bytes middle rest : List ℕ} → bytes ≡ B ++ (L ++ middle) → middle ≡ O ++ rest → rest ≡ K ++ (E ++ (F ++ M)) → bytes ≡ ((B ++ (L ++ (O ++ (K ++ E)))) ++ F) ++ M
+record_parted B L O K E F M first second third =
+    first ∙ ap (λ (l : List ℕ). B ++ (L ++ l)) second ∙ ap (λ (l : List ℕ). B ++ (L ++ (O ++ l))) third ∙ sym (six_parts B L O K E F M)
+
+history_parted : (N L I F M : List ℕ) {bytes middle rest : List ℕ} → bytes ≡ N ++ (L ++ middle) → middle ≡ I ++ rest → rest ≡ F ++ M → bytes ≡ ((N ++ (L ++ I)) ++ F) ++ M
+history_parted N L I F M first second third =
+    first ∙ ap (λ (l : List ℕ). N ++ (L ++ l)) second ∙ ap (λ (l : List ℕ). N ++ (L ++ (I ++ l))) third ∙ sym (four_parts N L I F M)
+
 module _ (version : Version) (z : Gathered × List ℕ) where
   pub record UndosTook (n : ℕ) (g : Gathered) (bytes : List ℕ) : Type 0 where
     pub us : List UndoRecord
@@ -119,12 +146,12 @@ module _ (version : Version) (z : Gathered × List ℕ) where
       let head = bind_ok (undo_head_from bytes) (λ (x : (List ℕ × ℕ) × List ℕ). ops_then version x.0.1 (begun g x.0.0) after x.1) z e in
       let h = undo_head_value.takes bytes head.0 are head.1 in
       let start : Gathered = begun g head.0.0.0 in
-      let ops = fold_takes (op_text version) (λ (g : Gathered). IsOpIn version) (λ (g : Gathered). op_from version) with_op (λ g. (op_core version).takes) (λ (g : Gathered). expired_count_then version g after)
+      let ops = fold_takes (ops_taken version) (λ (g : Gathered). expired_count_then version g after)
       head.0.0.1 start head.0.1 z h.rest_bytes head.2 in
       let middle : Gathered = gathered_all with_op start ops.xs in
       let count = bind_ok (number_from w32 ops.rest) (λ (x : ℕ × List ℕ). expired_then version x.0 middle after x.1) z ops.then in
       let c = core32.takes ops.rest count.0 ops.rest_bytes count.1 in
-      let gone = fold_takes held_text (λ (g : Gathered). HeldFits g.last) (λ (g : Gathered). held_from g.last) with_expired (λ g. (held_core g.last).takes) (λ (g : Gathered). after (closed g))
+      let gone = fold_takes expired_taken (λ (g : Gathered). after (closed g))
       count.0.0 middle count.0.1 z c.rest_bytes count.2 in
       let u : UndoRecord = record { block = record { 0 = head.0.0.0 }; ops = ops.xs; expired = gone.xs } in
       let more = undos_take n (with_undo g u) gone.rest gone.rest_bytes gone.then in
@@ -158,7 +185,7 @@ module _ (version : Version) (z : Gathered × List ℕ) where
           },
           more.fits,
         );
-        text_is = at_head ∙ ap (λ (t : List ℕ). B ++ (L ++ t)) (ops.text_is ∙ ap (λ (t : List ℕ). O ++ t) at_count) ∙ sym (six_parts B L O K E F more.rest);
+        text_is = record_parted B L O K E F more.rest at_head ops.text_is at_count;
         rest_bytes = more.rest_bytes;
         then = more.then;
       }
@@ -182,7 +209,7 @@ module _ (version : Version) (z : Gathered × List ℕ) where
       let head = bind_ok (history_head_from g.name bytes) (λ (x : (List ℕ × ℕ) × List ℕ). items_then version x.0.1 (named g x.0.0) after x.1) z e in
       let t = (history_head_value g.name).takes bytes head.0 are head.1 in
       let start : Gathered = named g head.0.0.0 in
-      let items = fold_takes (item_text version) (λ (g : Gathered). IsItemIn version) (λ (g : Gathered). item_from version) with_item (λ g. (item_core version).takes) after head.0.0.1 start head.0.1 z t.rest_bytes head.2 in
+      let items = fold_takes (items_taken version) after head.0.0.1 start head.0.1 z t.rest_bytes head.2 in
       let h : History = record { name = head.0.0.0; items = items.xs } in
       let more = names_take n (with_history g h) items.rest items.rest_bytes items.then in
       let N : List ℕ = name_text head.0.0.0 in
@@ -207,7 +234,7 @@ module _ (version : Version) (z : Gathered × List ℕ) where
           name_rises g.name head.0.0.0 t.fits.0.1,
           subst (λ (last : Option (List ℕ)). Rise (slice_cmp nat_cmp) nat_list_cmp_total last (names_of more.hs)) (items_name start items.xs) more.rise,
         );
-        text_is = at_head ∙ ap (λ (s : List ℕ). N ++ (L ++ s)) (items.text_is ∙ ap (λ (s : List ℕ). I ++ s) more.text_is) ∙ sym (four_parts N L I F more.rest);
+        text_is = history_parted N L I F more.rest at_head items.text_is more.text_is;
         then = more.then;
       }
 
@@ -247,7 +274,7 @@ image_takes text g are e =
     let before : Gathered = without_last (with_undos (nothing_of base) undos.us) in
     let coin_count = bind_ok (number_from w32 undos.rest) (λ (x : ℕ × List ℕ). coins_then version x.0 before x.1) z undos.then in
     let c = core32.takes undos.rest coin_count.0 undos.rest_bytes coin_count.1 in
-    let coins = fold_takes held_text entries.Fits entries.read with_entry (λ g. entry_takes g.last) (name_count_then version) coin_count.0.0 before coin_count.0.1 z c.rest_bytes coin_count.2 in
+    let coins = fold_takes entries_taken (name_count_then version) coin_count.0.0 before coin_count.0.1 z c.rest_bytes coin_count.2 in
     let behind : Gathered = gathered_all with_entry before coins.xs in
     let name_count = bind_ok (number_from w32 coins.rest) (λ (x : ℕ × List ℕ). names_then version x.0 behind x.1) z coins.then in
     let n = core32.takes coins.rest name_count.0 coins.rest_bytes name_count.1 in

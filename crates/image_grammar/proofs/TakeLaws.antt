@@ -7,7 +7,6 @@ use Rattle.std.proofs.Math.Seq.{take-append_seam}
 use Rattle.block_grammar.specs.Combinators.{◌>>=◌, then_from, map_from}
 use Rattle.block_grammar.proofs.Readers.{IsBytes, Took}
 use Rattle.block_grammar.proofs.ReaderLaws.{ok_is, bind_ok, pair_text, PairFits}
-use Rattle.nmc_base.specs.declared.chain_ends.Base.{Base}
 use Rattle.nmc_base.specs.declared.chain_ends.Profile.{Profile}
 use Rattle.nmc_base.specs.declared.hashes.OutPoint.{OutPoint}
 use Rattle.chain_names.specs.declared.coin.Coin.{Coin}
@@ -23,9 +22,8 @@ use Rattle.undo_records.proofs.Laws.{Part, Core}
 use Rattle.undo_records.proofs.FieldLaws.{part32, core32, piece_part, piece_core, name_part, name_core, point_part, point_core}
 use Rattle.undo_records.proofs.PartLaws.{new_coin_core, named_coin_core}
 use Rattle.image_grammar.specs.Image.{IsWritableCoin, IsWritableEntry}
-use Rattle.image_grammar.specs.Reading.{Head, first_other, same_or_fault, exactly_from, version_from, profile_from, head_of, head_from, coin_from, entry_of_pair, entry_from, comes_after, history_head_from, undo_head_from}
-use Rattle.image_grammar.specs.Resuming.{Answer, fold_then}
-use Rattle.image_grammar.specs.Stages.{opening_from}
+use Rattle.image_grammar.specs.Reading.{Head, first_other, same_or_fault, exactly_from, head_of, coin_from, entry_of_pair, entry_from, comes_after}
+use Rattle.image_grammar.specs.Resuming.{Answer}
 use Rattle.image_grammar.specs.Text.{magic, version_byte, version_of, is_version, profile_byte, profile_of, is_profile, head_text}
 
 -- what is read is the text of a value that fits

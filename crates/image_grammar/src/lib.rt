@@ -4,5 +4,6 @@
 mod laws;
 
 pub use laws::{
-    few_coins, one_image, readers_are_stable, small_faults, steps_are_the_reading, what_is_read_was_written, written_is_read_again,
+    few_coins, one_image, readers_are_stable, small_faults, steps_are_the_reading,
+    what_is_read_was_written, written_is_read_again,
 };
