@@ -119,7 +119,15 @@ name_rises (Some last) name after = less_is (slice_cmp nat_cmp last name) after
     less_is Equal e = absurd cc
     less_is Greater e = absurd cc
 
--- the texts of a record and of a history, put together
+-- values behind their number, and the number behind what comes before it
+counted_at : (n m : ℕ) (E F : List ℕ) {bytes rest more : List ℕ} → bytes ≡ to_le_bytes w32 n ++ rest → m ≡ n → rest ≡ E ++ more → more ≡ F → bytes ≡ to_le_bytes w32 m ++ (E ++ F)
+counted_at n m E F {rest = rest} first same second third =
+    first ∙ ap (λ (k : ℕ). to_le_bytes w32 k ++ rest) (sym same) ∙ ap (λ (l : List ℕ). to_le_bytes w32 m ++ l) second ∙ ap (λ (l : List ℕ). to_le_bytes w32 m ++ (E ++ l)) third
+
+headed_at : (B rest : List ℕ) (n m : ℕ) {bytes : List ℕ} → bytes ≡ (B ++ to_le_bytes w32 n) ++ rest → m ≡ n → bytes ≡ B ++ (to_le_bytes w32 m ++ rest)
+headed_at B rest n m first same = first ∙ append_assoc B (to_le_bytes w32 n) rest ∙ ap (λ (k : ℕ). B ++ (to_le_bytes w32 k ++ rest)) (sym same)
+
+-- the texts of a record, of a history and of an image, put together
 record_parted : (B L O K E F M : List ℕ) {bytes middle rest : List ℕ} → bytes ≡ B ++ (L ++ middle) → middle ≡ O ++ rest → rest ≡ K ++ (E ++ (F ++ M)) → bytes ≡ ((B ++ (L ++ (O ++ (K ++ E)))) ++ F) ++ M
 record_parted B L O K E F M first second third =
     first ∙ ap (λ (l : List ℕ). B ++ (L ++ l)) second ∙ ap (λ (l : List ℕ). B ++ (L ++ (O ++ l))) third ∙ sym (six_parts B L O K E F M)
@@ -127,6 +135,11 @@ record_parted B L O K E F M first second third =
 history_parted : (N L I F M : List ℕ) {bytes middle rest : List ℕ} → bytes ≡ N ++ (L ++ middle) → middle ≡ I ++ rest → rest ≡ F ++ M → bytes ≡ ((N ++ (L ++ I)) ++ F) ++ M
 history_parted N L I F M first second third =
     first ∙ ap (λ (l : List ℕ). N ++ (L ++ l)) second ∙ ap (λ (l : List ℕ). N ++ (L ++ (I ++ l))) third ∙ sym (four_parts N L I F M)
+
+image_parted : (H LU U LC C LN N : List ℕ) {bytes middle rest : List ℕ} → bytes ≡ H ++ (LU ++ middle) → middle ≡ U ++ rest → rest ≡ LC ++ (C ++ (LN ++ (N ++ [])))
+    → bytes ≡ H ++ ((LU ++ U) ++ ((LC ++ C) ++ (LN ++ N)))
+image_parted H LU U LC C LN N first second third =
+    first ∙ ap (λ (l : List ℕ). H ++ (LU ++ l)) second ∙ ap (λ (l : List ℕ). H ++ (LU ++ (U ++ l))) third ∙ ap (λ (l : List ℕ). H ++ l) (sym (lists_apart LU U LC C LN N))
 
 module _ (version : Version) (z : Gathered × List ℕ) where
   pub record UndosTook (n : ℕ) (g : Gathered) (bytes : List ℕ) : Type 0 where
@@ -162,9 +175,8 @@ module _ (version : Version) (z : Gathered × List ℕ) where
       let K : List ℕ = to_le_bytes w32 (length gone.xs) in
       let E : List ℕ = flat_map held_text gone.xs in
       let F : List ℕ = flat_map (undo_text version) more.us in
-      let at_head : bytes ≡ B ++ (L ++ head.0.1) = h.parts ∙ append_assoc B (to_le_bytes w32 head.0.0.1) head.0.1 ∙ ap (λ (k : ℕ). B ++ (to_le_bytes w32 k ++ head.0.1)) (sym ops.count) in
-      let at_count : ops.rest ≡ K ++ (E ++ (F ++ more.rest)) =
-      c.parts ∙ ap (λ (k : ℕ). to_le_bytes w32 k ++ count.0.1) (sym gone.count) ∙ ap (λ (t : List ℕ). K ++ t) (gone.text_is ∙ ap (λ (t : List ℕ). E ++ t) more.text_is) in
+      let at_head : bytes ≡ B ++ (L ++ head.0.1) = headed_at B head.0.1 head.0.0.1 (length ops.xs) h.parts ops.count in
+      let at_count : ops.rest ≡ K ++ (E ++ (F ++ more.rest)) = counted_at count.0.0 (length gone.xs) E (F ++ more.rest) c.parts gone.count gone.text_is more.text_is in
       record {
         us = u ∷ more.us;
         rest = more.rest;
@@ -216,7 +228,7 @@ module _ (version : Version) (z : Gathered × List ℕ) where
       let L : List ℕ = to_le_bytes w32 (length items.xs) in
       let I : List ℕ = flat_map (item_text version) items.xs in
       let F : List ℕ = flat_map (history_text version) more.hs in
-      let at_head : bytes ≡ N ++ (L ++ head.0.1) = t.parts ∙ append_assoc N (to_le_bytes w32 head.0.0.1) head.0.1 ∙ ap (λ (k : ℕ). N ++ (to_le_bytes w32 k ++ head.0.1)) (sym items.count) in
+      let at_head : bytes ≡ N ++ (L ++ head.0.1) = headed_at N head.0.1 head.0.0.1 (length items.xs) t.parts items.count in
       record {
         hs = h ∷ more.hs;
         rest = more.rest;
@@ -312,11 +324,9 @@ image_takes text g are e =
     let C : List ℕ = flat_map held_text coins.xs in
     let LN : List ℕ = to_le_bytes w32 (length names.hs) in
     let N : List ℕ = flat_map (history_text version) names.hs in
-    let at_names : coins.rest ≡ LN ++ (N ++ []) =
-    n.parts ∙ ap (λ (k : ℕ). to_le_bytes w32 k ++ name_count.0.1) (sym names.count) ∙ ap (λ (s : List ℕ). LN ++ s) (names.text_is ∙ ap (λ (s : List ℕ). N ++ s) (nothing_left (with_names behind names.hs) names.rest z names.then)) in
-    let at_coins : undos.rest ≡ LC ++ (C ++ (LN ++ (N ++ []))) =
-    c.parts ∙ ap (λ (k : ℕ). to_le_bytes w32 k ++ coin_count.0.1) (sym coins.count) ∙ ap (λ (s : List ℕ). LC ++ s) (coins.text_is ∙ ap (λ (s : List ℕ). C ++ s) at_names) in
-    let at_head : text ≡ H ++ (LU ++ head.0.1) = t.parts ∙ append_assoc H (to_le_bytes w32 head.0.0.1) head.0.1 ∙ ap (λ (k : ℕ). H ++ (to_le_bytes w32 k ++ head.0.1)) (sym undos.count) in
-    let text_is : text ≡ image_text version image =
-    at_head ∙ ap (λ (s : List ℕ). H ++ (LU ++ s)) (undos.text_is ∙ ap (λ (s : List ℕ). U ++ s) at_coins) ∙ ap (λ (s : List ℕ). H ++ s) (sym (lists_apart LU U LC C LN N)) in
+    let none_left : names.rest ≡ [] = nothing_left (with_names behind names.hs) names.rest z names.then in
+    let at_names : coins.rest ≡ LN ++ (N ++ []) = counted_at name_count.0.0 (length names.hs) N [] n.parts names.count names.text_is none_left in
+    let at_coins : undos.rest ≡ LC ++ (C ++ (LN ++ (N ++ []))) = counted_at coin_count.0.0 (length coins.xs) C (LN ++ (N ++ [])) c.parts coins.count coins.text_is at_names in
+    let at_head : text ≡ H ++ (LU ++ head.0.1) = headed_at H head.0.1 head.0.0.1 (length undos.us) t.parts undos.count in
+    let text_is : text ≡ image_text version image = image_parted H LU U LC C LN N at_head undos.text_is at_coins in
     record { version = version; image = image; has_text = has; text_is = text_is; holds = told_whole version image g whole has (ap image_from (sym text_is) ∙ e) }
