@@ -31,20 +31,27 @@ record Told (A B : Type 0) : Type 1 where
   tell : A → B
   one : (x y : A) (r s : List ℕ) → Fits x → Fits y → text x ++ r ≡ text y ++ s → (tell x ≡ tell y) × (r ≡ s)
 
--- so it is where what is told is read again
-module _ {A B : Type 0} (text : A → List ℕ) (Fits : A → Type 0) (tell : A → B) (read : Reads B) (again : (x : A) (rest : List ℕ) → Fits x → read (text x ++ rest) ≡ Ok (tell x, rest)) where
-  read_one : (x y : A) (r s : List ℕ) → Fits x → Fits y → text x ++ r ≡ text y ++ s → (tell x ≡ tell y) × (r ≡ s)
+-- values of which what is told is read again, whatever follows their text
+record ReadAgain (A B : Type 0) : Type 1 where
+  text : A → List ℕ
+  Fits : A → Type 0
+  tell : A → B
+  read : Reads B
+  again : (x : A) (rest : List ℕ) → Fits x → read (text x ++ rest) ≡ Ok (tell x, rest)
+
+module _ {A B : Type 0} (v : ReadAgain A B) where
+  read_one : (x y : A) (r s : List ℕ) → v.Fits x → v.Fits y → v.text x ++ r ≡ v.text y ++ s → (v.tell x ≡ v.tell y) × (r ≡ s)
   read_one x y r s fx fy e =
-      let same : (tell x, r) ≡ (tell y, s) = ok_is (tell x, r) (tell y, s) (sym (again x r fx) ∙ ap read e ∙ again y s fy) in
+      let same : (v.tell x, r) ≡ (v.tell y, s) = ok_is (v.tell x, r) (v.tell y, s) (sym (v.again x r fx) ∙ ap v.read e ∙ v.again y s fy) in
       (ap (λ (z : B × List ℕ). z.0) same, ap (λ (z : B × List ℕ). z.1) same)
 
   abbrev read_told : Told A B
-  read_told = record { text = text; Fits = Fits; tell = tell; one = read_one }
+  read_told = record { text = v.text; Fits = v.Fits; tell = v.tell; one = read_one }
 
 -- ---- lists
 
 abbrev numbers : Told ℕ ℕ
-numbers = read_told (to_le_bytes w32) (λ n. n < 2 ^ 32) (λ n. n) (number_from w32) core32.again
+numbers = read_told (record { text = to_le_bytes w32; Fits = λ n. n < 2 ^ 32; tell = λ n. n; read = number_from w32; again = core32.again })
 
 module _ {A B : Type 0} (t : Told A B) where
   all_one : (xs ys : List A) (r s : List ℕ) → length xs ≡ length ys → AllByRecursion t.Fits xs → AllByRecursion t.Fits ys → flat_map t.text xs ++ r ≡ flat_map t.text ys ++ s
@@ -73,17 +80,17 @@ map_itself (x ∷ xs) = ap (λ ys. x ∷ ys) (map_itself xs)
 -- ---- coins and names
 
 abbrev helds : Told HeldCoin HeldCoin
-helds = read_told held_text IsWritableEntry (λ held. held) (entry_from None) (λ held rest fits. entry_again None held rest fits refl)
+helds = read_told (record { text = held_text; Fits = IsWritableEntry; tell = λ held. held; read = entry_from None; again = λ held rest fits. entry_again None held rest fits refl })
 
 abbrev plain_names : Told (List ℕ) (List ℕ)
-plain_names = read_told name_text IsWritableName (λ name. name) name_from name_core.again
+plain_names = read_told (record { text = name_text; Fits = IsWritableName; tell = λ name. name; read = name_from; again = name_core.again })
 
 module _ (version : Version) where
   item_again : (item : Item) (rest : List ℕ) → IsWritableItem item → item_from version (item_text version item ++ rest) ≡ Ok (item_told version item, rest)
   item_again item rest fits = ap (λ (l : List ℕ). item_from version (l ++ rest)) (sym (item_told_text version item)) ∙ (item_core version).again (item_told version item) rest (item_in version item fits)
 
   abbrev items : Told Item Item
-  items = read_told (item_text version) IsWritableItem (item_told version) (item_from version) item_again
+  items = read_told (record { text = item_text version; Fits = IsWritableItem; tell = item_told version; read = item_from version; again = item_again })
 
   history_one : (x y : History) (r s : List ℕ) → IsWritableHistory x → IsWritableHistory y → history_text version x ++ r ≡ history_text version y ++ s
       → (history_told version x ≡ history_told version y) × (r ≡ s)
@@ -114,7 +121,7 @@ module _ (version : Version) where
       ∙ head_again version base rest fits.0 fits.1
 
   abbrev bases : Told Base Head
-  bases = read_told (head_text version) HasShortBase headed head_from base_again
+  bases = read_told (record { text = head_text version; Fits = HasShortBase; tell = headed; read = head_from; again = base_again })
 
   -- ---- the whole
 
