@@ -1,0 +1,14 @@
+pub mod StableLaws
+pub mod ValueLaws
+pub mod StepLaws
+pub mod FoldLaws
+pub mod AgainLaws
+pub mod ListedLaws
+pub mod GatheredLaws
+pub mod VersionLaws
+pub mod WholeLaws
+pub mod OneLaws
+pub mod FewLaws
+pub mod TakeLaws
+pub mod SortedLaws
+pub mod ReadLaws
