@@ -91,9 +91,14 @@ names_listed (h ∷ hs) = changed bytes_eq (names_listed hs) h.name h.items
 abbrev pub maps_listed : Image → Maps
 maps_listed image = record { coins = coins_listed image.coins; names = names_listed image.names }
 
--- the image of a base, of records from the oldest on, and of a state
+abbrev pub HasItems : History → Type 0
+HasItems h = h.items ≢ []
+
+-- the image of a base, of records from the oldest on, and of a state: each coin and each name that the state has, in order
 pub record IsImageOf (base : Base) (undos : List UndoRecord) (maps : Maps) (image : Image) : Type 0 where
   pub base_is : image.base ≡ base
   pub undos_are : image.undos ≡ undos
   pub maps_are : maps_listed image ≡ maps
-  pub has_text : HasText image
+  pub coins_sorted : IsSortedByPoint image.coins
+  pub names_sorted : IsStrictlySortedBy (slice_cmp nat_cmp) (names_of image.names)
+  pub some : AllByRecursion HasItems image.names

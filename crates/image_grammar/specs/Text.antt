@@ -1,14 +1,16 @@
 -- The text of an image, in each of its versions. Numbers stand with their low byte first.
-use Rattle.std.specs.Prelude.{◌==◌, Bool, ℕ, if◌then◌else◌, List, [], ◌∷◌, ◌++◌, length}
+use Rattle.std.specs.Prelude.{◌≡◌, ◌==◌, Bool, ℕ, if◌then◌else◌, List, [], ◌∷◌, ◌++◌, length, reverse}
 use Rattle.std.specs.List.{flat_map}
 use Rattle.std.specs.Int.{w32, to_le_bytes}
 use Rattle.nmc_base.specs.declared.chain_ends.Base.{Base}
 use Rattle.nmc_base.specs.declared.chain_ends.Profile.{Profile}
 use Rattle.nmc_base.specs.declared.chain_ends.Profile.TheVariants.{Regtest, Main}
+use Rattle.chain_names.specs.Coins.{Maps}
+use Rattle.chain_names.specs.Undo.{UndoRecord}
 use Rattle.undo_records.specs.declared.version.Version.{Version}
 use Rattle.undo_records.specs.declared.version.Version.TheVariants.{One, Two}
 use Rattle.undo_records.specs.Text.{name_text, held_text, item_text, undo_text}
-use Rattle.image_grammar.specs.Image.{Image, History}
+use Rattle.image_grammar.specs.Image.{Image, History, IsImageOf}
 
 abbrev pub magic : List ℕ
 magic = 0x4e ∷ 0x4d ∷ 0x43 ∷ 0x49 ∷ []
@@ -63,3 +65,9 @@ abbrev pub image_text : Version → Image → List ℕ
 image_text version image =
     head_text version image.base
     ++ (counted_text (undo_text version) image.undos ++ (counted_text held_text image.coins ++ counted_text (history_text version) image.names))
+
+-- the text of a base, of the records that undo the blocks on it, the newest first, and of the state at the tip
+pub record IsStateText (version : Version) (base : Base) (undos : List UndoRecord) (maps : Maps) (text : List ℕ) : Type 0 where
+  pub image : Image
+  pub image_is : IsImageOf base (reverse undos) maps image
+  pub text_is : text ≡ image_text version image
