@@ -10,7 +10,7 @@ use Rattle.disk_model.proofs.ImageLemmas.{KeepsSettled-images}
 use Rattle.gate_journal.specs.Gate.{ClosedAfter}
 use Rattle.gate_journal.specs.Records.{IsArea}
 use Rattle.chain_commands.specs.RunState.{RunState, saved_text}
-use Rattle.name_store.specs.Commands.{records_of}
+use Rattle.index_commands.specs.Records.{records_of}
 use Rattle.name_store.specs.Header.{header_text}
 use Rattle.name_store.specs.Opening.{IsSynced, OpenAnswer, OpensFor}
 use Rattle.name_store.specs.declared.faults.OpenFault.{OpenFault}

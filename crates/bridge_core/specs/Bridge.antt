@@ -5,7 +5,7 @@ use Rattle.feed_frames.specs.Replies.{Reply}
 use Rattle.disk_model.specs.Moments.{Files, EachMoment}
 use Rattle.disk_model.specs.Changes.{LeavesOthers}
 use Rattle.disk_model.specs.DiskSeen.{DiskSeen, HasFailed, bytes_in}
-use Rattle.name_store.specs.Costs.{IsCheap}
+use Rattle.index_commands.specs.Costs.{IsCheap}
 use Rattle.name_store.specs.Damage.{area_file}
 use Rattle.chain_commands.specs.Event.{Command, Event, Connect, Disconnect, Do, Ask}
 use Rattle.chain_commands.specs.RunState.{RunState, chain_of, IsFull, accepted}

@@ -5,7 +5,7 @@ ghost use Rattle.std.specs.Int.{w32, to_le_bytes};
 ghost use Rattle.chain_commands.specs.Reply.{no_memory_reply};
 ghost use Rattle.chain_commands.specs.Connecting.{refusal_reply};
 ghost use Rattle.chain_commands.specs.Disconnecting.{back_reply};
-ghost use Rattle.name_store.specs.Views.{refusal_of, back_refusal_of};
+ghost use Rattle.index_commands.specs.Views.{refusal_of, back_refusal_of};
 ghost use Rattle.bridge_core.specs.Bridge.{fault_reply};
 
 use crate::codes;

@@ -8,6 +8,7 @@ use Rattle.std.specs.declared.cmp.Ordering.{Ordering}
 use Rattle.std.specs.declared.cmp.Ordering.TheVariants.{Less, Equal, Greater}
 use Rattle.std.proofs.lemmas.Cmp.{tied_itself}
 use Rattle.std.proofs.lemmas.Map.Keys.{sorted_head, sorted_tail}
+use Rattle.block_grammar.specs.Transaction.{Transaction}
 use Rattle.nmc_base.specs.declared.chain_ends.Profile.{Profile}
 use Rattle.nmc_base.specs.declared.hashes.OutPoint.{OutPoint}
 use Rattle.nmc_base.specs.Hash.{outpoint_cmp}
@@ -21,7 +22,8 @@ use Rattle.chain_names.specs.Undo.{UndoRecord}
 use Rattle.chain_names.proofs.Shown.{true_is_not_false}
 use Rattle.chain_names.proofs.Points.{same_point-true, same_point-self, same_point-comm}
 use Rattle.chain_names.specs.Expired.{points_of, IsSortedByPoint, is_held_at, IsGone, IsDue}
-use Rattle.chain_names.specs.UndoOf.{IsUndoOf, AreUndos}
+use Rattle.chain_names.specs.Coins.{Maps}
+use Rattle.chain_names.specs.UndoOf.{IsUndoOf, AreUndos, IsUndoByMaps}
 use Rattle.chain_names.proofs.OrderLemmas.{outpoint_cmp-total, IsAbove, same_by_cmp}
 
 -- ---- sorted outpoints
@@ -135,6 +137,13 @@ one_due now next xs ys left right left_sorted right_sorted =
     ∙ any_point ys point))
 
 -- ---- records
+
+pub one_undo-maps : (profile : Profile) (height : ℕ) (transactions : List Transaction) (maps : Maps) (u v : UndoRecord) → IsUndoByMaps profile height transactions maps u
+    → IsUndoByMaps profile height transactions maps v → u.block ≡ v.block → u ≡ v
+one_undo-maps profile height transactions maps u v left right block =
+    let ops = left.ops ∙ sym right.ops in
+    let expired = one_due _ _ u.expired v.expired left.due right.due left.sorted right.sorted in
+    λ i. record { block = block i; ops = ops i; expired = expired i }
 
 pub one_undo-block : (profile : Profile) (start : Log) (base : ℕ) (block : List ℕ) (blocks : List (List ℕ)) (u v : UndoRecord) → IsUndoOf profile start base block blocks u
     → IsUndoOf profile start base block blocks v → u ≡ v

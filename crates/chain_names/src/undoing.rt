@@ -81,12 +81,14 @@ pub fn chains_have_undos()
         → (us : List UndoRecord) × AreUndos profile start base blocks us }
 {}
 
-/// A chain's last block has one undo record, and a chain one list of them.
+/// A chain's last block has one undo record, and a chain one list of them. Transactions have one on any maps, but for the block's hash.
 pub fn one_undo()
     ensures block { (profile : Profile) (start : Log) (base : ℕ) (block : List ℕ) (blocks : List (List ℕ)) (u v : UndoRecord)
         → IsUndoOf profile start base block blocks u → IsUndoOf profile start base block blocks v → u ≡ v }
     ensures chain { (profile : Profile) (start : Log) (base : ℕ) (blocks : List (List ℕ)) (us vs : List UndoRecord)
         → AreUndos profile start base blocks us → AreUndos profile start base blocks vs → us ≡ vs }
+    ensures maps { (profile : Profile) (height : ℕ) (transactions : List Transaction) (maps : Maps) (u v : UndoRecord)
+        → IsUndoByMaps profile height transactions maps u → IsUndoByMaps profile height transactions maps v → u.block ≡ v.block → u ≡ v }
 {}
 
 /// The record of a chain's next block by the maps is the one by the log.

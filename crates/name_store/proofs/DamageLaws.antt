@@ -1,114 +1,86 @@
 -- Damaged files stand for no run state, and are damaged at one place first.
-use Rattle.std.proofs.Common.{◌≡◌, ◌⊎◌, inl, inr, ℕ, ◌+◌, ◌<◌, ◌≤◌, List, [], ◌∷◌, ◌++◌, length, take, refl, sym, ◌∙◌, ap, subst, arith, length-append}
-use Rattle.std.proofs.lemmas.List.{append-nil, take-take, take_at}
+use Rattle.std.proofs.Common.{◌≡◌, ◌⊎◌, inl, inr, ℕ, ◌+◌, ◌<◌, ◌≤◌, List, [], ◌∷◌, ◌++◌, length, refl, sym, ◌∙◌, ap, subst, arith, length-append}
 use Rattle.std.proofs.lemmas.Bool.{cases_lt}
-use Rattle.gate_journal.specs.Gate.{IsOpen, record_text}
-use Rattle.gate_journal.specs.Records.{image_front, records_text}
-use Rattle.gate_journal.proofs.RecordLemmas.{Begins, record_begun, record_unique, first_fits, begins_with}
+use Rattle.nmc_base.specs.declared.chain_ends.Base.{Base}
+use Rattle.gate_journal.specs.Gate.{IsOpen, IsClosed}
+use Rattle.gate_journal.specs.Records.{IsArea, image_front, records_text}
+use Rattle.gate_journal.proofs.RecordLemmas.{begins_with}
+use Rattle.gate_journal.proofs.GateLemmas.{ended_to}
+use Rattle.chain_state.specs.Chain.{Indexed, SameIndex, IsAtBase}
+use Rattle.chain_state.proofs.StandingLemmas.{base_stands}
+use Rattle.chain_state.proofs.UndoLemmas.{one_index}
 use Rattle.chain_commands.specs.Chain.{Chain}
 use Rattle.chain_commands.specs.Event.{Command}
-use Rattle.chain_commands.specs.RunState.{RunState, on_base, after_commands, longest_area}
+use Rattle.chain_commands.specs.RunState.{RunState, on_base, saved_text, longest_area}
+use Rattle.index_commands.specs.Records.{record_of, records_of}
+use Rattle.index_commands.specs.Allowed.{AreAllowed}
+use Rattle.index_commands.specs.Taking.{AreTaken}
+use Rattle.index_commands.proofs.SizeLemmas.{allowed_sizes}
+use Rattle.index_commands.proofs.LeadLemmas.{lead_alike, led_taken, allowed_taken}
 use Rattle.name_store.specs.Header.{HasHeader, HasFields, IsInitialised, IsShut, base_at, selections_at}
-use Rattle.name_store.specs.Commands.{AreRead, IsNext, record_of, records_of, area_text, gate_behind}
+use Rattle.name_store.specs.Commands.{Origin, without_image, HasCommands, IsNext, gate_behind}
 use Rattle.name_store.specs.Damage as damage
 use Rattle.name_store.specs.Damage.{HasBadField, HasNoImage, HasBadRecord, IsDamaged}
 use Rattle.name_store.specs.Stands.{Bytes, Stands}
-use Rattle.name_store.proofs.OpenLemmas.{records_fit}
-use Rattle.name_store.proofs.ReadingLemmas.{area_text-push, area_size, open_at}
-use Rattle.name_store.proofs.RunLemmas.{record_told, standing_header, standing_base}
+use Rattle.name_store.proofs.AreaLemmas.{StandOn, all, fewer, one_further, compared, older_read, read_next, area_size, open_at}
+use Rattle.name_store.proofs.RunLemmas.{standing_header, standing_base}
 
--- ---- commands that are read, one less
+-- ---- commands that are taken, and one that isn't
 
-module _ (first : Chain) (limit : ℕ) (file : List ℕ) where
-  grown : (commands : List Command) (command : Command) → gate_behind (command ∷ commands) ≡ gate_behind commands + length (record_text (record_of command))
-  grown commands command = ap length (area_text-push commands command) ∙ length-append (area_text commands) (record_text (record_of command))
+older_taken : (first : Indexed) (xs ys : List Command) → StandOn xs ys → AreTaken first ys → AreTaken first xs
+older_taken first xs ys all are = are
+older_taken first xs ys (fewer y below on) are = older_taken first xs below on are.0
 
-  pub read_less : (commands : List Command) (command : Command) → AreRead first limit file (command ∷ commands) → AreRead first limit file commands
-  read_less commands command are =
-      let size = grown commands command in
-      let short : gate_behind commands ≤ gate_behind (command ∷ commands) = omega (arith, size) in
-      record {
-        begins = sym (take-take (gate_behind commands) (gate_behind (command ∷ commands)) file short) ∙ ap (take (gate_behind commands)) (are.begins ∙ area_text-push commands command)
-            ∙ take_at (area_text commands) (record_text (record_of command)) (gate_behind commands) refl;
-        inside = omega (arith, short, are.inside);
-        within = omega (arith, short, are.within);
-        allowed = are.allowed.0;
-      }
-
-  pub read_next : (commands : List Command) (command : Command) → AreRead first limit file (command ∷ commands) → IsNext first limit file commands command
-  read_next commands command are =
-      let front = area_text commands in
-      let text = record_text (record_of command) in
-      let whole : area_text (command ∷ commands) ≡ front ++ (text ++ []) = area_text-push commands command ∙ ap (λ (l : List ℕ). front ++ l) (sym (append-nil text)) in
-      let begins = subst (λ (l : List ℕ). Begins l file) whole (record { begins = are.begins; inside = are.inside }) in
-      let fits = first_fits (record_of command) [] (records_fit (after_commands first commands) (command ∷ []) (tt, are.allowed.1)) in
-      record {
-        stands = record_begun front (record_of command) [] file limit begins fits (subst (λ (l : List ℕ). length l < limit) whole are.within);
-        allowed = are.allowed.1;
-      }
-
-  -- as many commands are the same
-  as_many : (xs ys : List Command) → AreRead first limit file xs → AreRead first limit file ys → length xs ≡ length ys → xs ≡ ys
-  as_many [] [] a b e = refl
-  as_many [] (y ∷ ys) a b e = absurd (omega (arith, e))
-  as_many (x ∷ xs) [] a b e = absurd (omega (arith, e))
-  as_many (x ∷ xs) (y ∷ ys) a b e =
-      let same = as_many xs ys (read_less xs x a) (read_less ys y b) (omega (arith, e)) in
-      let next : IsNext first limit file ys x = subst (λ (l : List Command). IsNext first limit file l x) same (read_next xs x a) in
-      let records = record_unique file (record_of x) (record_of y) (gate_behind ys) limit next.stands (read_next ys y b).stands in
-      λ i. record_told x y records i ∷ same i
-
-  -- behind fewer of them stands a next one
-  pub compared : (xs ys : List Command) → AreRead first limit file xs → AreRead first limit file ys → length xs ≤ length ys → (xs ≡ ys) ⊎ ((command : Command) × IsNext first limit file xs command)
-  compared xs [] a b low = inl (as_many xs [] a b (omega (arith, low)))
-  compared xs (y ∷ ys) a b low = elim (cases_lt (length ys) (length xs)) [
-    | inl more ↦ inl (as_many xs (y ∷ ys) a b (omega (arith, low, more)))
-    | inr fewer ↦ elim (compared xs ys a (read_less ys y b) fewer) [
-      | inl same ↦ inr (y, subst (λ (l : List Command). IsNext first limit file l y) (sym same) (read_next ys y b))
-      | inr next ↦ inr next
-    ]
+module _ (first : Origin) (limit : ℕ) (file : List ℕ) where
+  -- no record that the index refuses stands behind the older ones of commands that it takes
+  older_all : (commands : List Command) → HasCommands first.front limit file commands → AreTaken first.index commands → (at : ℕ) → (bad : HasBadRecord first limit file at)
+      → length bad.commands ≤ length commands → bad.commands ≡ commands
+  older_all commands has are at bad low = elim (one_further bad.commands commands (compared first.front limit file bad.commands commands bad.read.has has low)) [
+    | inl same ↦ same
+    | inr next ↦ absurd (bad.no_next next.0 (record {
+      stands = read_next first.front limit file bad.commands next.0 (older_read first.front limit file (next.0 ∷ bad.commands) commands next.1 has);
+      taken = (older_taken first.index (next.0 ∷ bad.commands) commands next.1 are).1 bad.index bad.read.leads;
+    }))
   ]
 
--- ---- files that stand for a run state
-
-module _ (files : Bytes) (run : RunState) (stands : Stands files run) where
-  standing_read : AreRead (on_base (base_at (files 0)) []) longest_area (files 1) run.since
-  standing_read =
-      let allowed = stands.is_state.allowed in
-      let size = area_size (on_base run.base run.start) run.since allowed in
-      let read : AreRead (on_base run.base run.start) longest_area (files 1) run.since = record {
-        begins = stands.area.closed.begins;
-        inside = stands.area.closed.inside;
-        within = omega (arith, size, stands.is_state.fits);
-        allowed = allowed;
-      } in
-      let base = standing_base files run stands in
-      let start = stands.is_state.start_is in
-      subst (λ (c : Chain). AreRead c longest_area (files 1) run.since) (λ i. on_base (sym base i) (start i)) read
-
-  standing_front : HasNoImage (files 1)
-  standing_front = record {
-    long = omega (arith, stands.area.closed.inside, length-append (image_front []) (records_text (records_of run.since)));
-    empty = begins_with (image_front []) (records_text (records_of run.since)) (files 1) stands.area.closed;
-  }
-
-  not_open : IsOpen (files 1) (gate_behind run.since) → ⊥
-  not_open opens = stands.area.closed.closed opens
-
-  no_bad_record : (at : ℕ) → HasBadRecord (on_base (base_at (files 0)) []) longest_area (files 1) at → ⊥
-  no_bad_record at bad =
-      let first = on_base (base_at (files 0)) [] in
-      let opens : IsOpen (files 1) (gate_behind bad.commands) = subst (IsOpen (files 1)) bad.at_is bad.is_open in
-      elim (cases_lt (length run.since) (length bad.commands)) [
-        | inl fewer ↦ elim (compared first longest_area (files 1) run.since bad.commands standing_read bad.read (omega (arith, fewer))) [
-          | inl same ↦ not_open (subst (λ (l : List Command). IsOpen (files 1) (gate_behind l)) (sym same) opens)
-          | inr next ↦ not_open (open_at (files 1) (gate_behind run.since) longest_area (record_of next.0) next.1.stands)
+  -- so not behind commands that end at a closed gate
+  pub ended_well : (commands : List Command) → HasCommands first.front limit file commands → AreTaken first.index commands → IsClosed file (gate_behind first.front commands) → (at : ℕ) → HasBadRecord first limit file at → ⊥
+  ended_well commands has are closed at bad =
+      let opens : IsOpen file (gate_behind first.front bad.commands) = subst (IsOpen file) bad.at_is bad.is_open in
+      elim (cases_lt (length commands) (length bad.commands)) [
+        | inl less ↦ elim (one_further commands bad.commands (compared first.front limit file commands bad.commands has bad.read.has (omega (arith, less)))) [
+          | inl same ↦ closed (subst (λ (l : List Command). IsOpen file (gate_behind first.front l)) (sym same) opens)
+          | inr next ↦ closed (open_at file (gate_behind first.front commands) limit (record_of next.0)
+              (read_next first.front limit file commands next.0 (older_read first.front limit file (next.0 ∷ commands) bad.commands next.1 bad.read.has)))
         ]
-        | inr more ↦ elim (compared first longest_area (files 1) bad.commands run.since bad.read standing_read more) [
-          | inl same ↦ not_open (subst (λ (l : List Command). IsOpen (files 1) (gate_behind l)) same opens)
-          | inr next ↦ bad.no_next next.0 next.1
-        ]
+        | inr more ↦ closed (subst (λ (l : List Command). IsOpen file (gate_behind first.front l)) (older_all commands has are at bad more) opens)
       ]
+
+  -- and behind one list of commands alone
+  pub one_record : (a b : ℕ) → HasBadRecord first limit file a → HasBadRecord first limit file b → a ≡ b
+  one_record a b bad other =
+      let taken = λ (at : ℕ) (is : HasBadRecord first limit file at). led_taken first.index is.index is.commands is.read.leads in
+      let same : bad.commands ≡ other.commands = elim (cases_lt (length other.commands) (length bad.commands)) [
+        | inl less ↦ sym (older_all bad.commands bad.read.has (taken a bad) b other (omega (arith, less)))
+        | inr more ↦ older_all other.commands other.read.has (taken b other) a bad more
+      ] in
+      bad.at_is ∙ ap (gate_behind first.front) same ∙ sym other.at_is
+
+-- the same index refuses the same record
+pub bad_alike : (front : List ℕ) (a b : Indexed) → SameIndex a b → (limit : ℕ) (file : List ℕ) (at : ℕ) → HasBadRecord (record { front = front; index = a }) limit file at
+    → HasBadRecord (record { front = front; index = b }) limit file at
+bad_alike front a b same limit file at bad = record {
+  commands = bad.commands;
+  index = bad.index;
+  read = record { has = bad.read.has; leads = lead_alike a b bad.index bad.commands same bad.read.leads };
+  at_is = bad.at_is;
+  is_open = bad.is_open;
+  no_next = bad.no_next;
+}
+
+-- indexes of one base alone are the same
+pub one_begins : (base : Base) (a b : Indexed) → IsAtBase base a → IsAtBase base b → SameIndex a b
+one_begins base a b at_a at_b = one_index base [] [] a b (base_stands base [] a at_a) (base_stands base [] b at_b)
 
 -- a header whose fields are in order has no bad one
 no_bad_field : (file : List ℕ) (at : ℕ) → HasFields file → HasBadField file at → ⊥
@@ -126,13 +98,45 @@ pub damaged_initialised : (files : Bytes) (file at : ℕ) → IsDamaged files fi
 damaged_initialised files file at (damage.field is begun bad) = begun
 damaged_initialised files file at (damage.selection is begun fields at_is not) = begun
 damaged_initialised files file at (damage.image is has at_is not) = has.initialised
-damaged_initialised files file at (damage.command is has none bad) = has.initialised
+damaged_initialised files file at (damage.command is has none first at_base bad) = has.initialised
 
-pub standing_undamaged : (files : Bytes) (run : RunState) (file at : ℕ) → Stands files run → IsDamaged files file at → ⊥
-standing_undamaged files run file at stands (damage.field is begun bad) = no_bad_field (files 0) at (standing_header files run stands).fields bad
-standing_undamaged files run file at stands (damage.selection is begun fields at_is not) = no_bad_gate (files 0) at (standing_header files run stands) at_is not
-standing_undamaged files run file at stands (damage.image is has at_is not) = not (standing_front files run stands)
-standing_undamaged files run file at stands (damage.command is has none bad) = no_bad_record files run stands at bad
+-- files whose header is in order, with no image, and whose commands end well from the index of the base on
+pub record IsInOrder (files : Bytes) : Type 0 where
+  pub has : HasHeader (files 0)
+  pub none : HasNoImage (files 1)
+  pub no_bad : (at : ℕ) (first : Indexed) → IsAtBase (base_at (files 0)) first → HasBadRecord (without_image first) longest_area (files 1) at → ⊥
+
+pub undamaged : (files : Bytes) → IsInOrder files → (file at : ℕ) → IsDamaged files file at → ⊥
+undamaged files order file at (damage.field is begun bad) = no_bad_field (files 0) at order.has.fields bad
+undamaged files order file at (damage.selection is begun fields at_is not) = no_bad_gate (files 0) at order.has at_is not
+undamaged files order file at (damage.image is has at_is not) = not order.none
+undamaged files order file at (damage.command is has none first at_base bad) = order.no_bad at first at_base bad
+
+-- an area that begins with an empty image
+pub empty_front : (records : List (List ℕ)) (area : List ℕ) → IsArea [] records area → HasNoImage area
+empty_front records area is = record {
+  long = omega (arith, is.closed.inside, length-append (image_front []) (records_text records));
+  empty = begins_with (image_front []) (records_text records) area is.closed;
+}
+
+-- files that stand for a run state
+module _ (files : Bytes) (run : RunState) (stands : Stands files run) where
+  standing_allowed : AreAllowed (on_base (base_at (files 0)) []) run.since
+  standing_allowed = subst (λ (c : Chain). AreAllowed c run.since) (λ i. on_base (sym (standing_base files run stands) i) (stands.is_state.start_is i)) stands.is_state.allowed
+
+  standing_has : HasCommands (image_front (saved_text run)) longest_area (files 1) run.since
+  standing_has = record {
+    records = ended_to (image_front (saved_text run)) (records_of run.since) (files 1) stands.area;
+    within = omega (arith, area_size (image_front (saved_text run)) run.since (allowed_sizes (on_base run.base run.start) run.since stands.is_state.allowed), stands.is_state.fits);
+  }
+
+  no_bad_record : (at : ℕ) (first : Indexed) → IsAtBase (base_at (files 0)) first → HasBadRecord (without_image first) longest_area (files 1) at → ⊥
+  no_bad_record at first at_base bad =
+      let base = base_at (files 0) in
+      ended_well (without_image first) longest_area (files 1) run.since standing_has (allowed_taken first (on_base base []) (base_stands base [] first at_base) run.since standing_allowed) stands.area.closed.closed at bad
+
+  pub standing_undamaged : (file at : ℕ) → IsDamaged files file at → ⊥
+  standing_undamaged = undamaged files (record { has = standing_header files run stands; none = empty_front (records_of run.since) (files 1) stands.area; no_bad = no_bad_record })
 
 -- ---- one damage is the first
 
@@ -154,35 +158,29 @@ one_field file a b (damage.bad_host is magic profile low not) (damage.bad_profil
 one_field file a b (damage.bad_host is magic profile low not) (damage.bad_height also magic_ profile_ high_) = absurd (omega (arith, low, high_))
 one_field file a b (damage.bad_host is magic profile low not) (damage.bad_host also magic_ profile_ low_ not_) = is ∙ sym also
 
-one_record : (first : Chain) (limit : ℕ) (file : List ℕ) (a b : ℕ) → HasBadRecord first limit file a → HasBadRecord first limit file b → a ≡ b
-one_record first limit file a b bad other = elim (cases_lt (length other.commands) (length bad.commands)) [
-  | inl fewer ↦ elim (compared first limit file other.commands bad.commands other.read bad.read (omega (arith, fewer))) [
-    | inl same ↦ bad.at_is ∙ ap gate_behind (sym same) ∙ sym other.at_is
-    | inr next ↦ absurd (other.no_next next.0 next.1)
-  ]
-  | inr more ↦ elim (compared first limit file bad.commands other.commands bad.read other.read more) [
-    | inl same ↦ bad.at_is ∙ ap gate_behind same ∙ sym other.at_is
-    | inr next ↦ absurd (bad.no_next next.0 next.1)
-  ]
-]
+one_command : (base : Base) (a b : Indexed) → IsAtBase base a → IsAtBase base b → (area : List ℕ) (at place : ℕ) → HasBadRecord (without_image a) longest_area area at → HasBadRecord (without_image b) longest_area area place
+    → at ≡ place
+one_command base a b at_a at_b area at place bad other =
+    one_record (without_image b) longest_area area at place (bad_alike (image_front []) a b (one_begins base a b at_a at_b) longest_area area at bad) other
 
 pub one_first : (files : Bytes) (file at other place : ℕ) → IsDamaged files file at → IsDamaged files other place → (file ≡ other) × (at ≡ place)
 one_first files file at other place (damage.field is begun bad) (damage.field also begun_ bad_) = (is ∙ sym also, one_field (files 0) at place bad bad_)
 one_first files file at other place (damage.field is begun bad) (damage.selection also begun_ fields_ at_is_ not_) = absurd (no_bad_field (files 0) at fields_ bad)
 one_first files file at other place (damage.field is begun bad) (damage.image also has_ at_is_ not_) = absurd (no_bad_field (files 0) at has_.fields bad)
-one_first files file at other place (damage.field is begun bad) (damage.command also has_ none_ bad_) = absurd (no_bad_field (files 0) at has_.fields bad)
+one_first files file at other place (damage.field is begun bad) (damage.command also has_ none_ first_ at_base_ bad_) = absurd (no_bad_field (files 0) at has_.fields bad)
 one_first files file at other place (damage.selection is begun fields at_is not) (damage.field also begun_ bad_) = absurd (no_bad_field (files 0) place fields bad_)
 one_first files file at other place (damage.selection is begun fields at_is not) (damage.selection also begun_ fields_ at_is_ not_) = (is ∙ sym also, at_is ∙ sym at_is_)
 one_first files file at other place (damage.selection is begun fields at_is not) (damage.image also has_ at_is_ not_) = absurd (no_bad_gate (files 0) at has_ at_is not)
-one_first files file at other place (damage.selection is begun fields at_is not) (damage.command also has_ none_ bad_) = absurd (no_bad_gate (files 0) at has_ at_is not)
+one_first files file at other place (damage.selection is begun fields at_is not) (damage.command also has_ none_ first_ at_base_ bad_) = absurd (no_bad_gate (files 0) at has_ at_is not)
 one_first files file at other place (damage.image is has at_is not) (damage.field also begun_ bad_) = absurd (no_bad_field (files 0) place has.fields bad_)
 one_first files file at other place (damage.image is has at_is not) (damage.selection also begun_ fields_ at_is_ not_) = absurd (no_bad_gate (files 0) place has at_is_ not_)
 one_first files file at other place (damage.image is has at_is not) (damage.image also has_ at_is_ not_) = (is ∙ sym also, at_is ∙ sym at_is_)
-one_first files file at other place (damage.image is has at_is not) (damage.command also has_ none_ bad_) = absurd (not none_)
-one_first files file at other place (damage.command is has none bad) (damage.field also begun_ bad_) = absurd (no_bad_field (files 0) place has.fields bad_)
-one_first files file at other place (damage.command is has none bad) (damage.selection also begun_ fields_ at_is_ not_) = absurd (no_bad_gate (files 0) place has at_is_ not_)
-one_first files file at other place (damage.command is has none bad) (damage.image also has_ at_is_ not_) = absurd (not_ none)
-one_first files file at other place (damage.command is has none bad) (damage.command also has_ none_ bad_) = (is ∙ sym also, one_record (on_base (base_at (files 0)) []) longest_area (files 1) at place bad bad_)
+one_first files file at other place (damage.image is has at_is not) (damage.command also has_ none_ first_ at_base_ bad_) = absurd (not none_)
+one_first files file at other place (damage.command is has none first at_base bad) (damage.field also begun_ bad_) = absurd (no_bad_field (files 0) place has.fields bad_)
+one_first files file at other place (damage.command is has none first at_base bad) (damage.selection also begun_ fields_ at_is_ not_) = absurd (no_bad_gate (files 0) place has at_is_ not_)
+one_first files file at other place (damage.command is has none first at_base bad) (damage.image also has_ at_is_ not_) = absurd (not_ none)
+one_first files file at other place (damage.command is has none first at_base bad) (damage.command also has_ none_ other_ at_base_ bad_) =
+    (is ∙ sym also, one_command (base_at (files 0)) first other_ at_base at_base_ (files 1) at place bad bad_)
 
 -- ---- files that read alike
 
@@ -192,5 +190,5 @@ damage_moved old new file at header area (damage.field is begun bad) = damage.fi
 damage_moved old new file at header area (damage.selection is begun fields at_is not) = damage.selection is (subst IsInitialised (sym header) begun) (subst HasFields (sym header) fields)
     (at_is ∙ ap selections_at (sym header)) (λ shut. not (subst (λ (l : List ℕ). IsShut l at) header shut))
 damage_moved old new file at header area (damage.image is has at_is not) = damage.image is (subst HasHeader (sym header) has) at_is (λ none. not (subst HasNoImage area none))
-damage_moved old new file at header area (damage.command is has none bad) = damage.command is (subst HasHeader (sym header) has) (subst HasNoImage (sym area) none)
-    (subst (λ (l : List ℕ). HasBadRecord (on_base (base_at (new 0)) []) longest_area l at) (sym area) (subst (λ (l : List ℕ). HasBadRecord (on_base (base_at l) []) longest_area (old 1) at) (sym header) bad))
+damage_moved old new file at header area (damage.command is has none first at_base bad) = damage.command is (subst HasHeader (sym header) has) (subst HasNoImage (sym area) none)
+    first (subst (λ (l : List ℕ). IsAtBase (base_at l) first) (sym header) at_base) (subst (λ (l : List ℕ). HasBadRecord (without_image first) longest_area l at) (sym area) bad)

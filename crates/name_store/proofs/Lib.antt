@@ -1,10 +1,5 @@
-pub mod ChainTips
-mod ByIndexLemmas
-mod StageLemmas
-mod BackLemmas
-pub mod CostLemmas
-pub mod AllowedLemmas
 pub mod HeaderLemmas
+pub mod AreaLemmas
 pub mod ReadingLemmas
 pub mod OpenLemmas
 pub mod KeepLemmas

@@ -1,6 +1,6 @@
 -- What an opened store stands for.
 use Rattle.std.proofs.Common.{◌≡◌, ℕ, zero, suc, ◌+◌, ◌-◌, ◌<◌, ◌≤◌, Bool, List, [], ◌∷◌, ◌++◌, length, take, drop, refl, sym, ◌∙◌, ap, subst, arith, length-take, length-drop, append_assoc}
-use Rattle.std.specs.Prelude.{IsTrue, slice_index, All}
+use Rattle.std.specs.Prelude.{IsTrue, slice_index}
 use Rattle.std.specs.Int.{w32, to_le_bytes}
 use Rattle.std.proofs.Math.Seq.{drop-cons, take-add}
 use Rattle.std.proofs.lemmas.List.{append-nil}
@@ -9,27 +9,31 @@ use Rattle.disk_model.specs.FileState.{FileState, IsSettled}
 use Rattle.disk_model.specs.Moments.{Files}
 use Rattle.disk_model.specs.Changes.{Changes, AfterSync}
 use Rattle.disk_model.specs.DiskSeen.{DiskSeen, file_in, bytes_in}
-use Rattle.chain_state.specs.Chain.{Indexed}
-use Rattle.name_store.specs.Standing as chains
+use Rattle.chain_state.specs.Chain.{Indexed, IsAtBase}
+use Rattle.chain_state.proofs.StandingLemmas.{base_stands}
 use Rattle.gate_journal.specs.Gate.{ClosedAfter, IsClosed}
-use Rattle.gate_journal.specs.Records.{IsArea, Fits}
-use Rattle.gate_journal.proofs.RecordLemmas.{pushed_fit}
-use Rattle.chain_commands.specs.Chain.{Chain}
-use Rattle.chain_commands.specs.Event.{Command, Connect, Disconnect}
+use Rattle.gate_journal.specs.Records.{IsArea, image_front}
+use Rattle.chain_commands.specs.Event.{Command}
 use Rattle.chain_commands.specs.RunState.{RunState, on_base, after_commands, longest_area}
+use Rattle.index_commands.specs.Standing as chains
+use Rattle.index_commands.specs.Records.{records_of}
+use Rattle.index_commands.proofs.SizeLemmas.{led_sizes}
+use Rattle.index_commands.proofs.LeadLemmas.{led_base, led_taken, led_stands, led_allowed}
 use Rattle.name_store.specs.Opening.{IsSynced, OpenAnswer}
 use Rattle.name_store.specs.declared.faults.OpenFault.{OpenFault}
 use Rattle.name_store.specs.declared.faults.OpenFault.TheVariants as faults
+use Rattle.name_store.specs.declared.header.Header.{Header}
 use Rattle.name_store.specs.Damage as damage
-use Rattle.name_store.specs.Damage.{HasNoImage}
+use Rattle.name_store.specs.Damage.{HasNoImage, HasBadRecord, IsDamaged, area_file}
 use Rattle.std.proofs.Common.{Err}
 use Rattle.name_store.specs.Header.{IsBegun, HasHeader, magic, profile_byte, header_text, base_at, host_at, hash_at, host_length_at, height_at, selections_at}
-use Rattle.name_store.specs.Host.{IsHostOf}
-use Rattle.name_store.specs.Commands.{IsAllowed, AreAllowed, record_of, records_of, gate_behind}
+use Rattle.name_store.specs.Commands.{without_image, gate_behind}
 use Rattle.name_store.specs.Stands.{Bytes, IsRunState, Stands}
 use Rattle.name_store.specs.Stored.{Stored, StandsFor, IsOn}
-use Rattle.name_store.specs.Reading.{HasFollowed, HasFollowedAll, AreaAnswer, FollowsArea}
-use Rattle.name_store.proofs.ReadingLemmas.{area_size}
+use Rattle.name_store.specs.Reading.{IsHeaderOf, HasFollowedAll, AreaAnswer, AllAnswer}
+use Rattle.name_store.proofs.AreaLemmas.{area_size, all_read}
+use Rattle.name_store.proofs.DamageLaws.{ended_well, bad_alike, one_begins, empty_front, undamaged}
+use Rattle.name_store.proofs.RunLemmas.{one_run}
 
 -- ---- syncs
 
@@ -108,98 +112,107 @@ module _ (file : List ℕ) (has : HasHeader file) (height_is : to_le_bytes w32 (
 
 -- ---- the store behind the commands
 
-record_fits : (chain : Chain) (command : Command) → IsAllowed chain command → Fits (record_of command)
-record_fits chain (Connect block) is = omega (arith, is.1)
-record_fits chain (Disconnect hash) is = omega (arith, is.1)
-
-none_fits : All Fits []
-none_fits = λ k d low. absurd (omega arith)
-
-pub records_fit : (first : Chain) (commands : List Command) → AreAllowed first commands → All Fits (records_of commands)
-records_fit first [] are = none_fits
-records_fit first (command ∷ commands) are = pushed_fit (records_of commands) (record_of command) (records_fit first commands are.0) (record_fits (after_commands first commands) command are.1)
-
 -- the run state of a base with its host and these commands
-abbrev pub run_of : Base → List ℕ → List Command → RunState
+abbrev run_of : Base → List ℕ → List Command → RunState
 run_of base text commands = record { base = base; host = text; start = []; saved = []; since = commands; selections = 0 }
 
-module _ (tells : Bool) (base : Base) (text name area : List ℕ) (index : Indexed) (reached : ℕ) (begun : IsBegun base text) (host_is : IsHostOf text name) (some : HasFollowed tells (on_base base []) area index reached)
-    (within : reached ≤ longest_area) where
-  is_run : IsRunState (run_of base text some.commands)
-  is_run = record { begun = begun; start_is = refl; saved_is = refl; selections_is = refl; allowed = some.allowed; fits = omega (arith, some.reached_is, within) }
+-- Over files that the disk tells, the header was read, and all commands of the area were followed from the index of its base on.
+pub record HasOpened (tells : Bool) (files : Files) (header : Header) (first index : Indexed) (reached : ℕ) : Type 0 where
+  pub told : IsTrue tells
+  pub has : HasHeader (files 0).bytes
+  pub is : IsHeaderOf (files 0).bytes header
+  pub at_base : IsAtBase header.base first
+  pub all : HasFollowedAll tells (without_image first) (files 1).bytes index reached
+  pub within : reached ≤ longest_area
 
-  pub stands_for : StandsFor (record { index = index; host = name; area = reached }) (run_of base text some.commands)
-  stands_for = record {
-    index = subst (λ (l : List Command). chains.StandsFor index (after_commands (on_base base []) l)) (sym (append-nil some.commands)) some.stands;
-    host = host_is;
-    area = some.reached_is;
-    is_state = is_run;
+module _ (tells : Bool) (files : Files) (header : Header) (first index : Indexed) (reached : ℕ) (o : HasOpened tells files header first index reached) where
+  abbrev bytes : Bytes
+  bytes = λ file. (files file).bytes
+
+  abbrev base : Base
+  base = base_at (bytes 0)
+
+  abbrev text : List ℕ
+  text = host_at (bytes 0)
+
+  abbrev commands : List Command
+  commands = o.all.some.commands
+
+  abbrev pub store : Stored
+  store = record { index = index; host = header.host; area = reached }
+
+  at_base : IsAtBase base first
+  at_base = subst (λ (b : Base). IsAtBase b first) o.is.base_is o.at_base
+
+  size : reached ≡ gate_behind (image_front []) commands + 1
+  size = o.all.some.reached_is ∙ area_size (image_front []) commands (led_sizes first index commands o.all.some.leads)
+
+  closed : IsClosed (bytes 1) (gate_behind (image_front []) commands)
+  closed = let gate : reached - 1 ≡ gate_behind (image_front []) commands = omega (arith, size) in subst (IsClosed (bytes 1)) gate (o.all.shut o.told).closed
+
+  area : IsArea [] (records_of commands) (bytes 1)
+  area = all_read (image_front []) longest_area (bytes 1) commands (o.all.some.read o.told) closed
+
+  begins : ClosedAfter (header_text base text) (bytes 0)
+  begins = header_closed (bytes 0) o.has o.is.height_is
+
+  -- it is on the disk, where that was synced
+  pub opened_on : IsSettled (files 0) → IsSettled (files 1) → IsOn store files
+  opened_on settled_header settled_area = record {
+    text = text;
+    host = o.is.host_is;
+    header = subst (λ (b : Base). ClosedAfter (header_text b text) (bytes 0)) (sym (led_base first index commands o.all.some.leads ∙ at_base.base_is)) begins;
+    records = records_of commands;
+    holds = record { is_area = area; length_is = size };
+    settled_header = settled_header;
+    settled_area = settled_area;
   }
 
--- commands leave the base
-base_kept : (first : Chain) (commands : List Command) → (after_commands first commands).base ≡ first.base
-base_kept first [] = refl
-base_kept first (Connect block ∷ commands) = base_kept first commands
-base_kept first (Disconnect hash ∷ commands) = base_kept first commands
+  -- the files are in order
+  no_bad : (at : ℕ) (other : Indexed) → IsAtBase base other → HasBadRecord (without_image other) longest_area (bytes 1) at → ⊥
+  no_bad at other other_base bad =
+      ended_well (without_image first) longest_area (bytes 1) commands (o.all.some.read o.told) (led_taken first index commands o.all.some.leads) closed at
+      (bad_alike (image_front []) other first (one_begins base other first other_base at_base) longest_area (bytes 1) at bad)
 
--- ---- a store on its disk
+  pub opened_undamaged : (file at : ℕ) → IsDamaged bytes file at → ⊥
+  opened_undamaged = undamaged bytes (record { has = o.has; none = empty_front (records_of commands) (bytes 1) area; no_bad = no_bad })
 
--- The store is on the disk, which stands for a run state, and the store stands for it too.
-pub record HasOpened (store : Stored) (files : Files) : Type 0 where
-  pub run : RunState
-  pub stands : Stands (λ file. (files file).bytes) run
-  pub follows : StandsFor store run
-  pub on_disk : IsOn store files
+  -- the store stands for each run state that they stand for
+  first_stands : chains.StandsFor first (on_base base [])
+  first_stands = base_stands base [] first at_base
 
--- The store of what was followed, over files that tell it: they were synced, and stand for the run state.
-pub opened : (tells : Bool) → IsTrue tells → (file : Files) (name : List ℕ) (index : Indexed) (reached : ℕ) → HasHeader (file 0).bytes → to_le_bytes w32 (height_at (file 0).bytes) ≡ take 4 (drop 10 (file 0).bytes)
-    → IsHostOf (host_at (file 0).bytes) name → HasFollowedAll tells (on_base (base_at (file 0).bytes) []) (file 1).bytes index reached → reached ≤ longest_area → IsSettled (file 0) → IsSettled (file 1)
-    → HasOpened (record { index = index; host = name; area = reached }) file
-opened tells told file name index reached has height_is host_is all within settled_header settled_area =
-    let header = (file 0).bytes in
-    let base = base_at header in
-    let text = host_at header in
-    let some = all.some in
-    let read = some.read told in
-    let first = on_base base [] in
-    let gate : reached - 1 ≡ gate_behind some.commands = omega (arith, some.reached_is, area_size first some.commands some.allowed) in
-    let closed_area : IsArea [] (records_of some.commands) (file 1).bytes = record {
-      closed = record {
-        begins = read.begins;
-        inside = read.inside;
-        closed = subst (IsClosed (file 1).bytes) gate (all.shut told).closed;
-      };
-      fit = records_fit first some.commands some.allowed;
-    } in
-    let begun = header_begun header has height_is in
-    let follows = stands_for tells base text name (file 1).bytes index reached begun host_is some within in
-    let closed_header = header_closed header has height_is in
-    record {
-      run = run_of base text some.commands;
-      stands = record { header = closed_header; area = closed_area; is_state = follows.is_state };
-      follows = follows;
-      on_disk = record {
-        text = text;
-        host = host_is;
-        header = subst (λ (b : Base). ClosedAfter (header_text b text) header) (sym (some.stands.base_is ∙ base_kept first some.commands)) closed_header;
-        records = records_of some.commands;
-        area = closed_area;
-        length_is = some.reached_is ∙ area_size first some.commands some.allowed;
-        settled_header = settled_header;
-        settled_area = settled_area;
-      };
-    }
+  state : IsRunState (run_of base text commands)
+  state = record {
+    begun = header_begun (bytes 0) o.has o.is.height_is;
+    start_is = refl;
+    saved_is = refl;
+    selections_is = refl;
+    allowed = led_allowed first (on_base base []) first_stands index commands o.all.some.leads;
+    fits = omega (arith, o.all.some.reached_is, o.within);
+  }
+
+  stands_so : StandsFor store (run_of base text commands)
+  stands_so = record {
+    index = subst (λ (l : List Command). chains.StandsFor index (after_commands (on_base base []) l)) (sym (append-nil commands)) (led_stands first (on_base base []) first_stands index commands o.all.some.leads);
+    host = o.is.host_is;
+    area = o.all.some.reached_is;
+    is_state = state;
+  }
+
+  pub opened_follows : (run : RunState) → Stands bytes run → StandsFor store run
+  opened_follows run stands = subst (StandsFor store) (one_run bytes (run_of base text commands) run (record { header = begins; area = area; is_state = state }) stands) stands_so
 
 -- ---- damage behind a header that is in order
 
-pub area_bad : (old : Bytes) (new : Files) (fault : OpenFault) → HasHeader (old 0) → AreaAnswer (old 1) (Err fault) → OpenAnswer old new (Err fault)
+pub area_bad : (old : Bytes) (new : Files) (fault : OpenFault) → HasHeader (old 0) → AreaAnswer area_file (old 1) (Err fault) → OpenAnswer old new (Err fault)
 area_bad old new faults.Uninitialised has is = absurd is
 area_bad old new (faults.Damaged number at) has is = damage.image is.0 has is.1 is.2
 area_bad old new faults.DiskFault has is = tt
 area_bad old new faults.NoMemory has is = tt
 
-pub commands_bad : (tells : Bool) → IsTrue tells → (old : Bytes) (new : Files) (fault : OpenFault) → HasHeader (old 0) → HasNoImage (old 1) → FollowsArea tells (base_at (old 0)) (old 1) (Err fault) → OpenAnswer old new (Err fault)
-commands_bad tells told old new faults.Uninitialised has none is = absurd is
-commands_bad tells told old new (faults.Damaged number at) has none is = let bad = is told in damage.command bad.0 has none bad.1
-commands_bad tells told old new faults.DiskFault has none is = tt
-commands_bad tells told old new faults.NoMemory has none is = tt
+pub commands_bad : (tells : Bool) → IsTrue tells → (old : Bytes) (new : Files) (fault : OpenFault) → HasHeader (old 0) → HasNoImage (old 1) → (first : Indexed) → IsAtBase (base_at (old 0)) first
+    → AllAnswer tells (without_image first) area_file (old 1) (Err fault) → OpenAnswer old new (Err fault)
+commands_bad tells told old new faults.Uninitialised has none first at_base is = absurd is
+commands_bad tells told old new (faults.Damaged number at) has none first at_base is = let bad = is told in damage.command bad.0 has none first at_base bad.1
+commands_bad tells told old new faults.DiskFault has none first at_base is = tt
+commands_bad tells told old new faults.NoMemory has none first at_base is = tt

@@ -17,13 +17,14 @@ use Rattle.chain_commands.specs.Connecting as connecting
 use Rattle.chain_commands.specs.Connecting.{IsValid, Holds}
 use Rattle.chain_commands.specs.Disconnecting as disconnecting
 use Rattle.chain_commands.specs.Disconnecting.{IsValidBack, HoldsBack}
+use Rattle.index_commands.specs.Standing as chains
+use Rattle.index_commands.specs.Records.{record_of}
+use Rattle.index_commands.specs.Stages.{StagesBytes, StagesHash, IsFullWith, IsStagedFor}
 use Rattle.name_store.specs.declared.store.Outcome.TheVariants.{Done, Refused, NoMemory, Faulted}
-use Rattle.name_store.specs.Standing as chains
+use Rattle.name_store.specs.Damage.{area_file}
 use Rattle.name_store.specs.Host.{IsHostOf}
-use Rattle.name_store.specs.Commands.{record_of}
 use Rattle.name_store.specs.Stands.{IsRunState}
 use Rattle.name_store.specs.Stored.{Stored, StandsFor, IsOn}
-use Rattle.name_store.specs.Stages.{StagesBytes, StagesHash, IsFullWith, IsStagedFor}
 use Rattle.name_store.specs.Outcomes.{AnswersFor, IsFullOf, KeepsOn, LeavesDisk}
 use Rattle.name_store.specs.Keeping.{Keeps}
 use Rattle.name_store.proofs.StateLemmas.{state_with}
@@ -130,7 +131,7 @@ module _ {M : Type 0} {refusals : Refusals M} {Holds : Type 0 → Chain → M �
   next_of run s = g.allows run s.is_state (valid_of run s)
 
   -- a fault comes only behind all refusals
-  pub keeps_faulted : {R : Type 0} (tells : Bool) (before after : DiskSeen) (result : Result ℕ Failed) → (IsTrue tells → IsOn old before.moments.now) → Keeps tells old.area (record_of command) before after result
+  pub keeps_faulted : {R : Type 0} (tells : Bool) (before after : DiskSeen) (result : Result ℕ Failed) → (IsTrue tells → IsOn old before.moments.now) → Keeps tells area_file old.area (record_of command) before after result
       → KeepsOn {R = R} tells old command before after Faulted
   keeps_faulted tells before after result on kept = λ told run s stands. record {
     done = tt;
@@ -149,7 +150,7 @@ module _ {M : Type 0} {refusals : Refusals M} {Holds : Type 0 → Chain → M �
       → AnswersFor refusals (Holds (IsFullOf longest_area run command) (chain_of run)) seen run command (Done new new.index.tip)
   answers_done seen new done run s = (valid_of run s, done_is run command new new.index.tip (stands_with new done run s) refl)
 
-  pub keeps_done : {R : Type 0} (tells : Bool) (before after : DiskSeen) (new : Stored) → (IsTrue tells → IsOn old before.moments.now) → Keeps tells old.area (record_of command) before after (Ok new.area)
+  pub keeps_done : {R : Type 0} (tells : Bool) (before after : DiskSeen) (new : Stored) → (IsTrue tells → IsOn old before.moments.now) → Keeps tells area_file old.area (record_of command) before after (Ok new.area)
       → KeepsOn {R = R} tells old command before after (Done new new.index.tip)
   keeps_done tells before after new on kept = λ told run s stands. record {
     done = stands_next tells told old before after (on told) (record_of command) new.area kept run command refl s.area (next_of run s) stands;
@@ -159,10 +160,10 @@ module _ {M : Type 0} {refusals : Refusals M} {Holds : Type 0 → Chain → M �
 -- ---- the disk behind a command that was kept, or may have been
 
 module _ {R : Type 0} (tells : Bool) (before after : DiskSeen) (old : Stored) (record_is : List ℕ) where
-  pub leaves_faulted : (error : Failed) → Keeps tells old.area record_is before after (Err error) → LeavesDisk {R = R} tells before after Faulted
+  pub leaves_faulted : (error : Failed) → Keeps tells area_file old.area record_is before after (Err error) → LeavesDisk {R = R} tells before after Faulted
   leaves_faulted error kept = record { later = kept.ends.later; worked = tt; failed = kept.ends.failed; still_on = λ told. tt; others = kept.others }
 
-  pub leaves_done : (new : Stored) → (IsTrue tells → IsOn old before.moments.now) → Keeps tells old.area record_is before after (Ok new.area) → new.index.base ≡ old.index.base → new.host ≡ old.host
+  pub leaves_done : (new : Stored) → (IsTrue tells → IsOn old before.moments.now) → Keeps tells area_file old.area record_is before after (Ok new.area) → new.index.base ≡ old.index.base → new.host ≡ old.host
       → LeavesDisk {R = R} tells before after (Done new new.index.tip)
   leaves_done new on kept base host = record {
     later = kept.ends.later;

@@ -16,11 +16,12 @@ use Rattle.domain_text.specs.Host.{HostText, IsHost, absolute, empty, at_sign, b
 use Rattle.gate_journal.specs.Gate.{ClosedAfter, IsClosed}
 use Rattle.gate_journal.specs.Records.{IsArea}
 use Rattle.gate_journal.proofs.RecordLemmas.{area_unique}
-use Rattle.chain_commands.specs.Event.{Command, Connect, Disconnect}
-use Rattle.chain_commands.specs.RunState.{RunState}
+use Rattle.chain_commands.specs.Event.{Command}
+use Rattle.chain_commands.specs.RunState.{RunState, saved_text}
+use Rattle.index_commands.specs.Records.{records_of}
+use Rattle.index_commands.proofs.SizeLemmas.{commands_told}
 use Rattle.name_store.specs.Host.{IsHostText}
 use Rattle.name_store.specs.Header.{IsBegun, HasHeader, HasFields, magic, header_text, profile_byte, profile_of, magic_at, profile_at, base_at, host_at, hash_at, host_length_at, height_at, selections_at}
-use Rattle.name_store.specs.Commands.{record_of, records_of}
 use Rattle.name_store.specs.Stands.{Bytes, Stands}
 
 -- ---- a host has two bytes or more
@@ -130,29 +131,6 @@ module _ (base : Base) (host file : List ℕ) (closed : ClosedAfter (header_text
         fields = fields;
         shut = record { inside = omega (arith, gate, closed.inside); closed = subst (IsClosed file) gate closed.closed };
       }
-
--- ---- the commands of records
-
-pub record_told : (a b : Command) → record_of a ≡ record_of b → a ≡ b
-record_told (Connect a) (Connect b) e = ap (λ (l : List ℕ). Connect (drop 1 l)) e
-record_told (Connect a) (Disconnect b) e = absurd (omega (arith, ap (λ (l : List ℕ). get_or l 0 0) e))
-record_told (Disconnect a) (Connect b) e = absurd (omega (arith, ap (λ (l : List ℕ). get_or l 0 0) e))
-record_told (Disconnect a) (Disconnect b) e = ap (λ (l : List ℕ). Disconnect (drop 1 l)) e
-
-last_told : {A : Type 0} → (xs ys : List A) (x y : A) → xs ++ x ∷ [] ≡ ys ++ y ∷ [] → (xs ≡ ys) × (x ≡ y)
-last_told {A = A} xs ys x y e =
-    let n = length xs in
-    let same : length ys ≡ n = omega (arith, ap length e, length-append xs (x ∷ []), length-append ys (y ∷ [])) in (
-      sym (take_at xs (x ∷ []) n refl) ∙ ap (take n) e ∙ take_at ys (y ∷ []) n same,
-      sym (get_or_at xs x [] x n refl) ∙ ap (λ (l : List A). get_or l n x) e ∙ get_or_at ys y [] x n same,
-    )
-
-commands_told : (xs ys : List Command) → records_of xs ≡ records_of ys → xs ≡ ys
-commands_told [] [] e = refl
-commands_told [] (y ∷ ys) e = absurd (omega (arith, ap length e, length-append (records_of ys) (record_of y ∷ [])))
-commands_told (x ∷ xs) [] e = absurd (omega (arith, ap length e, length-append (records_of xs) (record_of x ∷ [])))
-commands_told (x ∷ xs) (y ∷ ys) e =
-    let p = last_told (records_of xs) (records_of ys) (record_of x) (record_of y) e in λ i. record_told x y p.1 i ∷ commands_told xs ys p.0 i
 
 -- ---- run states
 

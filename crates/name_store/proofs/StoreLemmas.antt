@@ -12,17 +12,18 @@ use Rattle.disk_model.proofs.ImageLemmas.{IsSettled-image}
 use Rattle.gate_journal.specs.Gate.{ClosedAfter, record_text}
 use Rattle.gate_journal.specs.Records.{IsArea, records_text, image_front}
 use Rattle.gate_journal.proofs.RecordLemmas.{front-push}
-use Rattle.name_store.proofs.ChainTips.{index_tip}
 use Rattle.chain_commands.specs.Event.{Command}
-use Rattle.chain_commands.specs.RunState.{RunState, chain_of, area_of, accepted}
+use Rattle.chain_commands.specs.RunState.{RunState, chain_of, area_of, saved_text, accepted}
+use Rattle.index_commands.specs.Records.{record_of, records_of}
+use Rattle.index_commands.proofs.ChainTips.{index_tip}
+use Rattle.name_store.specs.Damage.{area_file}
 use Rattle.name_store.specs.Header.{header_text}
 use Rattle.name_store.specs.Host.{IsHostOf}
-use Rattle.name_store.specs.Commands.{record_of, records_of}
 use Rattle.name_store.specs.Stands.{Bytes, IsRunState, Stands, EachStandsForEither}
 use Rattle.name_store.specs.Stored.{Stored, StandsFor, IsOn, IsTipOf}
 use Rattle.name_store.specs.Outcomes.{IsDone}
 use Rattle.name_store.specs.Keeping.{HoldsRecords, KeepsOrAdds, Keeps}
-use Rattle.name_store.proofs.StateLemmas.{area_is}
+use Rattle.name_store.proofs.StateLemmas.{holds_commands}
 
 -- a store with the same base, host and area is on the disk too
 pub on_again : (old new : Stored) (files : Files) → IsOn old files → new.index.base ≡ old.index.base → new.host ≡ old.host → new.area ≡ old.area → IsOn new files
@@ -31,14 +32,10 @@ on_again old new files on base host area = record {
   host = subst (λ (name : List ℕ). IsHostOf on.text name) (sym host) on.host;
   header = subst (λ (b : Base). ClosedAfter (header_text b on.text) (files 0).bytes) (sym base) on.header;
   records = on.records;
-  area = on.area;
-  length_is = area ∙ on.length_is;
+  holds = record { is_area = on.holds.is_area; length_is = area ∙ on.holds.length_is };
   settled_header = on.settled_header;
   settled_area = on.settled_area;
 }
-
-pub holds_on : (store : Stored) (files : Files) → (on : IsOn store files) → HoldsRecords store.area on.records (files 1).bytes
-holds_on store files on = record { is_area = on.area; length_is = on.length_is }
 
 -- the tip of a store that stands for a run state
 pub done_is : (run : RunState) (command : Command) (store : Stored) (tip : Tip) → StandsFor store (accepted run command) → tip ≡ store.index.tip → IsDone run command store tip
@@ -60,44 +57,47 @@ module _ (tells : Bool) (told : IsTrue tells) (old : Stored) (before after : Dis
   stands_again : (run : RunState) (image : Bytes) → IsImage before.moments.now image → Stands (bytes_in before) run → Stands image run
   stands_again run image is stands = let same = same_files image is in record {
     header = subst (ClosedAfter (header_text run.base run.host)) (sym same.0) stands.header;
-    area = subst (IsArea [] (records_of run.since)) (sym same.1) stands.area;
+    area = subst (IsArea (saved_text run) (records_of run.since)) (sym same.1) stands.area;
     is_state = stands.is_state;
   }
+
+  -- the area holds the records of a run state that its files stand for
+  holds_run : (run : RunState) → old.area ≡ area_of run → Stands (bytes_in before) run → HoldsRecords old.area (saved_text run) (records_of run.since) (bytes_in before 1)
+  holds_run run area stands =
+      let holds = holds_commands (bytes_in before) run stands in
+      record { is_area = holds.is_area; length_is = area ∙ holds.length_is }
 
   pub stands_still : (run next : RunState) → Stands (bytes_in before) run → EachMoment (EachStandsForEither run next) before.moments before.moments
   stands_still run next stands = start (λ image is. inl (stands_again run image is stands))
 
   -- ---- a command was kept, or may have been
 
-  module _ (record_is : List ℕ) (result : Result ℕ Failed) (kept : Keeps tells old.area record_is before after result) where
+  module _ (record_is : List ℕ) (result : Result ℕ Failed) (kept : Keeps tells area_file old.area record_is before after result) where
     header_same : file_in after 0 ≡ file_in before 0
-    header_same = (last_moment (kept.any_moment told on.records (holds_on old before.moments.now on))).others 0 (omega arith)
+    header_same = (last_moment (kept.any_moment told [] on.records on.holds)).others 0 (omega arith)
 
     pub each_stands : (run : RunState) (command : Command) → record_is ≡ record_of command → old.area ≡ area_of run → IsRunState (accepted run command) → Stands (bytes_in before) run
         → EachMoment (EachStandsForEither run (accepted run command)) before.moments after.moments
     each_stands run command is_record area next stands =
-        let holds : HoldsRecords old.area (records_of run.since) (bytes_in before 1) = record { is_area = stands.area; length_is = area ∙ area_is run stands.is_state } in
-        weaken (EachStandsForEither run (accepted run command)) (λ files so. λ image is. in_moment files so image is) (kept.any_moment told (records_of run.since) holds)
+        weaken (EachStandsForEither run (accepted run command)) (λ files so. λ image is. in_moment files so image is) (kept.any_moment told (saved_text run) (records_of run.since) (holds_run run area stands))
       where
-        in_moment : (files : Files) → KeepsOrAdds (records_of run.since) record_is before.moments.now files → (image : Bytes) → IsImage files image → Stands image run ⊎ Stands image (accepted run command)
+        in_moment : (files : Files) → KeepsOrAdds area_file (saved_text run) (records_of run.since) record_is before.moments.now files → (image : Bytes) → IsImage files image → Stands image run ⊎ Stands image (accepted run command)
         in_moment files so image is =
             let header_is : image 0 ≡ bytes_in before 0 = IsSettled-image (file_in before 0) (image 0) on.settled_header (subst (λ s. IsFileImage s (image 0)) (so.others 0 (omega arith)) (is 0 (omega arith))) in
             let header = subst (ClosedAfter (header_text run.base run.host)) (sym header_is) stands.header in
-            elim (so.image (image 1) (is 1 (omega arith))) [
+            elim (so.image_is (image 1) (is 1 (omega arith))) [
               | inl as_before ↦ inl (record { header = header; area = as_before; is_state = stands.is_state })
-              | inr with_more ↦ inr (record { header = header; area = subst (λ (r : List ℕ). IsArea [] (records_of run.since ++ r ∷ []) (image 1)) is_record with_more; is_state = next })
+              | inr with_more ↦ inr (record { header = header; area = subst (λ (r : List ℕ). IsArea (saved_text run) (records_of run.since ++ r ∷ []) (image 1)) is_record with_more; is_state = next })
             ]
 
-  module _ (record_is : List ℕ) (length_is : ℕ) (kept : Keeps tells old.area record_is before after (Ok length_is)) where
+  module _ (record_is : List ℕ) (length_is : ℕ) (kept : Keeps tells area_file old.area record_is before after (Ok length_is)) where
     pub stands_next : (run : RunState) (command : Command) → record_is ≡ record_of command → old.area ≡ area_of run → IsRunState (accepted run command) → Stands (bytes_in before) run
         → Stands (bytes_in after) (accepted run command)
-    stands_next run command is_record area next stands =
-        let holds : HoldsRecords old.area (records_of run.since) (bytes_in before 1) = record { is_area = stands.area; length_is = area ∙ area_is run stands.is_state } in
-        record {
-          header = subst (λ (s : FileState). ClosedAfter (header_text run.base run.host) s.bytes) (sym (header_same record_is (Ok length_is) kept)) stands.header;
-          area = subst (λ (r : List ℕ). IsArea [] (records_of run.since ++ r ∷ []) (bytes_in after 1)) is_record (kept.added told (records_of run.since) holds);
-          is_state = next;
-        }
+    stands_next run command is_record area next stands = record {
+      header = subst (λ (s : FileState). ClosedAfter (header_text run.base run.host) s.bytes) (sym (header_same record_is (Ok length_is) kept)) stands.header;
+      area = subst (λ (r : List ℕ). IsArea (saved_text run) (records_of run.since ++ r ∷ []) (bytes_in after 1)) is_record (kept.added told (saved_text run) (records_of run.since) (holds_run run area stands));
+      is_state = next;
+    }
 
     pub on_next : (new : Stored) → new.index.base ≡ old.index.base → new.host ≡ old.host → new.area ≡ length_is → IsOn new after.moments.now
     on_next new base host area =
@@ -109,8 +109,10 @@ module _ (tells : Bool) (told : IsTrue tells) (old : Stored) (before after : Dis
           header = subst (λ (s : FileState). ClosedAfter (header_text new.index.base on.text) s.bytes) (sym header)
               (subst (λ (b : Base). ClosedAfter (header_text b on.text) (bytes_in before 0)) (sym base) on.header);
           records = on.records ++ record_is ∷ [];
-          area = kept.added told on.records (holds_on old before.moments.now on);
-          length_is = omega (arith, area, kept.longer, on.length_is, ap length (front-push (image_front []) on.records record_is), length-append front (record_text record_is));
+          holds = record {
+            is_area = kept.added told [] on.records on.holds;
+            length_is = omega (arith, area, kept.longer, on.holds.length_is, ap length (front-push (image_front []) on.records record_is), length-append front (record_text record_is));
+          };
           settled_header = subst IsSettled (sym header) on.settled_header;
           settled_area = kept.settled told;
         }

@@ -5,10 +5,10 @@ use Rattle.chain_commands.specs.Event.{Connect}
 use Rattle.chain_commands.specs.RunState.{RunState, chain_of}
 use Rattle.chain_commands.specs.Connecting.{Holds, connects}
 use Rattle.name_store.specs.declared.store.Outcome.{Outcome}
-use Rattle.name_store.specs.Costs.{IsCheapConnect}
+use Rattle.index_commands.specs.Costs.{IsCheapConnect}
 use Rattle.name_store.specs.Outcomes.{AnswersFor, IfDone, IsFullOf}
 use Rattle.name_store.specs.Stored.{Stored, StandsFor}
-use Rattle.name_store.specs.Views.{refusal_of}
+use Rattle.index_commands.specs.Views.{refusal_of}
 
 abbrev pub ConnectsFor : ℕ → RunState → List ℕ → Outcome Refusal → Type 0
 ConnectsFor most run bytes = AnswersFor connects (Holds (IsFullOf most run (Connect bytes)) (chain_of run) bytes) refusal_of run (Connect bytes)

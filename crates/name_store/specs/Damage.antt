@@ -4,11 +4,11 @@ use Rattle.std.specs.Prelude.{◌≡◌, ◌≢◌, ℕ, ◌<◌, ◌≤◌, Lis
 use Rattle.nmc_base.specs.Heights.{highest}
 use Rattle.gate_journal.specs.Gate.{IsOpen}
 use Rattle.gate_journal.specs.Records.{image_front}
-use Rattle.chain_commands.specs.Chain.{Chain}
+use Rattle.chain_state.specs.Chain.{Indexed, IsAtBase}
 use Rattle.chain_commands.specs.Event.{Command}
-use Rattle.chain_commands.specs.RunState.{on_base, longest_area}
+use Rattle.chain_commands.specs.RunState.{longest_area}
 use Rattle.name_store.specs.Header.{IsProfile, magic, magic_at, profile_at, height_at, HasHost, HasFields, IsInitialised, HasHeader, IsShut, selections_at, base_at}
-use Rattle.name_store.specs.Commands.{AreRead, IsNext, gate_behind}
+use Rattle.name_store.specs.Commands.{Origin, without_image, AreRead, IsNext, gate_behind}
 use Rattle.name_store.specs.Stands.{Bytes}
 
 -- The first field of the header that is none, by its place.
@@ -23,13 +23,15 @@ pub record HasNoImage (area : List ℕ) : Type 0 where
   pub long : 9 ≤ length area
   pub empty : take 8 area ≡ image_front []
 
--- Behind the records of these commands the gate is open, and no record of a command that is allowed stands there.
-pub record HasBadRecord (first : Chain) (limit : ℕ) (area : List ℕ) (at : ℕ) : Type 0 where
+-- Behind the records of these commands, which lead from the first index to this one, the gate is open, and no record of a command
+-- that this index takes stands there.
+pub record HasBadRecord (first : Origin) (limit : ℕ) (area : List ℕ) (at : ℕ) : Type 0 where
   pub commands : List Command
-  pub read : AreRead first limit area commands
-  pub at_is : at ≡ gate_behind commands
+  pub index : Indexed
+  pub read : AreRead first limit area commands index
+  pub at_is : at ≡ gate_behind first.front commands
   pub is_open : IsOpen area at
-  pub no_next : (command : Command) → IsNext first limit area commands command → ⊥
+  pub no_next : (command : Command) → IsNext first.front limit area commands index command → ⊥
 
 -- the number of a file
 abbrev pub header_file : ℕ
@@ -47,4 +49,6 @@ pub data IsDamaged (files : Bytes) (file at : ℕ) : Type 0 where
   -- no gate stands behind the header, or it is open: there are no selections yet
   selection : file ≡ header_file → IsInitialised (files 0) → HasFields (files 0) → at ≡ selections_at (files 0) → ¬ (IsShut (files 0) at) → IsDamaged files file at
   image : file ≡ area_file → HasHeader (files 0) → at ≡ area_start → ¬ (HasNoImage (files 1)) → IsDamaged files file at
-  command : file ≡ area_file → HasHeader (files 0) → HasNoImage (files 1) → HasBadRecord (on_base (base_at (files 0)) []) longest_area (files 1) at → IsDamaged files file at
+  -- from the index of the base alone on
+  command : file ≡ area_file → HasHeader (files 0) → HasNoImage (files 1) → (first : Indexed) → IsAtBase (base_at (files 0)) first
+      → HasBadRecord (without_image first) longest_area (files 1) at → IsDamaged files file at

@@ -6,10 +6,10 @@ use Rattle.chain_commands.specs.Event.{Disconnect}
 use Rattle.chain_commands.specs.RunState.{RunState, chain_of}
 use Rattle.chain_commands.specs.Disconnecting.{HoldsBack, disconnects}
 use Rattle.name_store.specs.declared.store.Outcome.{Outcome}
-use Rattle.name_store.specs.Costs.{IsCheapDisconnect}
+use Rattle.index_commands.specs.Costs.{IsCheapDisconnect}
 use Rattle.name_store.specs.Outcomes.{AnswersFor, IfDone, IsFullOf}
 use Rattle.name_store.specs.Stored.{Stored, StandsFor}
-use Rattle.name_store.specs.Views.{back_refusal_of}
+use Rattle.index_commands.specs.Views.{back_refusal_of}
 
 abbrev pub DisconnectsFor : ℕ → RunState → List ℕ → Outcome BackRefusal → Type 0
 DisconnectsFor most run hash = AnswersFor disconnects (HoldsBack (IsFullOf most run (Disconnect hash)) (chain_of run) hash) back_refusal_of run (Disconnect hash)

@@ -1,10 +1,11 @@
--- Faults of the area's journal as those of an opening.
+-- Faults of a file's journal as those of an opening.
+use Rattle.std.specs.Prelude.{ℕ}
 use Rattle.gate_journal.specs.declared.faults.JournalFault.{JournalFault}
 use Rattle.gate_journal.specs.declared.faults.JournalFault.TheVariants as journal
 use Rattle.name_store.specs.declared.faults.OpenFault.{OpenFault}
 use Rattle.name_store.specs.declared.faults.OpenFault.TheVariants.{Damaged, DiskFault, NoMemory}
 
-abbrev pub of_journal : JournalFault → OpenFault
-of_journal journal.DiskFault = DiskFault
-of_journal (journal.Damaged at) = Damaged 1 at
-of_journal journal.NoMemory = NoMemory
+abbrev pub of_journal : ℕ → JournalFault → OpenFault
+of_journal file journal.DiskFault = DiskFault
+of_journal file (journal.Damaged at) = Damaged file at
+of_journal file journal.NoMemory = NoMemory

@@ -1,8 +1,3 @@
-pub mod Views
-pub mod Standing
-pub mod Stages
-pub mod GivenUp
-pub mod Costs
 pub mod Host
 pub mod Faults
 pub mod Spelling

@@ -1,25 +1,22 @@
--- What the parts of an opening answer: the header, the front of the area, a command, and the commands of the area.
-use Rattle.std.specs.Prelude.{◌≡◌, ◌⊎◌, ℕ, ◌+◌, ◌-◌, ◌≤◌, Bool, false, IsTrue, List, [], take, drop, Result, Ok, Err, ⊤}
+-- What the parts of an opening answer: the header, the front of an area, and the commands of an area.
+use Rattle.std.specs.Prelude.{◌≡◌, ◌⊎◌, ℕ, ◌+◌, ◌-◌, ◌<◌, ◌≤◌, Bool, false, IsTrue, List, length, take, drop, Result, Ok, Err, ⊤}
 use Rattle.std.specs.Int.{w32, to_le_bytes}
 use Rattle.nmc_base.specs.declared.chain_ends.Base.{Base}
 use Rattle.chain_state.specs.Chain.{Indexed}
-use Rattle.name_store.specs.Standing as chains
 use Rattle.gate_journal.specs.Stand.{Stand}
-use Rattle.chain_commands.specs.Chain.{Chain}
 use Rattle.chain_commands.specs.Event.{Command}
-use Rattle.chain_commands.specs.RunState.{after_command, after_commands, grown_by, longest_area, on_base}
+use Rattle.chain_commands.specs.RunState.{grown_by, longest_area}
+use Rattle.index_commands.specs.Taking.{LeadsTo}
 use Rattle.name_store.specs.declared.faults.OpenFault.{OpenFault}
 use Rattle.name_store.specs.declared.faults.OpenFault.TheVariants.{Uninitialised, Damaged, DiskFault, NoMemory}
 use Rattle.name_store.specs.declared.header.Header.{Header}
-use Rattle.name_store.specs.declared.following.Unfollowed.{Unfollowed}
-use Rattle.name_store.specs.declared.following.Unfollowed.TheVariants as unfollowed
 use Rattle.name_store.specs.declared.reading.Reading.{Reading}
 use Rattle.name_store.specs.declared.reading.Stepped.{Stepped}
 use Rattle.name_store.specs.declared.reading.Stepped.TheVariants as stepped
 use Rattle.name_store.specs.Host.{IsHostOf}
 use Rattle.name_store.specs.Header.{IsBegun, IsInitialised, IsUninitialised, HasFields, HasHeader, IsShut, selections_at, base_at, height_at, host_at}
-use Rattle.name_store.specs.Commands.{record_of, IsAllowed, AreAllowed, AreRead}
-use Rattle.name_store.specs.Damage.{HasBadField, HasBadRecord, HasNoImage, header_file, area_file, area_start}
+use Rattle.name_store.specs.Commands.{Origin, HasCommands}
+use Rattle.name_store.specs.Damage.{HasBadField, HasBadRecord, HasNoImage, header_file, area_start}
 
 -- ---- the header
 
@@ -48,96 +45,81 @@ pub record IsBegunBy (header : Header) : Type 0 where
   pub begun : IsBegun header.base text
   pub host_is : IsHostOf text header.host
 
--- ---- the front of the area
+-- ---- the front of an area
 
-abbrev pub first_gate : Stand
-first_gate = record { file = area_file; length = 9; limit = longest_area; reached = false }
+-- behind an empty image
+abbrev pub first_gate : ℕ → Stand
+first_gate file = record { file = file; length = 9; limit = longest_area; reached = false }
 
-abbrev pub AreaAnswer : List ℕ → Result Stand OpenFault → Type 0
-AreaAnswer area (Ok journal) = HasNoImage area
-AreaAnswer area (Err Uninitialised) = ⊥
-AreaAnswer area (Err (Damaged number at)) = (number ≡ area_file) × (at ≡ area_start) × ¬ (HasNoImage area)
-AreaAnswer area (Err DiskFault) = ⊤
-AreaAnswer area (Err NoMemory) = ⊤
+abbrev pub AreaAnswer : ℕ → List ℕ → Result Stand OpenFault → Type 0
+AreaAnswer file area (Ok journal) = HasNoImage area
+AreaAnswer file area (Err Uninitialised) = ⊥
+AreaAnswer file area (Err (Damaged number at)) = (number ≡ file) × (at ≡ area_start) × ¬ (HasNoImage area)
+AreaAnswer file area (Err DiskFault) = ⊤
+AreaAnswer file area (Err NoMemory) = ⊤
 
--- ---- one command
+-- the journal stands at the gate behind this front, with which the area begins where the disk tells it
+pub record IsBehind (tells : Bool) (front : List ℕ) (journal : Stand) (area : List ℕ) : Type 0 where
+  pub length_is : journal.length ≡ length front + 1
+  pub begins : IsTrue tells → take (length front) area ≡ front
+  pub inside : IsTrue tells → length front < length area
 
--- the record is that of a command that the chain takes, and the index stands for the chain behind it
-pub record Follows (chain : Chain) (record_is : List ℕ) (index : Indexed) : Type 0 where
-  pub command : Command
-  pub is : record_is ≡ record_of command
-  pub allowed : IsAllowed chain command
-  pub stands : chains.StandsFor index (after_command chain command)
-
--- it is that of no command that the chain takes
-abbrev pub FollowsNot : Chain → List ℕ → Type 0
-FollowsNot chain record_is = (command : Command) → record_is ≡ record_of command → IsAllowed chain command → ⊥
-
-abbrev pub FollowAnswer : Chain → List ℕ → Result Indexed Unfollowed → Type 0
-FollowAnswer chain record_is (Ok index) = Follows chain record_is index
-FollowAnswer chain record_is (Err unfollowed.Refused) = FollowsNot chain record_is
-FollowAnswer chain record_is (Err unfollowed.NoMemory) = ⊤
-
--- of every chain that the index stood for
-abbrev pub FollowsRecord : Indexed → List ℕ → Result Indexed Unfollowed → Type 0
-FollowsRecord old record_is result = (chain : Chain) → chains.StandsFor old chain → FollowAnswer chain record_is result
+-- a journal in the file of an area, within its limit
+pub record IsInArea (file : ℕ) (journal : Stand) : Type 0 where
+  pub file_is : journal.file ≡ file
+  pub limit_is : journal.limit ≡ longest_area
+  pub some : 9 ≤ journal.length
+  pub within : journal.length ≤ longest_area
 
 -- ---- the commands
 
--- From the first chain on these commands were followed, and the index stands for the chain behind them. Where the disk
--- tells its files, they are the records of the area so far.
-pub record HasFollowed (tells : Bool) (first : Chain) (area : List ℕ) (index : Indexed) (reached : ℕ) : Type 0 where
+-- These commands were followed, and lead from the first index to this one. Where the disk tells its files, their records are those of
+-- the area so far.
+pub record HasFollowed (tells : Bool) (first : Origin) (area : List ℕ) (index : Indexed) (reached : ℕ) : Type 0 where
   pub commands : List Command
-  pub allowed : AreAllowed first commands
-  pub stands : chains.StandsFor index (after_commands first commands)
-  pub reached_is : reached ≡ grown_by commands 9
-  pub read : IsTrue tells → AreRead first longest_area area commands
+  pub leads : LeadsTo first.index commands index
+  pub reached_is : reached ≡ grown_by commands (length first.front + 1)
+  pub read : IsTrue tells → HasCommands first.front longest_area area commands
 
 -- and behind them stands a closed gate
-pub record HasFollowedAll (tells : Bool) (first : Chain) (area : List ℕ) (index : Indexed) (reached : ℕ) : Type 0 where
+pub record HasFollowedAll (tells : Bool) (first : Origin) (area : List ℕ) (index : Indexed) (reached : ℕ) : Type 0 where
   pub some : HasFollowed tells first area index reached
   pub shut : IsTrue tells → IsShut area (reached - 1)
 
 -- ---- one step of reading them, and all of them
 
-abbrev pub StepAnswer : Bool → Chain → List ℕ → Result Stepped OpenFault → Type 0
-StepAnswer tells first area (Ok (stepped.More reading)) = HasFollowed tells first area reading.chain reading.journal.length
-StepAnswer tells first area (Ok (stepped.All reading)) = HasFollowedAll tells first area reading.chain reading.journal.length
-StepAnswer tells first area (Err Uninitialised) = ⊥
-StepAnswer tells first area (Err (Damaged number at)) = IsTrue tells → (number ≡ area_file) × HasBadRecord first longest_area area at
-StepAnswer tells first area (Err DiskFault) = ⊤
-StepAnswer tells first area (Err NoMemory) = ⊤
+abbrev pub StepAnswer : Bool → Origin → (file : ℕ) (area : List ℕ) → Result Stepped OpenFault → Type 0
+StepAnswer tells first file area (Ok (stepped.More reading)) = HasFollowed tells first area reading.chain reading.journal.length
+StepAnswer tells first file area (Ok (stepped.All reading)) = HasFollowedAll tells first area reading.chain reading.journal.length
+StepAnswer tells first file area (Err Uninitialised) = ⊥
+StepAnswer tells first file area (Err (Damaged number at)) = IsTrue tells → (number ≡ file) × HasBadRecord first longest_area area at
+StepAnswer tells first file area (Err DiskFault) = ⊤
+StepAnswer tells first file area (Err NoMemory) = ⊤
 
--- of every chain whose commands were followed so far
-abbrev pub StepsOn : Bool → Reading → List ℕ → Result Stepped OpenFault → Type 0
-StepsOn tells old area result = (first : Chain) → HasFollowed tells first area old.chain old.journal.length → StepAnswer tells first area result
-
--- a journal in the area, within its limit
-pub record IsInArea (journal : Stand) : Type 0 where
-  pub file_is : journal.file ≡ area_file
-  pub limit_is : journal.limit ≡ longest_area
-  pub some : 9 ≤ journal.length
-  pub within : journal.length ≤ longest_area
+-- wherever the commands begin that were followed so far
+abbrev pub StepsOn : Bool → Reading → (file : ℕ) (area : List ℕ) → Result Stepped OpenFault → Type 0
+StepsOn tells old file area result = (first : Origin) → HasFollowed tells first area old.chain old.journal.length → StepAnswer tells first file area result
 
 -- the journal went on by a record, or stands at its gate
-abbrev pub MovesOn : Stand → Stepped → Type 0
-MovesOn old (stepped.More reading) = IsInArea reading.journal × (old.length + 5 ≤ reading.journal.length)
-MovesOn old (stepped.All reading) = IsInArea reading.journal × (reading.journal.length ≡ old.length)
+abbrev pub MovesOn : ℕ → Stand → Stepped → Type 0
+MovesOn file old (stepped.More reading) = IsInArea file reading.journal × (old.length + 5 ≤ reading.journal.length)
+MovesOn file old (stepped.All reading) = IsInArea file reading.journal × (reading.journal.length ≡ old.length)
 
 abbrev pub reading_of : Stepped → Reading
 reading_of (stepped.More reading) = reading
 reading_of (stepped.All reading) = reading
 
-abbrev pub AllAnswer : Bool → Chain → List ℕ → Result Reading OpenFault → Type 0
-AllAnswer tells first area (Ok reading) = HasFollowedAll tells first area reading.chain reading.journal.length
-AllAnswer tells first area (Err Uninitialised) = ⊥
-AllAnswer tells first area (Err (Damaged number at)) = IsTrue tells → (number ≡ area_file) × HasBadRecord first longest_area area at
-AllAnswer tells first area (Err DiskFault) = ⊤
-AllAnswer tells first area (Err NoMemory) = ⊤
+abbrev pub AllAnswer : Bool → Origin → (file : ℕ) (area : List ℕ) → Result Reading OpenFault → Type 0
+AllAnswer tells first file area (Ok reading) = HasFollowedAll tells first area reading.chain reading.journal.length
+AllAnswer tells first file area (Err Uninitialised) = ⊥
+AllAnswer tells first file area (Err (Damaged number at)) = IsTrue tells → (number ≡ file) × HasBadRecord first longest_area area at
+AllAnswer tells first file area (Err DiskFault) = ⊤
+AllAnswer tells first file area (Err NoMemory) = ⊤
 
-abbrev pub ReadsAll : Bool → Reading → List ℕ → Result Reading OpenFault → Type 0
-ReadsAll tells old area result = (first : Chain) → HasFollowed tells first area old.chain old.journal.length → AllAnswer tells first area result
+abbrev pub ReadsAll : Bool → Reading → (file : ℕ) (area : List ℕ) → Result Reading OpenFault → Type 0
+ReadsAll tells old file area result = (first : Origin) → HasFollowed tells first area old.chain old.journal.length → AllAnswer tells first file area result
 
--- from the base on
-abbrev pub FollowsArea : Bool → Base → List ℕ → Result Reading OpenFault → Type 0
-FollowsArea tells base area result = AllAnswer tells (on_base base []) area result
+-- from this index on, wherever the journal's first gate stands
+abbrev pub FollowsArea : Bool → Indexed → Stand → (file : ℕ) (area : List ℕ) → Result Reading OpenFault → Type 0
+FollowsArea tells index journal file area result =
+    (front : List ℕ) → IsBehind tells front journal area → AllAnswer tells (record { front = front; index = index }) file area result

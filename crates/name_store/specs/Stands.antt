@@ -6,7 +6,8 @@ use Rattle.gate_journal.specs.Gate.{ClosedAfter}
 use Rattle.gate_journal.specs.Records.{IsArea}
 use Rattle.chain_commands.specs.RunState.{RunState, on_base, area_of, longest_area, saved_text}
 use Rattle.name_store.specs.Header.{IsBegun, header_text}
-use Rattle.name_store.specs.Commands.{records_of, AreAllowed}
+use Rattle.index_commands.specs.Records.{records_of}
+use Rattle.index_commands.specs.Allowed.{AreAllowed}
 
 -- the bytes of each file
 abbrev pub Bytes : Type 0

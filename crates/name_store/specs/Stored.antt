@@ -1,16 +1,16 @@
 -- What a store keeps, what it stands for, and when it is on a disk.
-use Rattle.std.specs.Prelude.{◌≡◌, ℕ, ◌+◌, List, [], ◌++◌, length}
+use Rattle.std.specs.Prelude.{◌≡◌, ℕ, List, []}
 use Rattle.disk_model.specs.FileState.{IsSettled}
 use Rattle.disk_model.specs.Moments.{Files}
 use Rattle.gate_journal.specs.Gate.{ClosedAfter}
-use Rattle.gate_journal.specs.Records.{IsArea, records_text, image_front}
 use Rattle.chain_state.specs.Chain.{Indexed}
-use Rattle.name_store.specs.Standing as chains
+use Rattle.index_commands.specs.Standing as chains
 use Rattle.nmc_base.specs.declared.chain_ends.Tip.{Tip}
 use Rattle.chain_commands.specs.Chain.{Chain, height_of, tip_hash}
 use Rattle.chain_commands.specs.RunState.{RunState, chain_of, area_of}
 use Rattle.name_store.specs.Header.{header_text}
 use Rattle.name_store.specs.Host.{IsHostOf}
+use Rattle.name_store.specs.Keeping.{HoldsRecords}
 use Rattle.name_store.specs.Stands.{IsRunState, EachStands}
 
 -- the index, the name of the base's host on the wire, and the length of the area
@@ -37,8 +37,7 @@ pub record IsOn (store : Stored) (files : Files) : Type 0 where
   pub host : IsHostOf text store.host
   pub header : ClosedAfter (header_text store.index.base text) (files 0).bytes
   pub records : List (List ℕ)
-  pub area : IsArea [] records (files 1).bytes
-  pub length_is : store.area ≡ length (image_front [] ++ records_text records) + 1
+  pub holds : HoldsRecords store.area [] records (files 1).bytes
   pub settled_header : IsSettled (files 0)
   pub settled_area : IsSettled (files 1)
 

@@ -1,4 +1,6 @@
-use crate::limits::AREA_FILE;
+ghost use Rattle.std.specs.Prelude.{◌≡◌};
+ghost use Rattle.name_store.specs.Faults.{of_journal};
+
 use disk_model::Failed;
 use gate_journal::JournalFault;
 use nmc_base::NoMemory as NoRoom;
@@ -62,20 +64,14 @@ impl From<NoRoom> for OpenFault {
     }
 }
 
-/// The fault of the area's journal.
-impl From<JournalFault> for OpenFault {
-    ghost use Rattle.std.specs.Prelude.{◌≡◌};
-    ghost use Rattle.name_store.specs.Faults.{of_journal};
-
-    ghost from_gives = { λ fault e. e ≡ of_journal fault };
-
-    fn from(fault: JournalFault) -> Self {
+impl OpenFault {
+    /// The fault of the journal in this file.
+    pub(crate) fn of(file: u8, fault: JournalFault) -> OpenFault
+        ensures { result ≡ of_journal file fault }
+    {
         match fault {
             JournalFault::DiskFault => OpenFault::DiskFault,
-            JournalFault::Damaged { at } => OpenFault::Damaged {
-                file: AREA_FILE,
-                at,
-            },
+            JournalFault::Damaged { at } => OpenFault::Damaged { file, at },
             JournalFault::NoMemory => OpenFault::NoMemory,
         }
     }

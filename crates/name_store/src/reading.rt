@@ -1,4 +1,4 @@
-//! Reading the commands of the area, one after the other.
+//! Reading the commands of an area, one after the other.
 ghost use Rattle.std.specs.Prelude.{◌≡◌, IsTrue, IfOk};
 ghost use Rattle.disk_model.specs.Moments.{EachMoment};
 ghost use Rattle.disk_model.specs.Changes.{Unchanged};
@@ -7,16 +7,15 @@ ghost use Rattle.gate_journal.specs.Stand.{IsReadable};
 ghost use Rattle.name_store.specs.Reading.{StepsOn, ReadsAll, IsInArea, MovesOn, reading_of};
 
 use crate::faults::OpenFault;
-use crate::following::{Unfollowed, follow};
-use crate::limits::AREA_FILE;
 use chain_state::Chain;
 use disk_model::Disk;
 use gate_journal::Journal;
+use index_commands::{Unfollowed, follow};
 use nmc_base::{Bytes, Steps};
 use std::alloc::Global;
 use std::sync::ledger::Ledger;
 
-/// What was read so far: where the journal stands, the chain behind the commands, and room for one record.
+/// What was read so far: where the journal stands, the index behind the commands, and room for one record.
 #[derive(Drop)]
 pub struct Reading {
     pub journal: Journal,
@@ -37,18 +36,19 @@ pub enum Stepped {
 /// Lets go of what was read, in a place of its own: such a place is dear to prove.
 fn let_go(_reading: Reading) {}
 
-/// Follows the next command of the area.
+/// Follows the next command of the area in this file.
 fn step<D: Disk, L: Ledger>(
     reading: Reading,
     alloc: Global,
     disk: &mut D,
+    file: u8,
     steps: &mut Steps<L>,
 ) -> Result<Stepped, OpenFault>
-    requires area { IsInArea reading.journal }
-    requires readable { IsTrue D.tells → IsReadable reading.journal (file_in (D.seen disk.old) 1) }
-    ensures steps_on { StepsOn D.tells reading (bytes_in (D.seen disk.old) 1) result }
-    ensures moves { IfOk result (MovesOn reading.journal) }
-    ensures readable { IsTrue D.tells → IfOk result (λ stepped. IsReadable (reading_of stepped).journal (file_in (D.seen disk.new) 1)) }
+    requires area { IsInArea file reading.journal }
+    requires readable { IsTrue D.tells → IsReadable reading.journal (file_in (D.seen disk.old) file) }
+    ensures steps_on { StepsOn D.tells reading file (bytes_in (D.seen disk.old) file) result }
+    ensures moves { IfOk result (MovesOn file reading.journal) }
+    ensures readable { IsTrue D.tells → IfOk result (λ stepped. IsReadable (reading_of stepped).journal (file_in (D.seen disk.new) file)) }
     ensures time { IsTrue D.tells → EachMoment (Unchanged (D.seen disk.old).moments.now) (D.seen disk.old).moments (D.seen disk.new).moments }
     ensures reads { (D.seen disk.new).changes ≡ (D.seen disk.old).changes }
     ensures ends { EndsWith OpenFault.DiskFault (D.seen disk.old) (D.seen disk.new) result }
@@ -74,10 +74,7 @@ fn step<D: Disk, L: Ledger>(
                     chain,
                     held,
                 })),
-                Err(Unfollowed::Refused) => Err(OpenFault::Damaged {
-                    file: AREA_FILE,
-                    at,
-                }),
+                Err(Unfollowed::Refused) => Err(OpenFault::Damaged { file, at }),
                 Err(Unfollowed::NoMemory) => Err(OpenFault::NoMemory),
             }
         }
@@ -87,29 +84,30 @@ fn step<D: Disk, L: Ledger>(
                 chain,
                 held,
             });
-            Err(OpenFault::from(fault))
+            Err(OpenFault::of(file, fault))
         }
     }
 }
 
-/// Follows all commands of the area, up to its closed gate.
+/// Follows all commands of the area in this file, up to its closed gate.
 pub fn read_all<D: Disk, L: Ledger>(
     reading: Reading,
     alloc: Global,
     disk: &mut D,
+    file: u8,
     steps: &mut Steps<L>,
 ) -> Result<Reading, OpenFault>
-    requires area { IsInArea reading.journal }
-    requires readable { IsTrue D.tells → IsReadable reading.journal (file_in (D.seen disk.old) 1) }
-    ensures follows { ReadsAll D.tells reading (bytes_in (D.seen disk.old) 1) result }
-    ensures in_area { IfOk result (λ reading. IsInArea reading.journal) }
+    requires area { IsInArea file reading.journal }
+    requires readable { IsTrue D.tells → IsReadable reading.journal (file_in (D.seen disk.old) file) }
+    ensures follows { ReadsAll D.tells reading file (bytes_in (D.seen disk.old) file) result }
+    ensures in_area { IfOk result (λ reading. IsInArea file reading.journal) }
     ensures time { IsTrue D.tells → EachMoment (Unchanged (D.seen disk.old).moments.now) (D.seen disk.old).moments (D.seen disk.new).moments }
     ensures reads { (D.seen disk.new).changes ≡ (D.seen disk.old).changes }
     ensures ends { EndsWith OpenFault.DiskFault (D.seen disk.old) (D.seen disk.new) result }
 {
     let mut reading = reading;
     'records: loop {
-        match step(reading, alloc, disk, steps) {
+        match step(reading, alloc, disk, file, steps) {
             Ok(Stepped::More(next)) => reading = next,
             Ok(Stepped::All(all)) => return Ok(all),
             Err(fault) => return Err(fault),

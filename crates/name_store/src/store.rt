@@ -3,21 +3,21 @@ ghost use Rattle.nmc_base.specs.declared.limits.TheConstants.{LONGEST_BLOCK};
 ghost use Rattle.chain_commands.specs.RunState.{longest_area};
 ghost use Rattle.chain_commands.specs.Event.{Connect, Disconnect};
 ghost use Rattle.name_store.specs.Stored.{IsOn};
-ghost use Rattle.name_store.specs.Stages.{IsFullWith};
+ghost use Rattle.index_commands.specs.Stages.{IsFullWith};
 ghost use Rattle.name_store.specs.ByIndex.{ConnectsOn, DisconnectsOn};
 ghost use Rattle.name_store.specs.Outcomes.{IfUndone, LeavesDisk, KeepsOn};
 ghost use Rattle.name_store.specs.declared.limits.TheConstants.{EMPTY_AREA};
 ghost use Rattle.name_store.specs.Connecting as connecting;
 ghost use Rattle.name_store.specs.Disconnecting as disconnecting;
 
-use crate::keeping::{CONNECT, DISCONNECT, keep};
-use crate::limits::LONGEST_AREA;
-use crate::staging::{stage_bytes, stage_hash};
+use crate::keeping::keep;
+use crate::limits::{AREA_FILE, LONGEST_AREA};
 use chain_state::{
     BackOutcome, BackRefusal, Chain, Refusal, StageOutcome, StagedBack, StagedChain,
 };
 use disk_model::Disk;
 use domain_text::Name;
+use index_commands::{CONNECT, DISCONNECT, stage_bytes, stage_hash};
 use nmc_base::{Hash32, Steps, Tip};
 use std::alloc::Global;
 use std::marker::Model;
@@ -125,7 +125,7 @@ impl Store {
             }
             StageOutcome::NoMemory(chain) => return Outcome::NoMemory(Store { chain, host, area }),
         };
-        match keep(disk, area, CONNECT, bytes) {
+        match keep(disk, AREA_FILE, area, CONNECT, bytes) {
             Ok(area) => Store::done(staged.commit(steps), host, area),
             Err(_) => {
                 let_go(staged);
@@ -160,7 +160,7 @@ impl Store {
             }
             BackOutcome::NoMemory(chain) => return Outcome::NoMemory(Store { chain, host, area }),
         };
-        match keep(disk, area, DISCONNECT, &hash.0) {
+        match keep(disk, AREA_FILE, area, DISCONNECT, &hash.0) {
             Ok(area) => Store::done(staged.commit(steps), host, area),
             Err(_) => {
                 let_go_back(staged);

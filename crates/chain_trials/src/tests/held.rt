@@ -5,7 +5,7 @@ ghost use Rattle.nmc_base.specs.declared.limits.TheConstants.{HIGHEST_HEIGHT};
 
 use super::stop::Stop;
 use chain_state::{BackOutcome, Chain, Refusal, StageOutcome};
-use name_store::{stage_bytes, stage_hash};
+use index_commands::{stage_bytes, stage_hash};
 use nmc_base::{Base, LONGEST_BLOCK, Steps};
 use std::alloc::Global;
 use std::sync::ledger::Ledger;

@@ -1,6 +1,6 @@
 use Rattle.std.proofs.Common.{ℕ, List, Some, take, refl, sym, subst}
 use Rattle.chain_state.specs.Chain.{Indexed}
-use Rattle.name_store.specs.Standing as chains
+use Rattle.index_commands.specs.Standing as chains
 use Rattle.dns_message.specs.declared.numbers.TheConstants.{LEAST_LIMIT}
 use Rattle.bit_resolver.specs.Replies.{MayReply}
 use Rattle.chain_commands.specs.RunState.{chain_of}

@@ -1,6 +1,9 @@
-use Rattle.std.proofs.Common.{ap, length, arith}
-use Rattle.name_store.proofs.AllowedLemmas.{same_some}
+use Rattle.std.proofs.Common.{◌≡◌, Some, ap, length, arith}
 use Rattle.name_store.proofs.host.host_name.Goals as goal
+
+-- what is taken out of two equal options
+same_some : {A : Type 0} (a b : A) → Some a ≡ Some b → a ≡ b
+same_some a b e = cc
 
 pub returns-else-wire-le-LONGEST_HOST_NAME : goal.returns-else-wire-le-LONGEST_HOST_NAME
 returns-else-wire-le-LONGEST_HOST_NAME c = λ is.

@@ -25,15 +25,16 @@ records-preserved g c =
     let old = g.D.Disk.seen c.args.disk.now in
     let mid = g.D.Disk.seen c.records.disk in
     let new = g.D.Disk.seen c.step.new.disk in
-    let same = same_bytes tells old mid 1 c.records.invariant.time in
-    let on = subst (λ (s : Stepped). StepsOn tells c.records.reading (bytes_in mid 1) (Ok s)) c.in-Ok-More.field-0-is c.in-Ok-More.ensures.steps_on in
-    let moves = subst (λ (s : Stepped). MovesOn c.records.reading.journal s) c.in-Ok-More.field-0-is c.in-Ok-More.ensures.moves in
+    let file = c.args.file in
+    let same = same_bytes tells old mid file c.records.invariant.time in
+    let on = subst (λ (s : Stepped). StepsOn tells c.records.reading file (bytes_in mid file) (Ok s)) c.in-Ok-More.field-0-is c.in-Ok-More.ensures.steps_on in
+    let moves = subst (λ (s : Stepped). MovesOn c.args.file c.records.reading.journal s) c.in-Ok-More.field-0-is c.in-Ok-More.ensures.moves in
     record {
       followed = λ first some.
-          followed_same tells first (bytes_in mid 1) (bytes_in old 1) (λ told. sym (same told)) c.in-Ok-More.next.chain c.in-Ok-More.next.journal.length
-          (on first (followed_same tells first (bytes_in old 1) (bytes_in mid 1) same c.records.reading.chain c.records.reading.journal.length (c.records.invariant.followed first some)));
+          followed_same tells first (bytes_in mid file) (bytes_in old file) (λ told. sym (same told)) c.in-Ok-More.next.chain c.in-Ok-More.next.journal.length
+          (on first (followed_same tells first (bytes_in old file) (bytes_in mid file) same c.records.reading.chain c.records.reading.journal.length (c.records.invariant.followed first some)));
       area = moves.0;
-      readable = subst (λ (s : Stepped). IsTrue tells → IsReadable (reading_of s).journal (file_in new 1)) c.in-Ok-More.field-0-is c.in-Ok-More.ensures.readable;
+      readable = subst (λ (s : Stepped). IsTrue tells → IsReadable (reading_of s).journal (file_in new file)) c.in-Ok-More.field-0-is c.in-Ok-More.ensures.readable;
       time = λ told. unchanged_then (c.records.invariant.time told) (c.in-Ok-More.ensures.time told);
       reads = c.in-Ok-More.ensures.reads ∙ c.records.invariant.reads;
       later = never_fell c.records.invariant.later c.in-Ok-More.ensures.ends.later;
@@ -41,7 +42,7 @@ records-preserved g c =
 
 pub records-smaller : goal.records-smaller
 records-smaller g c =
-    let moves = subst (λ (s : Stepped). MovesOn c.records.reading.journal s) c.in-Ok-More.field-0-is c.in-Ok-More.ensures.moves in
+    let moves = subst (λ (s : Stepped). MovesOn c.args.file c.records.reading.journal s) c.in-Ok-More.field-0-is c.in-Ok-More.ensures.moves in
     omega (arith, moves.1, moves.0.within)
 
 pub returns-in-Ok-All : goal.returns-in-Ok-All
@@ -49,13 +50,14 @@ returns-in-Ok-All g c =
     let tells = g.D.Disk.tells in
     let old = g.D.Disk.seen c.args.disk.now in
     let mid = g.D.Disk.seen c.records.disk in
-    let same = same_bytes tells old mid 1 c.records.invariant.time in
-    let on = subst (λ (s : Stepped). StepsOn tells c.records.reading (bytes_in mid 1) (Ok s)) c.in-Ok-All.field-0-is c.in-Ok-All.ensures.steps_on in
-    let moves = subst (λ (s : Stepped). MovesOn c.records.reading.journal s) c.in-Ok-All.field-0-is c.in-Ok-All.ensures.moves in
+    let file = c.args.file in
+    let same = same_bytes tells old mid file c.records.invariant.time in
+    let on = subst (λ (s : Stepped). StepsOn tells c.records.reading file (bytes_in mid file) (Ok s)) c.in-Ok-All.field-0-is c.in-Ok-All.ensures.steps_on in
+    let moves = subst (λ (s : Stepped). MovesOn c.args.file c.records.reading.journal s) c.in-Ok-All.field-0-is c.in-Ok-All.ensures.moves in
     record {
       follows = λ first some.
-          followed_all_same tells first (bytes_in mid 1) (bytes_in old 1) (λ told. sym (same told)) c.in-Ok-All.all.chain c.in-Ok-All.all.journal.length
-          (on first (followed_same tells first (bytes_in old 1) (bytes_in mid 1) same c.records.reading.chain c.records.reading.journal.length (c.records.invariant.followed first some)));
+          followed_all_same tells first (bytes_in mid file) (bytes_in old file) (λ told. sym (same told)) c.in-Ok-All.all.chain c.in-Ok-All.all.journal.length
+          (on first (followed_same tells first (bytes_in old file) (bytes_in mid file) same c.records.reading.chain c.records.reading.journal.length (c.records.invariant.followed first some)));
       in_area = moves.0;
       time = λ told. unchanged_then (c.records.invariant.time told) (c.in-Ok-All.ensures.time told);
       reads = c.in-Ok-All.ensures.reads ∙ c.records.invariant.reads;
@@ -67,11 +69,12 @@ returns-in-Err g c =
     let tells = g.D.Disk.tells in
     let old = g.D.Disk.seen c.args.disk.now in
     let mid = g.D.Disk.seen c.records.disk in
-    let same = same_bytes tells old mid 1 c.records.invariant.time in
+    let file = c.args.file in
+    let same = same_bytes tells old mid file c.records.invariant.time in
     record {
       follows = λ first some.
-          fault_same tells first (bytes_in mid 1) (bytes_in old 1) (λ told. sym (same told)) c.in-Err.fault
-          (c.in-Err.ensures.steps_on first (followed_same tells first (bytes_in old 1) (bytes_in mid 1) same c.records.reading.chain c.records.reading.journal.length (c.records.invariant.followed first some)));
+          fault_same tells first (bytes_in mid file) (bytes_in old file) (λ told. sym (same told)) file c.in-Err.fault
+          (c.in-Err.ensures.steps_on first (followed_same tells first (bytes_in old file) (bytes_in mid file) same c.records.reading.chain c.records.reading.journal.length (c.records.invariant.followed first some)));
       in_area = tt;
       time = λ told. unchanged_then (c.records.invariant.time told) (c.in-Err.ensures.time told);
       reads = c.in-Err.ensures.reads ∙ c.records.invariant.reads;

@@ -6,7 +6,7 @@ use Rattle.disk_model.specs.Moments.{EachMoment}
 use Rattle.disk_model.specs.Changes.{Unchanged}
 use Rattle.disk_model.specs.DiskSeen.{file_in, bytes_in}
 use Rattle.gate_journal.specs.Stand.{IsReadable}
-use Rattle.chain_commands.specs.Chain.{Chain}
+use Rattle.name_store.specs.Commands.{Origin}
 use Rattle.name_store.specs.Reading.{HasFollowed, IsInArea}
 use Rattle.name_store.proofs.reading.read_all.Given as goal
 
@@ -14,10 +14,11 @@ abbrev pub invariant-records : goal.invariant-records
 invariant-records g l =
     let old = g.D.Disk.seen l.fn.disk in
     let now = g.D.Disk.seen l.disk in
+    let file = l.fn.file in
     record {
-      followed : (first : Chain) → HasFollowed g.D.Disk.tells first (bytes_in old 1) l.fn.reading.chain l.fn.reading.journal.length → HasFollowed g.D.Disk.tells first (bytes_in old 1) l.reading.chain l.reading.journal.length;
-      area : IsInArea l.reading.journal;
-      readable : IsTrue g.D.Disk.tells → IsReadable l.reading.journal (file_in now 1);
+      followed : (first : Origin) → HasFollowed g.D.Disk.tells first (bytes_in old file) l.fn.reading.chain l.fn.reading.journal.length → HasFollowed g.D.Disk.tells first (bytes_in old file) l.reading.chain l.reading.journal.length;
+      area : IsInArea file l.reading.journal;
+      readable : IsTrue g.D.Disk.tells → IsReadable l.reading.journal (file_in now file);
       time : IsTrue g.D.Disk.tells → EachMoment (Unchanged old.moments.now) old.moments now.moments;
       reads : now.changes ≡ old.changes;
       later : NeverFell old.faults now.faults;

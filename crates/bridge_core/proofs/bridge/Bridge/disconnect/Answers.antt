@@ -6,7 +6,7 @@ use Rattle.std.proofs.Common.{subst}
 use Rattle.chain_commands.specs.Event.{Disconnect, Do}
 use Rattle.chain_commands.specs.RunState.{RunState, chain_of, IsFull}
 use Rattle.chain_commands.specs.Disconnecting.{HoldsBack, disconnects}
-use Rattle.name_store.specs.Views.{back_refusal_of}
+use Rattle.index_commands.specs.Views.{back_refusal_of}
 use Rattle.name_store.specs.Stored.{Stored}
 use Rattle.bridge_core.specs.Bridge.{AnswersEvent}
 use Rattle.bridge_core.specs.declared.bridge.Turned.TheVariants.{On, Ended}

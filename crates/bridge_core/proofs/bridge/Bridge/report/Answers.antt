@@ -1,7 +1,7 @@
 use Rattle.std.proofs.Common.{sym, ap, subst, ◌∙◌}
 use Rattle.chain_state.specs.Chain.{Indexed}
 use Rattle.name_report.specs.Report.{reported_by, Reports}
-use Rattle.name_store.specs.Standing as chains
+use Rattle.index_commands.specs.Standing as chains
 use Rattle.chain_commands.specs.RunState.{chain_of}
 use Rattle.name_store.specs.Stored.{Stored, StandsFor}
 use Rattle.bridge_core.proofs.bridge.Bridge.report.Goals as goal

@@ -2,13 +2,13 @@ use Rattle.std.proofs.Common.{◌≡◌, ◌+◌, ◌∷◌, length, refl, sym, 
 use Rattle.chain_commands.specs.Event.{Connect}
 use Rattle.chain_commands.specs.RunState.{longest_area}
 use Rattle.name_store.specs.Stored.{Stored, IsOn}
-use Rattle.name_store.specs.Stages.{IsFullWith}
+use Rattle.index_commands.specs.Stages.{IsFullWith}
 use Rattle.name_store.specs.ByIndex.{ConnectsOn}
 use Rattle.name_store.specs.Outcomes.{KeepsOn, LeavesDisk}
 use Rattle.name_store.specs.Connecting.{Connects}
 use Rattle.name_store.specs.declared.store.Outcome.TheVariants.{Done, Refused, NoMemory, Faulted}
-use Rattle.name_store.specs.Views.{refusal_of}
-use Rattle.name_store.proofs.ByIndexLemmas.{refused_base}
+use Rattle.index_commands.specs.Views.{refusal_of}
+use Rattle.index_commands.proofs.ByIndexLemmas.{refused_base}
 use Rattle.name_store.proofs.OutcomeLemmas.{a_block, leaves_refused, leaves_lacking, keeps_refused, keeps_lacking, keeps_faulted, answers_done, keeps_done, leaves_faulted, leaves_done}
 use Rattle.name_store.proofs.store.Store.connect.Goals as goal
 
@@ -95,4 +95,4 @@ returns-in-Ok-clause-on_index g c =
     let new : Stored = record { index = c.commit.result; host = c.self.inside.host; area = c.in-Ok.area } in
     subst (λ r. ConnectsOn (IsFullWith c.args.self.area longest_area (Connect bytes)) c.args.self.index bytes r) (sym c.done.ensures)
     (subst (λ (x : Stored). ConnectsOn (IsFullWith x.area longest_area (Connect bytes)) x.index bytes (Done new c.commit.result.tip)) c.self.view_is
-    (record { staged = c.in-Staged.staged; takes = c.in-Staged.ensures.on_index; connected = c.commit.ensures.connected; tip_is = refl }))
+    (record { takes = record { short = c.requires.short; staged = c.in-Staged.staged; takes = c.in-Staged.ensures.on_index; connected = c.commit.ensures.connected }; tip_is = refl }))

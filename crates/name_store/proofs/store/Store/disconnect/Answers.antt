@@ -2,11 +2,14 @@ use Rattle.std.proofs.Common.{rules, ◌≡◌, ◌+◌, ◌∷◌, length, refl
 use Rattle.chain_commands.specs.Event.{Disconnect}
 use Rattle.chain_commands.specs.RunState.{longest_area}
 use Rattle.name_store.specs.Stored.{Stored, IsOn}
+use Rattle.index_commands.specs.Stages.{IsFullWith}
+use Rattle.index_commands.proofs.FollowLemmas.{disconnected_from}
+use Rattle.name_store.specs.ByIndex.{DisconnectsOn}
 use Rattle.name_store.specs.Outcomes.{KeepsOn, LeavesDisk}
 use Rattle.name_store.specs.Disconnecting.{Disconnects}
 use Rattle.name_store.specs.declared.store.Outcome.TheVariants.{Done, Refused, NoMemory, Faulted}
-use Rattle.name_store.specs.Views.{back_refusal_of}
-use Rattle.name_store.proofs.ByIndexLemmas.{refused_hash_base}
+use Rattle.index_commands.specs.Views.{back_refusal_of}
+use Rattle.index_commands.proofs.ByIndexLemmas.{refused_hash_base}
 use Rattle.name_store.proofs.OutcomeLemmas.{a_hash, leaves_refused, leaves_lacking, keeps_refused, keeps_lacking, keeps_faulted, answers_done, keeps_done, leaves_faulted, leaves_done}
 use Rattle.name_store.proofs.store.Store.disconnect.Goals as goal
 
@@ -89,3 +92,12 @@ returns-in-Ok-clause-kept g c =
     (subst (λ (x : Stored). KeepsOn g.D.Disk.tells x (Disconnect c.args.hash.0) before after (Done new c.commit.result.tip)) c.self.view_is
     (keeps_done (a_hash c.args.hash.0 long old c.in-StagedBack.staged c.in-StagedBack.ensures.stages) g.D.Disk.tells before after new
     (λ told. subst (λ (x : Stored). IsOn x before.moments.now) (sym c.self.view_is) (c.requires.on_disk told)) c.in-Ok.ensures))
+
+pub returns-in-Ok-clause-on_index : goal.returns-in-Ok-clause-on_index
+returns-in-Ok-clause-on_index g c =
+    let hash = c.args.hash in
+    let new : Stored = record { index = c.commit.result; host = c.self.inside.host; area = c.in-Ok.area } in
+    let long : length hash.0 ≡ 32 = search rules in
+    subst (λ r. DisconnectsOn (IsFullWith c.args.self.area longest_area (Disconnect hash.0)) c.args.self.index hash r) (sym c.done.ensures)
+    (subst (λ (x : Stored). DisconnectsOn (IsFullWith x.area longest_area (Disconnect hash.0)) x.index hash (Done new c.commit.result.tip)) c.self.view_is
+    (record { takes = disconnected_from c.self.inside.chain c.in-StagedBack.staged c.commit.result hash c.in-StagedBack.ensures.on_index long c.commit.ensures.disconnected; tip_is = refl }))

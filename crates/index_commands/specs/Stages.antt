@@ -12,8 +12,8 @@ use Rattle.chain_commands.specs.RunState.{record_length, after_command}
 use Rattle.chain_commands.specs.Refusals.{Refusals, IsFirst, HasNoneBelow}
 use Rattle.chain_commands.specs.Connecting.{Refusal, Holds, connects}
 use Rattle.chain_commands.specs.Disconnecting.{BackRefusal, HoldsBack, disconnects}
-use Rattle.name_store.specs.Standing.{StandsFor}
-use Rattle.name_store.specs.Views.{refusal_of, back_refusal_of}
+use Rattle.index_commands.specs.Standing.{StandsFor}
+use Rattle.index_commands.specs.Views.{refusal_of, back_refusal_of}
 
 -- ---- of each kind of command, by its refusals and the condition of each
 

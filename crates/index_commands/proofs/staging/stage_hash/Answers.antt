@@ -1,8 +1,8 @@
 use Rattle.std.proofs.Common.{refl, arith}
 use Rattle.chain_state.proofs.RefusalLemmas.{may_disconnect}
-use Rattle.name_store.proofs.ByIndexLemmas.{refuses_hash}
-use Rattle.name_store.proofs.BackLemmas.{refused, lacking, staged_for, full_for}
-use Rattle.name_store.proofs.staging.stage_hash.Goals as goal
+use Rattle.index_commands.proofs.ByIndexLemmas.{refuses_hash}
+use Rattle.index_commands.proofs.BackLemmas.{refused, lacking, staged_for, full_for}
+use Rattle.index_commands.proofs.staging.stage_hash.Goals as goal
 
 pub returns-then-is_full-clause-stages : goal.returns-then-is_full-clause-stages
 returns-then-is_full-clause-stages g c = λ chain s.

@@ -11,8 +11,8 @@ use Rattle.chain_state.specs.declared.stage.StageOutcome.{StageOutcome}
 use Rattle.chain_state.specs.declared.stage.StageOutcome.TheVariants.{Staged, Refused, NoMemory}
 use Rattle.chain_state.specs.declared.back.BackRefusal.{BackRefusal}
 use Rattle.chain_state.specs.declared.back.BackRefusal.TheVariants as back
-use Rattle.name_store.specs.GivenUp.{GivesUp}
-use Rattle.name_store.specs.ByIndex.{RefusesBytes, RefusesHash, StagesOn}
+use Rattle.index_commands.specs.GivenUp.{GivesUp}
+use Rattle.index_commands.specs.ByIndex.{RefusesBytes, RefusesHash, StagesOn}
 
 module _ (full : Type 0) (index : Indexed) (bytes : List ℕ) where
   refuses_bytes : (block : Block) → IsBlock bytes block → (refusal : Refusal) (same : Indexed) → SameIndex same index → IsRefusal index block refusal → RefusesBytes full index bytes refusal same

@@ -1,6 +1,6 @@
-//! Following a command that was kept in the area.
+//! Following a command that was kept.
 ghost use Rattle.std.specs.Prelude.{◌≡◌, ◌∷◌, length, Err};
-ghost use Rattle.name_store.specs.Reading.{FollowsRecord};
+ghost use Rattle.index_commands.specs.Following.{FollowsRecord};
 
 use crate::staging::{stage_bytes, stage_hash};
 use chain_state::{BackOutcome, Chain, StageOutcome};

@@ -16,7 +16,7 @@ use Rattle.chain_state.specs.Chain.{Indexed}
 use Rattle.chain_state.specs.Standing.{hash_of, AreValid}
 use Rattle.chain_commands.specs.Chain.{Chain, newest_hash, tip_hash}
 use Rattle.chain_commands.specs.Connecting.{refused_on}
-use Rattle.name_store.specs.Standing.{StandsFor}
+use Rattle.index_commands.specs.Standing.{StandsFor}
 
 -- ---- the hash of the tip
 

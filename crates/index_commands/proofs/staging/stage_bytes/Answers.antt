@@ -1,7 +1,7 @@
 use Rattle.std.proofs.Common.{arith}
-use Rattle.name_store.proofs.ByIndexLemmas.{on_with_room, on_without_room}
-use Rattle.name_store.proofs.StageLemmas.{no_block, with_room, without_room}
-use Rattle.name_store.proofs.staging.stage_bytes.Goals as goal
+use Rattle.index_commands.proofs.ByIndexLemmas.{on_with_room, on_without_room}
+use Rattle.index_commands.proofs.StageLemmas.{no_block, with_room, without_room}
+use Rattle.index_commands.proofs.staging.stage_bytes.Goals as goal
 
 pub returns-in-Err-clause-stages : goal.returns-in-Err-clause-stages
 returns-in-Err-clause-stages g c = λ chain s. no_block (record { area = c.args.area; most = c.args.most; index = c.args.chain; chain = chain; bytes = c.args.bytes.now; stands = s }) c.in-Err.fault.at c.in-Err.ensures.read.first

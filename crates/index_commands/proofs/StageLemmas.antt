@@ -15,11 +15,11 @@ use Rattle.chain_state.specs.Refusals.{RefusesConnect}
 use Rattle.chain_commands.specs.Chain.{Chain}
 use Rattle.chain_commands.specs.Event.{Connect}
 use Rattle.chain_commands.specs.Connecting.{IsValid, Refuses, connects as connect_refusals}
-use Rattle.name_store.specs.Standing.{StandsFor}
-use Rattle.name_store.specs.Views.{refusal_of}
-use Rattle.name_store.specs.Stages.{IsFullWith, HoldsIn, IsRefusedFor, LacksMemoryFor, StagesFor}
-use Rattle.name_store.specs.GivenUp.{GivesUp}
-use Rattle.name_store.proofs.ChainTips.{chain_tip, index_tip, rule_of_bytes}
+use Rattle.index_commands.specs.Standing.{StandsFor}
+use Rattle.index_commands.specs.Views.{refusal_of}
+use Rattle.index_commands.specs.Stages.{IsFullWith, HoldsIn, IsRefusedFor, LacksMemoryFor, StagesFor}
+use Rattle.index_commands.specs.GivenUp.{GivesUp}
+use Rattle.index_commands.proofs.ChainTips.{chain_tip, index_tip, rule_of_bytes}
 use Rattle.chain_commands.proofs.ConnectRefusals.{IsOnTip, IsUnbroken, no_block_refused, off_tip_refused, too_high, memory_taken, root_refused, rule_broken, full_refused, is_valid}
 use Rattle.chain_state.proofs.StandingLemmas.{same_stands, valid_next, connects, abandoned_same}
 use Rattle.chain_state.proofs.RefusalLemmas.{refuses_by_chain}

@@ -11,10 +11,10 @@ use Rattle.chain_state.specs.Refusals.{RefusesDisconnect, MayDisconnect}
 use Rattle.chain_commands.specs.Chain.{Chain}
 use Rattle.chain_commands.specs.Event.{Disconnect}
 use Rattle.chain_commands.specs.Disconnecting.{RefusesBack, disconnects as disconnect_refusals}
-use Rattle.name_store.specs.Standing.{StandsFor}
-use Rattle.name_store.specs.Views.{back_refusal_of}
-use Rattle.name_store.specs.Stages.{IsFullWith, HoldsBackIn, IsRefusedFor, LacksMemoryFor, StagesBackFor}
-use Rattle.name_store.proofs.ChainTips.{chain_tip}
+use Rattle.index_commands.specs.Standing.{StandsFor}
+use Rattle.index_commands.specs.Views.{back_refusal_of}
+use Rattle.index_commands.specs.Stages.{IsFullWith, HoldsBackIn, IsRefusedFor, LacksMemoryFor, StagesBackFor}
+use Rattle.index_commands.proofs.ChainTips.{chain_tip}
 use Rattle.chain_commands.proofs.DisconnectRefusals.{IsOwnTip, at_base_refused, not_tip_refused, memory_taken, full_refused, is_valid_back}
 use Rattle.chain_state.proofs.StandingLemmas.{same_stands, same_after, disconnects}
 use Rattle.chain_state.proofs.RefusalLemmas.{back_by_chain, may_disconnect}

@@ -1,11 +1,11 @@
 ghost use Rattle.std.specs.Prelude.{◌≤◌, ◌+◌, length};
 ghost use Rattle.nmc_base.specs.declared.limits.TheConstants.{LONGEST_BLOCK};
 ghost use Rattle.chain_state.specs.StageBack.{IsBackCheap};
-ghost use Rattle.name_store.specs.Stages.{StagesBytes, StagesHash, Fits, FitsBack, IsFullWith};
+ghost use Rattle.index_commands.specs.Stages.{StagesBytes, StagesHash, Fits, FitsBack, IsFullWith};
 ghost use Rattle.chain_commands.specs.Event.{Connect, Disconnect};
-ghost use Rattle.name_store.specs.ByIndex.{StagesOn, StagesBackOn};
-ghost use Rattle.name_store.specs.GivenUp.{GivesUp};
-ghost use Rattle.name_store.specs.Costs.{IsCheapBlock};
+ghost use Rattle.index_commands.specs.ByIndex.{StagesOn, StagesBackOn};
+ghost use Rattle.index_commands.specs.GivenUp.{GivesUp};
+ghost use Rattle.index_commands.specs.Costs.{IsCheapBlock};
 
 use block_reader::read_block;
 use chain_state::{BackOutcome, BackRefusal, Chain, Refusal, StageOutcome};

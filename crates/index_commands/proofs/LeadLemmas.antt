@@ -1,0 +1,55 @@
+-- Commands one after the other.
+use Rattle.std.proofs.Common.{◌≡◌, List, [], ◌∷◌, ◌∙◌}
+use Rattle.chain_state.specs.Chain.{Indexed, SameIndex}
+use Rattle.chain_commands.specs.Chain.{Chain}
+use Rattle.chain_commands.specs.Event.{Command, Connect, Disconnect}
+use Rattle.chain_commands.specs.RunState.{after_commands}
+use Rattle.chain_state.proofs.StandingLemmas.{same_stands, same_after}
+use Rattle.index_commands.specs.Standing.{StandsFor}
+use Rattle.index_commands.specs.Allowed.{AreAllowed}
+use Rattle.index_commands.specs.Taking.{TakesCommand, LeadsTo, AreTaken}
+use Rattle.index_commands.proofs.TakenLemmas.{same_back, same_self, taken, taken_alike}
+use Rattle.index_commands.proofs.ResultLemmas.{one_result}
+use Rattle.index_commands.proofs.ChainLemmas.{allowed_if, taken_if, stands_behind}
+
+-- commands lead from one index to one
+pub one_lead : (a b x y : Indexed) (commands : List Command) → SameIndex a b → LeadsTo a commands x → LeadsTo b commands y → SameIndex x y
+one_lead a b x y [] same p q = same_after x a y p (same_after a b y same (same_back y b q))
+one_lead a b x y (command ∷ commands) same (p, to_p, at_p) (q, to_q, at_q) = one_result p q x y (one_lead a b p q commands same to_p to_q) command at_p at_q
+
+-- the same first index leads there too
+pub lead_alike : (a b index : Indexed) (commands : List Command) → SameIndex a b → LeadsTo a commands index → LeadsTo b commands index
+lead_alike a b index [] same leads = same_after index a b leads same
+lead_alike a b index (command ∷ commands) same (below, led, takes) = (below, lead_alike a b below commands same led, takes)
+
+-- commands leave the base
+takes_base : (index new : Indexed) (command : Command) → TakesCommand index command new → new.base ≡ index.base
+takes_base index new (Connect block) takes = takes.connected.base ∙ takes.takes.on.base
+takes_base index new (Disconnect hash) takes = takes.disconnected.base
+
+pub led_base : (first index : Indexed) (commands : List Command) → LeadsTo first commands index → index.base ≡ first.base
+led_base first index [] leads = leads.base
+led_base first index (command ∷ commands) (below, led, takes) = takes_base below index command takes ∙ led_base first below commands led
+
+pub led_taken : (first index : Indexed) (commands : List Command) → LeadsTo first commands index → AreTaken first commands
+led_taken first index [] leads = tt
+led_taken first index (command ∷ commands) (below, led, takes) = (
+  led_taken first below commands led,
+  λ other leads. taken_alike below other (one_lead first first below other commands (same_self first) led leads) command (taken below index command takes),
+)
+
+-- ---- on a chain that the first index stands for
+
+module _ (first : Indexed) (chain : Chain) (stands : StandsFor first chain) where
+  pub led_stands : (index : Indexed) (commands : List Command) → LeadsTo first commands index → StandsFor index (after_commands chain commands)
+  led_stands index [] leads = same_stands chain.base chain.start chain.blocks first index stands leads
+  led_stands index (command ∷ commands) (below, led, takes) = stands_behind below (after_commands chain commands) (led_stands below commands led) command index takes
+
+  pub led_allowed : (index : Indexed) (commands : List Command) → LeadsTo first commands index → AreAllowed chain commands
+  led_allowed index [] leads = tt
+  led_allowed index (command ∷ commands) (below, led, takes) =
+      (led_allowed below commands led, allowed_if below (after_commands chain commands) (led_stands below commands led) command (taken below index command takes))
+
+  pub allowed_taken : (commands : List Command) → AreAllowed chain commands → AreTaken first commands
+  allowed_taken [] are = tt
+  allowed_taken (command ∷ commands) are = (allowed_taken commands are.0, λ index leads. taken_if index (after_commands chain commands) (led_stands index commands leads) command are.1)

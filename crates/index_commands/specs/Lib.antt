@@ -1,0 +1,10 @@
+pub mod Views
+pub mod Standing
+pub mod Stages
+pub mod GivenUp
+pub mod ByIndex
+pub mod Costs
+pub mod Records
+pub mod Allowed
+pub mod Taking
+pub mod Following
