@@ -7,9 +7,9 @@ use Rattle.chain_commands.specs.RunState.{after_commands}
 use Rattle.chain_state.proofs.StandingLemmas.{same_stands, same_after}
 use Rattle.index_commands.specs.Standing.{StandsFor}
 use Rattle.index_commands.specs.Allowed.{AreAllowed}
-use Rattle.index_commands.specs.Taking.{TakesCommand, LeadsTo, AreTaken}
+use Rattle.index_commands.specs.Taking.{IsTakenBy, TakesCommand, LeadsTo, AreTaken}
 use Rattle.index_commands.proofs.TakenLemmas.{same_back, same_self, taken, taken_alike}
-use Rattle.index_commands.proofs.ResultLemmas.{one_result}
+use Rattle.index_commands.proofs.ResultLemmas.{one_result, takes_same}
 use Rattle.index_commands.proofs.ChainLemmas.{allowed_if, taken_if, stands_behind}
 
 -- commands lead from one index to one
@@ -31,12 +31,19 @@ pub led_base : (first index : Indexed) (commands : List Command) → LeadsTo fir
 led_base first index [] leads = leads.base
 led_base first index (command ∷ commands) (below, led, takes) = takes_base below index command takes ∙ led_base first below commands led
 
+-- a command that one takes behind them is taken by each
+pub taken_behind : (first index : Indexed) (commands : List Command) (command : Command) → AreTaken first commands → LeadsTo first commands index → IsTakenBy index command
+    → AreTaken first (command ∷ commands)
+taken_behind first index commands command are leads is = (are, λ other also. taken_alike index other (one_lead first first index other commands (same_self first) leads also) command is)
+
 pub led_taken : (first index : Indexed) (commands : List Command) → LeadsTo first commands index → AreTaken first commands
 led_taken first index [] leads = tt
-led_taken first index (command ∷ commands) (below, led, takes) = (
-  led_taken first below commands led,
-  λ other leads. taken_alike below other (one_lead first first below other commands (same_self first) led leads) command (taken below index command takes),
-)
+led_taken first index (command ∷ commands) (below, led, takes) = taken_behind first below commands command (led_taken first below commands led) led (taken below index command takes)
+
+-- they lead to the same index too
+pub lead_same : (first index same : Indexed) (commands : List Command) → SameIndex same index → LeadsTo first commands index → LeadsTo first commands same
+lead_same first index same [] alike leads = same_after same index first alike leads
+lead_same first index same (command ∷ commands) alike (below, led, takes) = (below, led, takes_same below index same alike command takes)
 
 -- ---- on a chain that the first index stands for
 

@@ -9,7 +9,7 @@ use Rattle.nmc_base.specs.declared.chain_ends.Profile.{Profile}
 use Rattle.chain_names.specs.Coins.{Maps}
 use Rattle.chain_names.specs.Changes.{after_block, undone}
 use Rattle.chain_names.specs.Log.{behind_coinbase}
-use Rattle.chain_names.specs.Tables.{queue_of}
+use Rattle.chain_names.specs.Tables.{coins_in, queued_in, queue_of}
 use Rattle.chain_names.specs.UndoOf.{IsUndoByMaps}
 use Rattle.chain_names.proofs.OneRecordLemmas.{one_undo-maps}
 use Rattle.name_tables.specs.Tables.{maps_by}
@@ -93,3 +93,39 @@ module _ (a b x y : Indexed) (same : SameIndex a b) where
   pub one_result : (command : Command) → TakesCommand a command x → TakesCommand b command y → SameIndex x y
   one_result (Connect bytes) p q = one_connected bytes p q
   one_result (Disconnect hash) p q = one_disconnected hash p q
+
+-- ---- the same index comes of it too
+
+module _ (index x y : Indexed) (same : SameIndex y x) where
+  queue_same : queued_in x.tables.queue ≡ queue_of (coins_in x.tables.coins) → queued_in y.tables.queue ≡ queue_of (coins_in y.tables.coins)
+  queue_same is = same.queue ∙ is ∙ ap (λ (m : Maps). queue_of m.coins) (sym same.maps)
+
+  pub takes_same : (command : Command) → TakesCommand index command x → TakesCommand index command y
+  takes_same (Connect bytes) p = record {
+    short = p.short;
+    staged = p.staged;
+    takes = p.takes;
+    connected = record {
+      base = same.base ∙ p.connected.base;
+      height = ap (λ (tip : Tip). tip.height) same.tip ∙ p.connected.height;
+      hash = ap (λ (tip : Tip). tip.hash) same.tip ∙ p.connected.hash;
+      maps = same.maps ∙ p.connected.maps;
+      queue = queue_same p.connected.queue;
+      undos = same.undos ∙ p.connected.undos;
+    };
+  }
+  takes_same (Disconnect hash) p = record {
+    long = p.long;
+    hash_is = p.hash_is;
+    disconnected = record {
+      undo = p.disconnected.undo;
+      below = p.disconnected.below;
+      undos_were = p.disconnected.undos_were;
+      undos = same.undos ∙ p.disconnected.undos;
+      base = same.base ∙ p.disconnected.base;
+      height = p.disconnected.height ∙ ap (λ (tip : Tip). suc tip.height) (sym same.tip);
+      hash = ap (λ (tip : Tip). tip.hash) same.tip ∙ p.disconnected.hash;
+      maps = same.maps ∙ p.disconnected.maps;
+      queue = queue_same p.disconnected.queue;
+    };
+  }

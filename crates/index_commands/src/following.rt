@@ -17,21 +17,21 @@ pub const DISCONNECT: u8 = 2;
 /// Why a record was not followed.
 #[derive(Clone, Copy, Debug, PartialEq, Eq)]
 pub enum Unfollowed {
-    /// It is that of no command that the chain takes.
+    /// It is that of no command that the index takes.
     Refused,
 
     /// There was no memory for what it does.
     NoMemory,
 }
 
-/// Lets go of the chain, in this one place: each such place is dear to prove.
+/// Lets go of the index, in this one place: each such place is dear to prove.
 fn without_chain(_chain: Chain, why: Unfollowed) -> Result<Chain, Unfollowed>
     ensures { result ≡ Err why }
 {
     Err(why)
 }
 
-/// The chain with the block.
+/// The index with the block.
 fn follow_connect<L: Ledger>(
     alloc: Global,
     chain: Chain,
@@ -60,7 +60,7 @@ fn hash_of(bytes: &[u8]) -> Hash32
     Hash32(hash)
 }
 
-/// The chain without its newest block.
+/// The index without its newest block.
 fn follow_disconnect<L: Ledger>(
     alloc: Global,
     chain: Chain,
@@ -79,7 +79,7 @@ fn follow_disconnect<L: Ledger>(
     }
 }
 
-/// The chain behind the command of this record's bytes.
+/// The index behind the command whose record these bytes are. It is let go where the record isn't followed.
 pub fn follow<L: Ledger>(
     alloc: Global,
     chain: Chain,

@@ -1,6 +1,6 @@
 //! Laws of what an index takes. Each is the contract of a function that does nothing.
 
-ghost use Rattle.std.specs.Prelude.{◌≡◌, ◌↔◌, ℕ, ◌≤◌, List, length};
+ghost use Rattle.std.specs.Prelude.{◌≡◌, ◌↔◌, ℕ, ◌≤◌, List, ◌∷◌, length};
 ghost use Rattle.nmc_base.specs.declared.hashes.Hash32.{Hash32};
 ghost use Rattle.nmc_base.specs.declared.limits.TheConstants.{LONGEST_BLOCK};
 ghost use Rattle.chain_state.specs.Chain.{Indexed, SameIndex, StagedIndex};
@@ -12,8 +12,8 @@ ghost use Rattle.index_commands.specs.Allowed.{IsAllowed, AreAllowed};
 ghost use Rattle.index_commands.specs.ByIndex.{TakesBlock, MayLose};
 ghost use Rattle.index_commands.specs.Taking.{IsTakenBy, TakesCommand, LeadsTo, AreTaken};
 
-/// One thing comes of a command, and of commands one after the other; and what comes of them is said only of those that the index
-/// takes. Bytes and a hash that are staged are those of commands that it takes.
+/// One thing comes of a command that an index takes, up to what its tables have room for, and nothing of one that it doesn't
+/// take. Bytes and a hash that are staged are those of commands that it takes.
 pub fn one_result()
     ensures one { (a b x y : Indexed) (command : Command) → SameIndex a b → TakesCommand a command x → TakesCommand b command y → SameIndex x y }
     ensures taken { (index new : Indexed) (command : Command) → TakesCommand index command new → IsTakenBy index command }
@@ -21,8 +21,16 @@ pub fn one_result()
     ensures staged { (index : Indexed) (staged : StagedIndex) (bytes : List ℕ) → length bytes ≤ LONGEST_BLOCK → TakesBlock index bytes staged
         → IsTakenBy index (Connect bytes) }
     ensures staged_back { (index staged : Indexed) (hash : Hash32) → length hash.0 ≡ 32 → MayLose index hash staged → IsTakenBy index (Disconnect hash.0) }
-    ensures all { (a b x y : Indexed) (commands : List Command) → SameIndex a b → LeadsTo a commands x → LeadsTo b commands y → SameIndex x y }
-    ensures all_taken { (first index : Indexed) (commands : List Command) → LeadsTo first commands index → AreTaken first commands }
+{}
+
+/// Commands one after the other lead from one index to one, up to what tables have room for. Each was taken at its turn, and so is
+/// one more that the last index takes.
+pub fn one_lead()
+    ensures one { (a b x y : Indexed) (commands : List Command) → SameIndex a b → LeadsTo a commands x → LeadsTo b commands y → SameIndex x y }
+    ensures alike { (a b x y : Indexed) (commands : List Command) → SameIndex a b → SameIndex y x → LeadsTo a commands x → LeadsTo b commands y }
+    ensures taken { (first index : Indexed) (commands : List Command) → LeadsTo first commands index → AreTaken first commands }
+    ensures next { (first index : Indexed) (commands : List Command) (command : Command) → LeadsTo first commands index → IsTakenBy index command
+        → AreTaken first (command ∷ commands) }
 {}
 
 /// An index takes just the commands that are allowed on a chain that it stands for, and what comes of one stands for the chain

@@ -6,7 +6,7 @@ use Rattle.std.proofs.Math.Seq.{get_or-append_seam}
 use Rattle.std.proofs.lemmas.List.{append-nil, take-take, take_at, get_or-take, get_or_at, get_or_append_left}
 use Rattle.std.proofs.lemmas.Bool.{cases_lt}
 use Rattle.gate_journal.specs.Gate.{IsRecordAt, IsOpen, IsClosed, record_text, behind_gate}
-use Rattle.gate_journal.specs.Records.{Fits, HasRecords, HasRecordsTo, records_text}
+use Rattle.gate_journal.specs.Records.{Fits, HasRecords, HasRecordsTo}
 use Rattle.gate_journal.proofs.RecordLemmas.{Begins, front-push, none_fit, pushed_fit, record_begun, record_unique}
 use Rattle.gate_journal.proofs.GateLemmas.{none_to, next_to, all_to}
 use Rattle.chain_commands.specs.Event.{Command, Connect, Disconnect}

@@ -1,5 +1,5 @@
 -- Damaged files stand for no run state, and are damaged at one place first.
-use Rattle.std.proofs.Common.{◌≡◌, ◌⊎◌, inl, inr, ℕ, ◌+◌, ◌<◌, ◌≤◌, List, [], ◌∷◌, ◌++◌, length, refl, sym, ◌∙◌, ap, subst, arith, length-append}
+use Rattle.std.proofs.Common.{◌≡◌, inl, inr, ℕ, ◌≤◌, List, [], ◌∷◌, length, sym, ◌∙◌, ap, subst, arith, length-append}
 use Rattle.std.proofs.lemmas.Bool.{cases_lt}
 use Rattle.nmc_base.specs.declared.chain_ends.Base.{Base}
 use Rattle.gate_journal.specs.Gate.{IsOpen, IsClosed}
@@ -18,7 +18,7 @@ use Rattle.index_commands.specs.Taking.{AreTaken}
 use Rattle.index_commands.proofs.SizeLemmas.{allowed_sizes}
 use Rattle.index_commands.proofs.LeadLemmas.{lead_alike, led_taken, allowed_taken}
 use Rattle.name_store.specs.Header.{HasHeader, HasFields, IsInitialised, IsShut, base_at, selections_at}
-use Rattle.name_store.specs.Commands.{Origin, without_image, HasCommands, IsNext, gate_behind}
+use Rattle.name_store.specs.Commands.{Origin, without_image, HasCommands, gate_behind}
 use Rattle.name_store.specs.Damage as damage
 use Rattle.name_store.specs.Damage.{HasBadField, HasNoImage, HasBadRecord, IsDamaged}
 use Rattle.name_store.specs.Stands.{Bytes, Stands}

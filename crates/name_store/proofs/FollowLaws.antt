@@ -20,9 +20,9 @@ use Rattle.name_store.proofs.DamageLaws.{standing_undamaged, damage_moved}
 
 -- a fault of the files is no answer of such files
 pub opens_for : (old : Bytes) (new : Files) (result : Result Stored OpenFault) → OpenAnswer old new result → (run : RunState) → Stands old run → OpensFor run result
-opens_for old new (Ok store) opened run stands = opened.follows run stands
+opens_for old new (Ok it) opened run stands = opened.follows run stands
 opens_for old new (Err faults.Uninitialised) not run stands = not (standing_header old run stands).initialised
-opens_for old new (Err (faults.Damaged file at)) damaged run stands = standing_undamaged old run file at stands damaged
+opens_for old new (Err (faults.Damaged file at)) damaged run stands = standing_undamaged old run stands file at damaged
 opens_for old new (Err faults.DiskFault) is run stands = tt
 opens_for old new (Err faults.NoMemory) is run stands = tt
 

@@ -12,6 +12,7 @@ use Rattle.disk_model.specs.DiskSeen.{DiskSeen, file_in, bytes_in}
 use Rattle.chain_state.specs.Chain.{Indexed, IsAtBase}
 use Rattle.chain_state.proofs.StandingLemmas.{base_stands}
 use Rattle.gate_journal.specs.Gate.{ClosedAfter, IsClosed}
+use Rattle.gate_journal.specs.Stand.{Stand}
 use Rattle.gate_journal.specs.Records.{IsArea, image_front}
 use Rattle.chain_commands.specs.Event.{Command}
 use Rattle.chain_commands.specs.RunState.{RunState, on_base, after_commands, longest_area}
@@ -30,7 +31,7 @@ use Rattle.name_store.specs.Header.{IsBegun, HasHeader, magic, profile_byte, hea
 use Rattle.name_store.specs.Commands.{without_image, gate_behind}
 use Rattle.name_store.specs.Stands.{Bytes, IsRunState, Stands}
 use Rattle.name_store.specs.Stored.{Stored, StandsFor, IsOn}
-use Rattle.name_store.specs.Reading.{IsHeaderOf, HasFollowedAll, AreaAnswer, AllAnswer}
+use Rattle.name_store.specs.Reading.{IsHeaderOf, IsBehind, first_gate, HasFollowedAll, AreaAnswer, AllAnswer}
 use Rattle.name_store.proofs.AreaLemmas.{area_size, all_read}
 use Rattle.name_store.proofs.DamageLaws.{ended_well, bad_alike, one_begins, empty_front, undamaged}
 use Rattle.name_store.proofs.RunLemmas.{one_run}
@@ -111,6 +112,14 @@ module _ (file : List ℕ) (has : HasHeader file) (height_is : to_le_bytes w32 (
   }
 
 -- ---- the store behind the commands
+
+-- a journal behind an empty image
+pub behind_none : (tells : Bool) (file : ℕ) (journal : Stand) (area : List ℕ) → journal ≡ first_gate file → (IsTrue tells → HasNoImage area) → IsBehind tells (image_front []) journal area
+behind_none tells file journal area gate none = record {
+  length_is = ap (λ (s : Stand). s.length) gate;
+  begins = λ told. (none told).empty;
+  inside = λ told. omega (arith, (none told).long);
+}
 
 -- the run state of a base with its host and these commands
 abbrev run_of : Base → List ℕ → List Command → RunState
@@ -212,7 +221,7 @@ area_bad old new faults.NoMemory has is = tt
 
 pub commands_bad : (tells : Bool) → IsTrue tells → (old : Bytes) (new : Files) (fault : OpenFault) → HasHeader (old 0) → HasNoImage (old 1) → (first : Indexed) → IsAtBase (base_at (old 0)) first
     → AllAnswer tells (without_image first) area_file (old 1) (Err fault) → OpenAnswer old new (Err fault)
-commands_bad tells told old new faults.Uninitialised has none first at_base is = absurd is
-commands_bad tells told old new (faults.Damaged number at) has none first at_base is = let bad = is told in damage.command bad.0 has none first at_base bad.1
-commands_bad tells told old new faults.DiskFault has none first at_base is = tt
-commands_bad tells told old new faults.NoMemory has none first at_base is = tt
+commands_bad tells told old new faults.Uninitialised has none first is_first is = absurd is
+commands_bad tells told old new (faults.Damaged number at) has none first is_first is = let bad = is told in damage.command bad.0 has none first is_first bad.1
+commands_bad tells told old new faults.DiskFault has none first is_first is = tt
+commands_bad tells told old new faults.NoMemory has none first is_first is = tt

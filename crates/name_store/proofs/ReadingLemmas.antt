@@ -1,5 +1,5 @@
 -- Following the records of an area one by one.
-use Rattle.std.proofs.Common.{◌≡◌, inl, inr, ℕ, ◌+◌, ◌-◌, ◌≤◌, Bool, true, false, List, [], ◌∷◌, length, Ok, Err, refl, sym, ◌∙◌, ap, subst, arith}
+use Rattle.std.proofs.Common.{◌≡◌, inl, inr, ℕ, ◌+◌, ◌-◌, ◌≤◌, Bool, true, false, List, [], ◌∷◌, length, Ok, Err, refl, sym, ap, subst, arith}
 use Rattle.std.specs.Prelude.{IsTrue, not, IsErrOf}
 use Rattle.std.proofs.Common.{rules}
 use Rattle.disk_model.specs.Moments.{Files, EachMoment}
@@ -16,7 +16,6 @@ use Rattle.gate_journal.specs.Answers.{IsDamagedAt, NextAnswer}
 use Rattle.gate_journal.specs.declared.faults.JournalFault.{JournalFault}
 use Rattle.gate_journal.specs.declared.faults.JournalFault.TheVariants as journal
 use Rattle.gate_journal.proofs.RecordLemmas.{record_unique}
-use Rattle.chain_commands.specs.Event.{Command}
 use Rattle.chain_commands.specs.RunState.{longest_area}
 use Rattle.index_commands.specs.Records.{record_of}
 use Rattle.index_commands.specs.Following.{Follows, FollowsNot, FollowsRecord}

@@ -16,8 +16,7 @@ use Rattle.domain_text.specs.Host.{HostText, IsHost, absolute, empty, at_sign, b
 use Rattle.gate_journal.specs.Gate.{ClosedAfter, IsClosed}
 use Rattle.gate_journal.specs.Records.{IsArea}
 use Rattle.gate_journal.proofs.RecordLemmas.{area_unique}
-use Rattle.chain_commands.specs.Event.{Command}
-use Rattle.chain_commands.specs.RunState.{RunState, saved_text}
+use Rattle.chain_commands.specs.RunState.{RunState}
 use Rattle.index_commands.specs.Records.{records_of}
 use Rattle.index_commands.proofs.SizeLemmas.{commands_told}
 use Rattle.name_store.specs.Host.{IsHostText}

@@ -1,7 +1,6 @@
 -- What the parts of an opening answer: the header, the front of an area, and the commands of an area.
 use Rattle.std.specs.Prelude.{◌≡◌, ◌⊎◌, ℕ, ◌+◌, ◌-◌, ◌<◌, ◌≤◌, Bool, false, IsTrue, List, length, take, drop, Result, Ok, Err, ⊤}
 use Rattle.std.specs.Int.{w32, to_le_bytes}
-use Rattle.nmc_base.specs.declared.chain_ends.Base.{Base}
 use Rattle.chain_state.specs.Chain.{Indexed}
 use Rattle.gate_journal.specs.Stand.{Stand}
 use Rattle.chain_commands.specs.Event.{Command}

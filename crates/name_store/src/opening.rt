@@ -81,8 +81,14 @@ impl Store {
         let Ok(first) = Chain::at_base(alloc, header.base) else {
             return Err(OpenFault::NoMemory);
         };
-        let reading =
-            follow_area::<D, Brand>(alloc, disk, AREA_FILE, first, journal, Blank::new(1))?;
+        let reading = follow_area::<D, Brand>(
+            alloc,
+            disk,
+            AREA_FILE,
+            first,
+            journal,
+            Blank::new(1),
+        )?;
         let area = reading.journal.length();
         Ok(Store::of(reading.chain, header.host, area))
     }

@@ -2,7 +2,6 @@ use Rattle.std.proofs.Common.{ap}
 use Rattle.nmc_base.specs.declared.hashes.Hash32.{Hash32}
 use Rattle.index_commands.proofs.TakenLemmas.{staged_unrefused, staged_back_unrefused, taken, taken_alike}
 use Rattle.index_commands.proofs.ResultLemmas as results
-use Rattle.index_commands.proofs.LeadLemmas.{one_lead, led_taken}
 use Rattle.index_commands.proofs.laws.one_result.Goals as goal
 
 pub returns-clause-one : goal.returns-clause-one
@@ -19,9 +18,3 @@ returns-clause-staged c = λ index staged bytes short takes. (staged_unrefused i
 
 pub returns-clause-staged_back : goal.returns-clause-staged_back
 returns-clause-staged_back c = λ index staged hash long may. (staged_back_unrefused index hash.0 may.above (ap (λ (x : Hash32). x.0) may.hash_is), long)
-
-pub returns-clause-all : goal.returns-clause-all
-returns-clause-all c = one_lead
-
-pub returns-clause-all_taken : goal.returns-clause-all_taken
-returns-clause-all_taken c = led_taken

@@ -9,4 +9,4 @@ pub returns-clause-uninitialised_or_damaged : goal.returns-clause-uninitialised_
 returns-clause-uninitialised_or_damaged c = λ files file at not damaged. not (damaged_initialised files file at damaged)
 
 pub returns-clause-damaged_or_standing : goal.returns-clause-damaged_or_standing
-returns-clause-damaged_or_standing c = λ files file at run damaged stands. standing_undamaged files run file at stands damaged
+returns-clause-damaged_or_standing c = λ files file at run damaged stands. standing_undamaged files run stands file at damaged
