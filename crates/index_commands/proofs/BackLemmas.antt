@@ -1,11 +1,12 @@
 -- What the index says of the disconnect of a hash is so on each chain that it stands for.
-use Rattle.std.proofs.Common.{◌≢◌, ℕ, List, [], ◌∷◌, drop, refl, sym, ◌∙◌}
+use Rattle.std.proofs.Common.{◌≡◌, ◌≢◌, ℕ, List, [], ◌∷◌, drop, refl, sym, ◌∙◌}
 use Rattle.nmc_base.specs.declared.hashes.Hash32.{Hash32}
 use Rattle.chain_state.specs.Chain.{Indexed, SameIndex}
-use Rattle.chain_state.specs.StageBack.{IsStagedBackOn, IsBackRefusal, IsDisconnected}
+use Rattle.chain_state.specs.StageBack.{IsStagedBackOn, IsBackRefusal, IsDisconnected, StagesBack}
 use Rattle.chain_state.specs.declared.back.BackRefusal.{BackRefusal}
 use Rattle.chain_state.specs.declared.back.BackRefusal.TheVariants.{AtBase, NotTip, JournalFull}
-use Rattle.chain_state.specs.declared.back.BackOutcome.TheVariants.{StagedBack}
+use Rattle.chain_state.specs.declared.back.BackOutcome.{BackOutcome}
+use Rattle.chain_state.specs.declared.back.BackOutcome.TheVariants.{StagedBack, Refused as back_refused, NoMemory as back_memory}
 use Rattle.chain_state.specs.Standing.{StandsForChain}
 use Rattle.chain_state.specs.Refusals.{RefusesDisconnect, MayDisconnect}
 use Rattle.chain_commands.specs.Chain.{Chain}
@@ -14,7 +15,9 @@ use Rattle.chain_commands.specs.Disconnecting.{RefusesBack, disconnects as disco
 use Rattle.index_commands.specs.Standing.{StandsFor}
 use Rattle.index_commands.specs.Views.{back_refusal_of}
 use Rattle.index_commands.specs.Stages.{IsFullWith, HoldsBackIn, IsRefusedFor, LacksMemoryFor, StagesBackFor}
+use Rattle.index_commands.specs.GivenUp.{GivesUpBack}
 use Rattle.index_commands.proofs.ChainTips.{chain_tip}
+use Rattle.index_commands.proofs.TakenLemmas.{same_self}
 use Rattle.chain_commands.proofs.DisconnectRefusals.{IsOwnTip, at_base_refused, not_tip_refused, memory_taken, full_refused, is_valid_back}
 use Rattle.chain_state.proofs.StandingLemmas.{same_stands, same_after, disconnects}
 use Rattle.chain_state.proofs.RefusalLemmas.{back_by_chain, may_disconnect}
@@ -47,13 +50,13 @@ module _ (g : StagingBack) where
   stays : (same : Indexed) → SameIndex same g.index → StandsFor same g.chain
   stays same alike = same_stands g.chain.base g.chain.start g.chain.blocks g.index same g.stands alike
 
-  pub refused : (same : Indexed) (refusal : BackRefusal) → SameIndex same g.index → IsBackRefusal g.index g.hash refusal → IsRefusedBy refusal same
+  refused : (same : Indexed) (refusal : BackRefusal) → SameIndex same g.index → IsBackRefusal g.index g.hash refusal → IsRefusedBy refusal same
   refused same refusal alike h = record {
     refuses = refuses refusal (back_by_chain g.chain.base g.chain.start g.chain.blocks g.index g.stands g.hash refusal h);
     stands = stays same alike;
   }
 
-  pub lacking : (same : Indexed) → SameIndex same g.index → MayDisconnect g.chain.base g.chain.blocks g.hash → LacksMemoryFor disconnect_refusals (HoldsBackIn g.area g.most g.chain g.hash.0) g.chain same
+  lacking : (same : Indexed) → SameIndex same g.index → MayDisconnect g.chain.base g.chain.blocks g.hash → LacksMemoryFor disconnect_refusals (HoldsBackIn g.area g.most g.chain g.hash.0) g.chain same
   lacking same alike may = record {
     takes_memory = memory_taken IsFull g.chain g.hash.0 (own_tip may);
     stands = stays same alike;
@@ -71,15 +74,30 @@ module _ (g : StagingBack) where
     abandoned : (same : Indexed) → SameIndex same staged → StandsFor same g.chain
     abandoned same alike = stays same (same_after same staged g.index alike on.same)
 
-    pub staged_for : (IsFull → ⊥) → StagesBackFor g.area g.most g.chain g.hash.0 (StagedBack staged)
+    staged_for : (IsFull → ⊥) → StagesBackFor g.area g.most g.chain g.hash.0 (StagedBack staged)
     staged_for fits = record {
       valid = is_valid_back IsFull g.chain g.hash.0 (own_tip may) fits;
       commits = stands_below g.chain.blocks may.some g.stands;
       abandons = abandoned;
     }
 
-    pub full_for : (same : Indexed) → SameIndex same staged → IsFull → IsRefusedBy JournalFull same
+    full_for : (same : Indexed) → SameIndex same staged → IsFull → IsRefusedBy JournalFull same
     full_for same alike full = record {
       refuses = full_refused IsFull g.chain g.hash.0 (own_tip may) full;
       stands = abandoned same alike;
     }
+
+  -- ---- each outcome, with room in the area and without
+
+  own : (same : Indexed) → SameIndex same g.index → g.index.undos ≢ [] → g.hash ≡ g.index.tip.hash → LacksMemoryFor disconnect_refusals (HoldsBackIn g.area g.most g.chain g.hash.0) g.chain same
+  own same alike above hash_is = lacking same alike (may g.index (record { above = above; hash_is = hash_is; same = same_self g.index }))
+
+  pub with_room : (outcome : BackOutcome) → StagesBack g.index g.hash outcome → (IsFull → ⊥) → StagesBackFor g.area g.most g.chain g.hash.0 outcome
+  with_room (StagedBack s) on fits = staged_for s on fits
+  with_room (back_refused same refusal) h fits = refused same refusal h.0 h.1
+  with_room (back_memory same) h fits = own same h.0 h.1 h.2
+
+  pub without_room : (outcome result : BackOutcome) → StagesBack g.index g.hash outcome → GivesUpBack outcome result → IsFull → StagesBackFor g.area g.most g.chain g.hash.0 result
+  without_room (StagedBack s) result on gone full = rw gone.is (full_for s on gone.same gone.abandoned full)
+  without_room (back_refused same refusal) result h gone full = rw gone (refused same refusal h.0 h.1)
+  without_room (back_memory same) result h gone full = rw gone (own same h.0 h.1 h.2)

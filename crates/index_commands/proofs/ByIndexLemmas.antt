@@ -4,15 +4,18 @@ use Rattle.block_grammar.specs.Block.{Block, IsBlock}
 use Rattle.nmc_base.specs.declared.hashes.Hash32.{Hash32}
 use Rattle.chain_state.specs.Chain.{Indexed, SameIndex}
 use Rattle.chain_state.specs.Stage.{IsRefusal, Stages}
-use Rattle.chain_state.specs.StageBack.{IsBackRefusal}
+use Rattle.chain_state.specs.StageBack.{IsBackRefusal, StagesBack}
 use Rattle.chain_state.specs.declared.stage.Refusal.{Refusal}
 use Rattle.chain_state.specs.declared.stage.Refusal.TheVariants.{BadBlock, NotOnTip, HeightLimit, MerkleMismatch, Rule, JournalFull}
 use Rattle.chain_state.specs.declared.stage.StageOutcome.{StageOutcome}
 use Rattle.chain_state.specs.declared.stage.StageOutcome.TheVariants.{Staged, Refused, NoMemory}
 use Rattle.chain_state.specs.declared.back.BackRefusal.{BackRefusal}
 use Rattle.chain_state.specs.declared.back.BackRefusal.TheVariants as back
-use Rattle.index_commands.specs.GivenUp.{GivesUp}
-use Rattle.index_commands.specs.ByIndex.{RefusesBytes, RefusesHash, StagesOn}
+use Rattle.chain_state.specs.declared.back.BackOutcome.{BackOutcome}
+use Rattle.chain_state.specs.declared.back.BackOutcome.TheVariants.{StagedBack, Refused as back_refused, NoMemory as back_memory}
+use Rattle.chain_state.proofs.StandingLemmas.{same_after}
+use Rattle.index_commands.specs.GivenUp.{GivesUp, GivesUpBack}
+use Rattle.index_commands.specs.ByIndex.{RefusesBytes, RefusesHash, StagesOn, StagesBackOn}
 
 module _ (full : Type 0) (index : Indexed) (bytes : List ℕ) where
   refuses_bytes : (block : Block) → IsBlock bytes block → (refusal : Refusal) (same : Indexed) → SameIndex same index → IsRefusal index block refusal → RefusesBytes full index bytes refusal same
@@ -43,10 +46,20 @@ module _ (full : Type 0) (index : Indexed) (bytes : List ℕ) where
   refused_base JournalFull same h = h.stays.base ∙ h.takes.on.base
 
 module _ (full : Type 0) (index : Indexed) (hash : Hash32) where
-  pub refuses_hash : (refusal : BackRefusal) (same : Indexed) → SameIndex same index → IsBackRefusal index hash refusal → RefusesHash full index hash refusal same
+  refuses_hash : (refusal : BackRefusal) (same : Indexed) → SameIndex same index → IsBackRefusal index hash refusal → RefusesHash full index hash refusal same
   refuses_hash back.AtBase same stays h = (h, stays)
   refuses_hash (back.NotTip tip) same stays h = (h, stays)
   refuses_hash back.JournalFull same stays h = absurd h
+
+  pub back_with_room : (outcome : BackOutcome) → StagesBack index hash outcome → StagesBackOn full index hash outcome
+  back_with_room (StagedBack s) on = record { above = on.above; hash_is = on.hash_is; stays = on.same }
+  back_with_room (back_refused same refusal) h = refuses_hash refusal same h.0 h.1
+  back_with_room (back_memory same) h = record { above = h.1; hash_is = h.2; stays = h.0 }
+
+  pub back_without_room : full → (outcome result : BackOutcome) → StagesBack index hash outcome → GivesUpBack outcome result → StagesBackOn full index hash result
+  back_without_room is_full (StagedBack s) result on gone = rw gone.is (is_full, record { above = on.above; hash_is = on.hash_is; stays = same_after gone.same s index gone.abandoned on.same })
+  back_without_room is_full (back_refused same refusal) result h gone = rw gone (refuses_hash refusal same h.0 h.1)
+  back_without_room is_full (back_memory same) result h gone = rw gone (record { above = h.1; hash_is = h.2; stays = h.0 })
 
   pub refused_hash_base : (refusal : BackRefusal) (same : Indexed) → RefusesHash full index hash refusal same → same.base ≡ index.base
   refused_hash_base back.AtBase same h = h.1.base

@@ -4,7 +4,7 @@ ghost use Rattle.chain_state.specs.StageBack.{IsBackCheap};
 ghost use Rattle.index_commands.specs.Stages.{StagesBytes, StagesHash, Fits, FitsBack, IsFullWith};
 ghost use Rattle.chain_commands.specs.Event.{Connect, Disconnect};
 ghost use Rattle.index_commands.specs.ByIndex.{StagesOn, StagesBackOn};
-ghost use Rattle.index_commands.specs.GivenUp.{GivesUp};
+ghost use Rattle.index_commands.specs.GivenUp.{GivesUp, GivesUpBack};
 ghost use Rattle.index_commands.specs.Costs.{IsCheapBlock};
 
 use block_reader::read_block;
@@ -84,14 +84,22 @@ pub fn stage_hash<L: Ledger>(
     ensures cost { IsBackCheap chain result steps.old steps.new }
 {
     let is_full = most.saturating_sub(area) < DISCONNECT_RECORD;
-    match chain.stage_back(alloc, hash, steps) {
+    let outcome = chain.stage_back(alloc, hash, steps);
+    if is_full {
+        give_up_back(outcome, steps)
+    } else {
+        outcome
+    }
+}
+
+/// The outcome where the area has no room: what was staged is given up.
+fn give_up_back<L: Ledger>(outcome: BackOutcome, steps: &mut Steps<L>) -> BackOutcome
+    ensures { GivesUpBack outcome result }
+{
+    match outcome {
         BackOutcome::StagedBack(staged) => {
-            if is_full {
-                return BackOutcome::Refused(staged.abandon(steps), BackRefusal::JournalFull);
-            }
-            BackOutcome::StagedBack(staged)
+            BackOutcome::Refused(staged.abandon(steps), BackRefusal::JournalFull)
         }
-        BackOutcome::Refused(chain, refusal) => BackOutcome::Refused(chain, refusal),
-        BackOutcome::NoMemory(chain) => BackOutcome::NoMemory(chain),
+        unstaged => unstaged,
     }
 }

@@ -114,7 +114,7 @@ module _ (file : List ℕ) (has : HasHeader file) (height_is : to_le_bytes w32 (
 -- ---- the store behind the commands
 
 -- a journal behind an empty image
-pub behind_none : (tells : Bool) (file : ℕ) (journal : Stand) (area : List ℕ) → journal ≡ first_gate file → (IsTrue tells → HasNoImage area) → IsBehind tells (image_front []) journal area
+pub behind_none : (tells : Bool) (file : ℕ) (journal : Stand) (area : List ℕ) → journal ≡ first_gate file (image_front []) → (IsTrue tells → HasNoImage area) → IsBehind tells (image_front []) journal area
 behind_none tells file journal area gate none = record {
   length_is = ap (λ (s : Stand). s.length) gate;
   begins = λ told. (none told).empty;

@@ -46,9 +46,9 @@ pub record IsBegunBy (header : Header) : Type 0 where
 
 -- ---- the front of an area
 
--- behind an empty image
-abbrev pub first_gate : ℕ → Stand
-first_gate file = record { file = file; length = 9; limit = longest_area; reached = false }
+-- the journal in this file at its first gate, behind this front
+abbrev pub first_gate : (file : ℕ) (front : List ℕ) → Stand
+first_gate file front = record { file = file; length = length front + 1; limit = longest_area; reached = false }
 
 abbrev pub AreaAnswer : ℕ → List ℕ → Result Stand OpenFault → Type 0
 AreaAnswer file area (Ok journal) = HasNoImage area

@@ -1,9 +1,10 @@
 //! The front of an area, as it is read.
-ghost use Rattle.std.specs.Prelude.{◌≡◌, ◌↔◌, ◌<◌, IsTrue, IfOk, IsErrOf};
+ghost use Rattle.std.specs.Prelude.{◌≡◌, ◌↔◌, ◌<◌, [], IsTrue, IfOk, IsErrOf};
 ghost use Rattle.disk_model.specs.FileState.{IsSettled};
 ghost use Rattle.disk_model.specs.Moments.{EachMoment};
 ghost use Rattle.disk_model.specs.Changes.{Unchanged};
 ghost use Rattle.disk_model.specs.DiskSeen.{EndsWith, file_in, bytes_in};
+ghost use Rattle.gate_journal.specs.Records.{image_front};
 ghost use Rattle.gate_journal.specs.Stand.{IsReadable};
 ghost use Rattle.name_store.specs.Damage.{HasNoImage};
 ghost use Rattle.name_store.specs.Reading.{AreaAnswer, first_gate};
@@ -28,7 +29,7 @@ pub fn open_area<D: Disk>(disk: &mut D, file: u8) -> Result<Journal, OpenFault>
     requires file { file < 3 }
     requires settled { IsTrue D.tells → IsSettled (file_in (D.seen disk.old) file) }
     ensures answer { IsTrue D.tells → AreaAnswer file (bytes_in (D.seen disk.old) file) result }
-    ensures ok { IfOk result (λ journal. journal ≡ first_gate file) }
+    ensures ok { IfOk result (λ journal. journal ≡ first_gate file (image_front [])) }
     ensures readable { IsTrue D.tells → IfOk result (λ journal. IsReadable journal (file_in (D.seen disk.new) file)) }
     ensures memory { IsErrOf result OpenFault.NoMemory → ⊥ }
     ensures time { IsTrue D.tells → EachMoment (Unchanged (D.seen disk.old).moments.now) (D.seen disk.old).moments (D.seen disk.new).moments }
