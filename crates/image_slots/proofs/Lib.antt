@@ -1,0 +1,4 @@
+pub mod DraftLemmas
+pub mod SelectionLemmas
+pub mod DamageLaws
+pub mod AppendingLemmas

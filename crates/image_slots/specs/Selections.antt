@@ -27,10 +27,6 @@ selections (suc count) = selections count ++ next_selection count ∷ []
 abbrev pub HasSelections : List ℕ → ℕ → List ℕ → Type 0
 HasSelections front count file = HasRecords front (selections count) file
 
--- the place of the gate behind so many selections, where the first gate stands at this place
-abbrev pub gate_behind : ℕ → ℕ → ℕ
-gate_behind at count = at + 6 * count
-
 -- the limit of a journal with room for so many selections and a gate behind them
 abbrev pub selections_limit : ℕ → ℕ → ℕ
 selections_limit at most = at + 1 + 6 * most

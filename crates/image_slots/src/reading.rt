@@ -28,6 +28,7 @@ fn read_next<D: Disk>(
     count: u32,
 ) -> Result<bool, SlotFault>
     requires file { journal.old.file ≡ selections_file }
+    requires gate { 1 ≤ journal.old.length }
     requires readable { IsTrue D.tells → IsReadable journal.old (file_in (D.seen disk.old) selections_file) }
     ensures answer { IsTrue D.tells → SelectionAnswer (bytes_in (D.seen disk.old) selections_file) (gate_of journal.old) journal.old.limit count result }
     ensures moved { IfOk result (λ more. IsTrue more → (journal.new.length ≡ journal.old.length + 6) × (journal.new.length ≤ journal.old.limit)) }

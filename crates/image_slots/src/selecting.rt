@@ -2,7 +2,7 @@
 ghost use Rattle.std.specs.Prelude.{◌≡◌, ◌+◌, ◌*◌, ◌<◌, ◌≤◌, List, ℕ, IsTrue};
 ghost use Rattle.disk_model.specs.DiskSeen.{file_in};
 ghost use Rattle.image_slots.specs.Selections as selecting;
-ghost use Rattle.image_slots.specs.Selections.{drafted_by, gate_behind, selections_file};
+ghost use Rattle.image_slots.specs.Selections.{drafted_by, selections_file};
 ghost use Rattle.image_slots.specs.Slotted.{AreOn, farthest};
 ghost use Rattle.image_slots.specs.Calls.{AddsSelection};
 
