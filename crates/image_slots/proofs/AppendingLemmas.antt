@@ -1,14 +1,14 @@
 -- What an append leaves of the selections.
-use Rattle.std.proofs.Common.{◌≡◌, ◌⊎◌, inl, inr, ℕ, suc, ◌+◌, ◌*◌, ◌<◌, true, List, [], ◌∷◌, ◌++◌, length, sym, ◌∙◌, ap, subst, arith, add-one, length-append}
+use Rattle.std.proofs.Common.{◌≡◌, ◌⊎◌, inl, inr, ℕ, suc, ◌+◌, ◌*◌, ◌<◌, true, List, [], ◌∷◌, ◌++◌, length, sym, ◌∙◌, ap, subst, arith, length-append}
 use Rattle.disk_model.specs.FileState.{FileState, IsFileImage}
 use Rattle.disk_model.specs.Moments.{Files}
 use Rattle.disk_model.proofs.ImageLemmas.{IsSettled-image}
 use Rattle.gate_journal.specs.Gate.{record_text, ClosedAfter}
-use Rattle.gate_journal.specs.Records.{Fits, records_text}
+use Rattle.gate_journal.specs.Records.{records_text}
 use Rattle.gate_journal.specs.Stand.{Stand, text_before, IsAtGate}
 use Rattle.gate_journal.specs.Writes.{IsBeforeOrAfter}
 use Rattle.gate_journal.proofs.GateLemmas.{gate_behind}
-use Rattle.gate_journal.proofs.RecordLemmas.{with_or_without, records_before, front-push, pushed_fit}
+use Rattle.gate_journal.proofs.RecordLemmas.{with_or_without, records_before, front-push}
 use Rattle.image_slots.specs.Selections.{HasSelections, selections, next_selection, selections_limit, selections_file}
 use Rattle.image_slots.specs.Slotted.{Slotted, AreOn, KeepsOrSelects, with_one_more}
 use Rattle.image_slots.proofs.SelectionLemmas.{text_size, all_fit}
@@ -52,9 +52,9 @@ module _ (front : List ℕ) (slots : Slotted) (file : FileState) (on : AreOn fro
   either old files both = record {
     image = λ image is. elim (with_or_without front (selections slots.count) next image (all_fit slots.count) (omega arith)
         (subst (λ (l : List ℕ). ClosedAfter l image ⊎ ClosedAfter (l ++ record_text next) image) text_is (both.image image is))) [
-      | inl kept ↦ inl kept
-      | inr more ↦ inr (one_more image more)
-    ];
+          | inl kept ↦ inl kept
+          | inr more ↦ inr (one_more image more)
+        ];
     others = both.others;
   }
 

@@ -1,6 +1,7 @@
 -- What is read of the selections.
-use Rattle.std.proofs.Common.{◌≡◌, ℕ, suc, ◌+◌, ◌-◌, ◌*◌, ◌≤◌, Bool, true, false, List, [], length, take, Ok, Err, sym, ◌∙◌, ap, subst, arith, length-take}
+use Rattle.std.proofs.Common.{◌≡◌, ℕ, suc, ◌+◌, ◌*◌, ◌<◌, ◌≤◌, Bool, true, false, List, [], length, take, Ok, Err, refl, sym, ◌∙◌, ap, subst, arith, length-take}
 use Rattle.std.specs.Prelude.{Result, IsErrAnd, IsTrue, MatchResult}
+use Rattle.disk_model.specs.FileState.{FileState, IsSettled}
 use Rattle.disk_model.specs.Moments.{Files, Moments, EachMoment}
 use Rattle.disk_model.specs.Changes.{Unchanged}
 use Rattle.disk_model.specs.Reads.{seen}
@@ -14,6 +15,7 @@ use Rattle.gate_journal.specs.Records.{HasRecordsTo}
 use Rattle.gate_journal.proofs.RecordLemmas.{record_unique}
 use Rattle.gate_journal.proofs.GateLemmas.{none_to, next_to, all_to}
 use Rattle.image_slots.specs.Selections.{HasSelections, selections, selections_file, selections_limit, next_selection}
+use Rattle.image_slots.specs.Slotted.{Slotted, AreOn}
 use Rattle.image_slots.specs.Damage.{IsDamaged, selection}
 use Rattle.image_slots.specs.Answers.{SelectionAnswer, FaultAnswer}
 use Rattle.image_slots.specs.Faults.{of_journal}
@@ -48,6 +50,12 @@ pub another_there : (seen : ℕ → List ℕ) (old new : Stand) (into : List ℕ
 another_there seen old new into count false e is answer differs = absurd cc
 another_there seen old new into count true e is answer differs =
     not_next (seen selections_file) (gate_of old) old.limit count into (subst (λ (n : ℕ). IsRecordAt (seen n) (gate_of old) old.limit into) is answer.0) differs
+
+-- a fault that is handed on
+pub fault_passed : {T : Type 0} (P : T → Type 0) (at most : ℕ) (file other : List ℕ) (fault : SlotFault) (result : Result T SlotFault) → other ≡ file → FaultAnswer at most other fault
+    → IsErrAnd result (λ e. e ≡ fault) → MatchResult result P (FaultAnswer at most file)
+fault_passed P at most file other fault (Ok x) are answer same = absurd same
+fault_passed P at most file other fault (Err e) are answer same = subst (FaultAnswer at most file) (sym same) (subst (λ (l : List ℕ). FaultAnswer at most l fault) are answer)
 
 -- ---- all of them
 
@@ -115,9 +123,21 @@ module _ (tells : Bool) (at most : ℕ) (file : List ℕ) (journal : Stand) (cou
 
   pub fault_counted : (fault : SlotFault) (result : Result ℕ SlotFault) → IsTrue tells → SelectionAnswer file (gate_of journal) journal.limit count (Err fault) → IsErrAnd result (λ e. e ≡ fault)
       → MatchResult result (λ n. HasSelections (take at file) n file) (FaultAnswer at most file)
-  fault_counted fault (Ok n) told answer same = absurd same
-  fault_counted fault (Err e) told answer same = subst (FaultAnswer at most file) (sym same) (fault_read fault told (told_at (Err fault) answer))
+  fault_counted fault result told answer same = fault_passed (λ n. HasSelections (take at file) n file) at most file file fault result refl (fault_read fault told (told_at (Err fault) answer)) same
 
 -- reads give the same bytes while no file changes
 pub same_bytes : {old new : Moments} (file : ℕ) → EachMoment (Unchanged old.now) old new → seen new file ≡ seen old file
 same_bytes file each = ap (λ (files : Files). (files file).bytes) (last_moment each)
+
+-- ---- slots of them
+
+pub file_same : {old new : Moments} (file : ℕ) → EachMoment (Unchanged old.now) old new → new.now file ≡ old.now file
+file_same file each = ap (λ (files : Files). files file) (last_moment each)
+
+pub are_on : (at : ℕ) (slots : Slotted) (old new : FileState) → slots.at ≡ at → new ≡ old → IsSettled old → at < length old.bytes → HasSelections (take at old.bytes) slots.count old.bytes
+    → AreOn (take at old.bytes) slots new
+are_on at slots old new at_is same settled inside has = subst (AreOn (take at old.bytes) slots) (sym same) (record {
+  settled = settled;
+  at_is = omega (arith, at_is, inside, length-take at old.bytes);
+  has = has;
+})

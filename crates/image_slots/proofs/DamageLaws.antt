@@ -1,8 +1,8 @@
 -- Selections are damaged at one place, and not where they are all as they should be.
-use Rattle.std.proofs.Common.{◌≡◌, inl, inr, ℕ, ◌+◌, ◌*◌, ◌<◌, ◌≤◌, List, length, take, sym, ◌∙◌, subst, arith, length-append, length-take}
+use Rattle.std.proofs.Common.{◌≡◌, inl, inr, ℕ, ◌≤◌, List, length, take, sym, ◌∙◌, subst, arith, length-take}
 use Rattle.std.proofs.lemmas.Bool.{cases_eq, cases_lt}
 use Rattle.gate_journal.specs.Gate.{IsOpen, IsRecordAt}
-use Rattle.gate_journal.specs.Records.{HasRecordsTo, records_text}
+use Rattle.gate_journal.specs.Records.{HasRecordsTo}
 use Rattle.gate_journal.proofs.GateLemmas.{ended_to}
 use Rattle.image_slots.specs.Selections.{HasSelections, selections, next_selection, selections_limit}
 use Rattle.image_slots.specs.Damage.{HasBadSelection, IsDamaged, no_gate, selection}
@@ -20,11 +20,11 @@ module _ (at most : ℕ) (file : List ℕ) where
   no_more : (gate count last : ℕ) → HasRecordsTo last front (selections count) file → count ≤ most → (bad : HasBadSelection at most file gate) → count ≤ bad.count
   no_more gate count last has few bad = elim (cases_lt bad.count count) [
     | inl less ↦
-      let there = front_is last count has in
-      let end = gate_is last front count file has in
-      let here = gate_is gate front bad.count file bad.read in
-      absurd (bad.no_next (subst (λ (n : ℕ). IsRecordAt file n (selections_limit at most) (next_selection bad.count)) (sym here)
-      (stands_next front file bad.count count last (selections_limit at most) less has (omega (arith, end, there, few)))))
+        let there = front_is last count has in
+        let end = gate_is last front count file has in
+        let here = gate_is gate front bad.count file bad.read in
+        absurd (bad.no_next (subst (λ (n : ℕ). IsRecordAt file n (selections_limit at most) (next_selection bad.count)) (sym here)
+        (stands_next front file bad.count count last (selections_limit at most) less has (omega (arith, end, there, few)))))
     | inr enough ↦ enough
   ]
 
@@ -44,13 +44,13 @@ module _ (at most : ℕ) (file : List ℕ) where
       elim damaged [
         | no_gate is cut ↦ omega (arith, cut, front_is _ count to, end, to.inside)
         | selection bad ↦
-          let there = front_is _ count to in
-          let here = gate_is place front bad.count file bad.read in
-          let low = no_more place count _ to few bad in
-          elim (cases_eq count bad.count) [
-            | inl same ↦ has.closed.closed (subst (IsOpen file) (omega (arith, here, end, same)) bad.is_open)
-            | inr differ ↦
-              has.closed.closed (open_at file _ _ (next_selection count) (subst (λ (n : ℕ). IsRecordAt file n (selections_limit at most) (next_selection count)) (sym end)
-              (stands_next front file count bad.count place (selections_limit at most) (omega (arith, low)) bad.read (omega (arith, here, there, bad.few)))))
-          ]
+            let there = front_is _ count to in
+            let here = gate_is place front bad.count file bad.read in
+            let low = no_more place count _ to few bad in
+            elim (cases_eq count bad.count) [
+              | inl same ↦ has.closed.closed (subst (IsOpen file) (omega (arith, here, end, same)) bad.is_open)
+              | inr differ ↦
+                  has.closed.closed (open_at file _ _ (next_selection count) (subst (λ (n : ℕ). IsRecordAt file n (selections_limit at most) (next_selection count)) (sym end)
+                  (stands_next front file count bad.count place (selections_limit at most) (omega (arith, low)) bad.read (omega (arith, here, there, bad.few)))))
+            ]
       ]

@@ -3,7 +3,7 @@ use Rattle.std.proofs.Common.{◌≡◌, ℕ, ◌+◌, List, [], ◌∷◌, ◌+
 use Rattle.std.specs.Int.{w64, to_le_bytes}
 use Rattle.std.proofs.lemmas.List.{append-nil, take_all, drop_all}
 use Rattle.disk_model.specs.FileState.{FileState, put}
-use Rattle.disk_model.specs.Moments.{Files, Moments, EachMoment}
+use Rattle.disk_model.specs.Moments.{Moments, EachMoment}
 use Rattle.disk_model.specs.Changes.{Changes, LeavesOthers}
 use Rattle.disk_model.proofs.MomentLemmas.{weaken, join, last_moment}
 use Rattle.gate_journal.specs.Gate.{ClosedAfter}

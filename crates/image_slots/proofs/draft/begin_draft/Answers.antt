@@ -1,4 +1,4 @@
-use Rattle.disk_model.specs.Changes.{AfterCut, AfterWrite}
+use Rattle.disk_model.specs.Changes.{AfterCut}
 use Rattle.image_slots.proofs.DraftLemmas.{leaves, leaves_more}
 use Rattle.image_slots.proofs.draft.begin_draft.Goals as goal
 

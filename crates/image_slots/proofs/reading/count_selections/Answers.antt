@@ -1,6 +1,5 @@
 use Rattle.std.proofs.Common.{rules, ◌-◌, List, ℕ, Ok, Err, refl, ◌∙◌, subst}
-use Rattle.std.specs.Prelude.{IsTrue, Result}
-use Rattle.std.specs.Prelude.{Bool}
+use Rattle.std.specs.Prelude.{IsTrue}
 use Rattle.disk_model.specs.Moments.{start}
 use Rattle.disk_model.specs.DiskSeen.{bytes_in}
 use Rattle.gate_journal.proofs.ReadLemmas.{unchanged_then}

@@ -1,4 +1,4 @@
-use Rattle.std.proofs.Common.{rules, ◌≡◌, ◌+◌, ◌*◌, ◌<◌, true, List, [], ◌∷◌, length, Ok, Err, sym, ◌∙◌, subst, arith}
+use Rattle.std.proofs.Common.{rules, ◌≡◌, ◌+◌, ◌*◌, true, List, [], ◌∷◌, Ok, Err, sym, ◌∙◌, subst, arith}
 use Rattle.std.specs.Prelude.{ℕ, IsTrue}
 use Rattle.disk_model.specs.DiskSeen.{file_in}
 use Rattle.disk_model.specs.Moments.{Files}

@@ -1,5 +1,4 @@
-use Rattle.std.proofs.Common.{rules, ◌≡◌, ℕ, ◌+◌, ◌++◌, length, sym, subst}
-use Rattle.std.specs.Prelude.{IsTrue}
+use Rattle.std.proofs.Common.{rules, ◌≡◌, ◌+◌, ◌++◌, length, sym, subst}
 use Rattle.disk_model.specs.FileState.{put}
 use Rattle.disk_model.specs.Moments.{EachMoment}
 use Rattle.disk_model.specs.Changes.{Changes, AfterWrite}
