@@ -1,6 +1,11 @@
 -- What following a record answers.
 use Rattle.std.specs.Prelude.{◌≡◌, ℕ, List, Result, Ok, Err, ⊤}
-use Rattle.chain_state.specs.Chain.{Indexed}
+use Rattle.chain_state.specs.Chain.{Indexed, IsConnected}
+use Rattle.chain_state.specs.StageBack.{IsDisconnected}
+use Rattle.chain_state.specs.declared.stage.StageOutcome.{StageOutcome}
+use Rattle.chain_state.specs.declared.stage.StageOutcome.TheVariants.{Staged, Refused as refused, NoMemory as no_memory}
+use Rattle.chain_state.specs.declared.back.BackOutcome.{BackOutcome}
+use Rattle.chain_state.specs.declared.back.BackOutcome.TheVariants.{StagedBack, Refused as back_refused, NoMemory as back_memory}
 use Rattle.chain_commands.specs.Event.{Command}
 use Rattle.index_commands.specs.Records.{record_of}
 use Rattle.index_commands.specs.Taking.{IsTakenBy, TakesCommand}
@@ -21,3 +26,21 @@ abbrev pub FollowsRecord : Indexed → List ℕ → Result Indexed Unfollowed �
 FollowsRecord old record_is (Ok new) = Follows old record_is new
 FollowsRecord old record_is (Err Refused) = FollowsNot old record_is
 FollowsRecord old record_is (Err NoMemory) = ⊤
+
+-- ---- the commit of what was staged
+
+-- it was done
+pub record IsDone (Commits : Indexed → Type 0) (result : Result Indexed Unfollowed) : Type 0 where
+  pub new : Indexed
+  pub done : Commits new
+  pub is : result ≡ Ok new
+
+abbrev pub Commits : StageOutcome → Result Indexed Unfollowed → Type 0
+Commits (Staged s) result = IsDone (IsConnected s) result
+Commits (refused same refusal) result = result ≡ Err Refused
+Commits (no_memory same) result = result ≡ Err NoMemory
+
+abbrev pub CommitsBack : BackOutcome → Result Indexed Unfollowed → Type 0
+CommitsBack (StagedBack s) result = IsDone (IsDisconnected s) result
+CommitsBack (back_refused same refusal) result = result ≡ Err Refused
+CommitsBack (back_memory same) result = result ≡ Err NoMemory

@@ -1,6 +1,6 @@
 //! Following a command that was kept.
 ghost use Rattle.std.specs.Prelude.{◌≡◌, ◌∷◌, length, Err};
-ghost use Rattle.index_commands.specs.Following.{FollowsRecord};
+ghost use Rattle.index_commands.specs.Following.{FollowsRecord, Commits, CommitsBack};
 
 use crate::staging::{stage_bytes, stage_hash};
 use chain_state::{BackOutcome, Chain, StageOutcome};
@@ -31,6 +31,17 @@ fn without_chain(_chain: Chain, why: Unfollowed) -> Result<Chain, Unfollowed>
     Err(why)
 }
 
+/// The index with the block that was staged. One that was handed back is let go.
+fn committed<L: Ledger>(outcome: StageOutcome, steps: &mut Steps<L>) -> Result<Chain, Unfollowed>
+    ensures { Commits outcome result }
+{
+    match outcome {
+        StageOutcome::Staged(staged) => Ok(staged.commit(steps)),
+        StageOutcome::Refused(chain, _) => without_chain(chain, Unfollowed::Refused),
+        StageOutcome::NoMemory(chain) => without_chain(chain, Unfollowed::NoMemory),
+    }
+}
+
 /// The index with the block.
 fn follow_connect<L: Ledger>(
     alloc: Global,
@@ -43,11 +54,8 @@ fn follow_connect<L: Ledger>(
     if block.len() > LONGEST_BLOCK {
         return without_chain(chain, Unfollowed::Refused);
     }
-    match stage_bytes(alloc, chain, block, 0, u64::MAX, steps) {
-        StageOutcome::Staged(staged) => Ok(staged.commit(steps)),
-        StageOutcome::Refused(chain, _) => without_chain(chain, Unfollowed::Refused),
-        StageOutcome::NoMemory(chain) => without_chain(chain, Unfollowed::NoMemory),
-    }
+    let outcome = stage_bytes(alloc, chain, block, 0, u64::MAX, steps);
+    committed(outcome, steps)
 }
 
 /// The hash of these 32 bytes.
@@ -58,6 +66,20 @@ fn hash_of(bytes: &[u8]) -> Hash32
     let mut hash = [0; 32];
     hash.copy_from_slice(bytes);
     Hash32(hash)
+}
+
+/// The index without the block whose disconnect was staged. One that was handed back is let go.
+fn committed_back<L: Ledger>(
+    outcome: BackOutcome,
+    steps: &mut Steps<L>,
+) -> Result<Chain, Unfollowed>
+    ensures { CommitsBack outcome result }
+{
+    match outcome {
+        BackOutcome::StagedBack(staged) => Ok(staged.commit(steps)),
+        BackOutcome::Refused(chain, _) => without_chain(chain, Unfollowed::Refused),
+        BackOutcome::NoMemory(chain) => without_chain(chain, Unfollowed::NoMemory),
+    }
 }
 
 /// The index without its newest block.
@@ -72,11 +94,8 @@ fn follow_disconnect<L: Ledger>(
     if hash.len() != 32 {
         return without_chain(chain, Unfollowed::Refused);
     }
-    match stage_hash(alloc, chain, hash_of(hash), 0, u64::MAX, steps) {
-        BackOutcome::StagedBack(staged) => Ok(staged.commit(steps)),
-        BackOutcome::Refused(chain, _) => without_chain(chain, Unfollowed::Refused),
-        BackOutcome::NoMemory(chain) => without_chain(chain, Unfollowed::NoMemory),
-    }
+    let outcome = stage_hash(alloc, chain, hash_of(hash), 0, u64::MAX, steps);
+    committed_back(outcome, steps)
 }
 
 /// The index behind the command whose record these bytes are. It is let go where the record isn't followed.
