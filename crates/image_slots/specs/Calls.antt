@@ -49,7 +49,7 @@ pub record OpensSlots (tells : Bool) (at : ℕ) (limits : SlotLimits) (old new :
 -- A draft was begun: its area is empty but for the length of the image. The selected area is among the files that stay.
 pub record Begins (tells : Bool) (slots : Slotted) (image : ℕ) (old new : DiskSeen) (result : Result Drafted DraftFault) : Type 0 where
   pub answer : BeginAnswer slots image result
-  pub holds : IsTrue tells → IfOk result (λ draft. DraftHolds draft [] (bytes_in new (drafted_by slots.count)))
+  pub holds : IsTrue tells → IfOk result (λ draft. DraftHolds draft [] (bytes_in new draft.file))
   pub others : IsTrue tells → EachMoment (LeavesOthers (drafted_by slots.count) old.moments.now) old.moments new.moments
   pub ends : EndsWith DiskFault old new result
 
@@ -57,7 +57,7 @@ pub record Begins (tells : Bool) (slots : Slotted) (image : ℕ) (old new : Disk
 pub record AddsPiece {T : Type 0} (tells : Bool) (old new : Drafted) (piece : List ℕ) (before after : DiskSeen) (result : Result T DraftFault) : Type 0 where
   pub ok : OnOk result (new ≡ record old { written = old.written + length piece })
   pub err : OnErr result (new ≡ old)
-  pub holds : IsTrue tells → (pieces : List ℕ) → DraftHolds old pieces (bytes_in before old.file) → OnOk result (DraftHolds new (pieces ++ piece) (bytes_in after old.file))
+  pub holds : IsTrue tells → (pieces : List ℕ) → DraftHolds old pieces (bytes_in before old.file) → OnOk result (DraftHolds new (pieces ++ piece) (bytes_in after new.file))
   pub others : IsTrue tells → EachMoment (LeavesOthers old.file before.moments.now) before.moments after.moments
   pub alone : IfErr result (λ fault. fault ≡ DiskFault)
   pub ends : Ends before after result
