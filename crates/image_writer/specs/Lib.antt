@@ -1,0 +1,4 @@
+pub mod Page
+pub mod Listed
+pub mod Left
+pub mod Pieces

@@ -1,0 +1,10 @@
+//! The text of an image of an index, given out in pieces, and its length.
+#![tactic(auto)]
+
+mod listed;
+mod page;
+mod stage;
+mod text;
+mod values;
+
+pub use text::ImageText;
