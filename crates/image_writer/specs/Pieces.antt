@@ -6,14 +6,7 @@ use Rattle.std.specs.Prelude.{◌≡◌, ℕ, ◌+◌, ◌<◌, ◌≤◌, List,
 pub record Gives (text rest old new : List ℕ) (at count : ℕ) : Type 0 where
   pub room : at + count ≤ length old
   pub there : count ≤ length text
-  pub bytes : new ≡ (take at old ++ take count text) ++ drop (at + count) old
+  pub front : take (at + count) new ≡ take at old ++ take count text
+  pub behind : drop (at + count) new ≡ drop (at + count) old
   pub left : rest ≡ drop count text
   pub some : count ≡ 0 → at < length old → text ≡ []
-
--- so far: so many bytes of the text stand at the front of the buffer
-pub record Given (text rest old new : List ℕ) (count : ℕ) : Type 0 where
-  pub room : count ≤ length new
-  pub there : count ≤ length text
-  pub bytes : take count new ≡ take count text
-  pub behind : drop count new ≡ drop count old
-  pub left : rest ≡ drop count text

@@ -1,4 +1,4 @@
-ghost use Rattle.std.specs.Prelude.{◌≡◌, ◌+◌, ◌++◌, ◌≤◌, drop, length, min, take};
+ghost use Rattle.std.specs.Prelude.{◌≡◌, ◌+◌, ◌-◌, ◌++◌, ◌≤◌, drop, length, min, take};
 ghost use Rattle.image_writer.specs.Pieces.{Gives};
 
 use crate::listed::Listed;
@@ -10,7 +10,8 @@ use std::marker::Model;
 fn copy_into(bytes: &[u8], buf: &mut [u8], at: usize) -> usize
     requires { at ≤ length buf.old }
     ensures count { result ≡ min (length bytes.now) (length buf.old - at) }
-    ensures bytes { buf.new ≡ (take at buf.old ++ take result bytes.now) ++ drop (at + result) buf.old }
+    ensures front { take (at + result) buf.new ≡ take at buf.old ++ take result bytes.now }
+    ensures behind { drop (at + result) buf.new ≡ drop (at + result) buf.old }
 {
     let count = bytes.len().min(buf.len() - at);
     buf[at..at + count].copy_from_slice(&bytes[..count]);

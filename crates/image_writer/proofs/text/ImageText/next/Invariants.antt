@@ -1,5 +1,5 @@
 use Rattle.std.proofs.Common.{◌-◌, length}
-use Rattle.image_writer.specs.Pieces.{Given}
+use Rattle.image_writer.proofs.PieceLemmas.{Given}
 use Rattle.image_writer.proofs.text.ImageText.next.Given as goal
 
 abbrev pub invariant-loop-filled : goal.invariant-loop-filled
