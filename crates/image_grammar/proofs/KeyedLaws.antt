@@ -186,7 +186,7 @@ module _ {K V X : Type 0} (l : Keyed K V X) where
         let k : K = l.key x in
         let here : lists ys k ≡ l.value x = sym (same k) ∙ first_listed x xs in
         let rest : total f xs ≡ total f (without k ys) =
-            same_sum xs (without k ys) apart.1 (apart_without k ys apart') some.1 (all_without (λ y. l.is_some (l.value y) ≡ true) k ys some') (λ q. by q (l.same k q) refl) in
+        same_sum xs (without k ys) apart.1 (apart_without k ys apart') some.1 (all_without (λ y. l.is_some (l.value y) ≡ true) k ys some') (λ q. by q (l.same k q) refl) in
         ap (λ n. f x + n) rest ∙ sym (taken_out x ys apart' some.0 here)
       where
         by : (q : K) (b : Bool) → l.same (l.key x) q ≡ b → lists xs q ≡ lists (without (l.key x) ys) q

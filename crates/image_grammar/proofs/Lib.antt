@@ -14,3 +14,4 @@ pub mod SortedLaws
 pub mod ReadLaws
 pub mod KeyedLaws
 pub mod StateLaws
+pub mod WrittenLaws

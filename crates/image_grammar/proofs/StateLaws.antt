@@ -155,9 +155,9 @@ one_image-state base undos maps image other is is' =
     let bases : image.base ≡ other.base = is.base_is ∙ sym is'.base_is in
     let records : image.undos ≡ other.undos = is.undos_are ∙ sym is'.undos_are in
     let coins : image.coins ≡ other.coins =
-        one_coins maps.coins image.coins other.coins (ap (λ (m : Maps). m.coins) is.maps_are) (ap (λ (m : Maps). m.coins) is'.maps_are) is.coins_sorted is'.coins_sorted in
+    one_coins maps.coins image.coins other.coins (ap (λ (m : Maps). m.coins) is.maps_are) (ap (λ (m : Maps). m.coins) is'.maps_are) is.coins_sorted is'.coins_sorted in
     let names : image.names ≡ other.names =
-        one_names maps.names image.names other.names (ap (λ (m : Maps). m.names) is.maps_are) (ap (λ (m : Maps). m.names) is'.maps_are) is.names_sorted is'.names_sorted is.some is'.some in
+    one_names maps.names image.names other.names (ap (λ (m : Maps). m.names) is.maps_are) (ap (λ (m : Maps). m.names) is'.maps_are) is.names_sorted is'.names_sorted is.some is'.some in
     λ i. record { base = bases i; undos = records i; coins = coins i; names = names i }
 
 pub one_text-state : (version : Version) (base : Base) (undos : List UndoRecord) (maps : Maps) (text other : List ℕ) → IsStateText version base undos maps text → IsStateText version base undos maps other

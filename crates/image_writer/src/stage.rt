@@ -18,7 +18,9 @@ use std::sync::ledger::{Blank, Ledger};
 #[derive(Clone, Copy)]
 pub(crate) enum Stage<'a> {
     /// Records, the oldest first.
-    InUndos { undos: &'a [Undo] },
+    InUndos {
+        undos: &'a [Undo],
+    },
     /// Operations of a record.
     InOps {
         ops: &'a [UndoOp],
@@ -31,11 +33,18 @@ pub(crate) enum Stage<'a> {
         undos: &'a [Undo],
     },
     /// Coins, from this one on.
-    InCoins { from: usize },
+    InCoins {
+        from: usize,
+    },
     /// Names, from this one on.
-    InNames { from: usize },
+    InNames {
+        from: usize,
+    },
     /// Items of the name before this one.
-    InItems { items: &'a [Item], from: usize },
+    InItems {
+        items: &'a [Item],
+        from: usize,
+    },
 }
 
 /// The head of the next record; behind the last, the number of coins.
