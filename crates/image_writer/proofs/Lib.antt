@@ -1,1 +1,3 @@
 pub mod PieceLemmas
+pub mod KeyLemmas
+pub mod OrderLemmas

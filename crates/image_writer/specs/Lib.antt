@@ -1,4 +1,5 @@
 pub mod Page
+pub mod Ordered
 pub mod Listed
 pub mod Left
 pub mod Pieces

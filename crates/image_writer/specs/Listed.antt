@@ -1,5 +1,5 @@
 -- The coins and names of a state, in the order in which an image lists them.
-use Rattle.std.specs.Prelude.{ℕ, ◌≤◌, List, length}
+use Rattle.std.specs.Prelude.{ℕ, ◌≤◌, List, length, map}
 use Rattle.std.specs.List.{AllByRecursion}
 use denote.Ref.{Bor}
 use Rattle.nmc_base.specs.declared.limits.TheConstants.{LONGEST_VALUE}
@@ -10,13 +10,17 @@ use Rattle.chain_names.specs.Writable.{IsWritableName, HasShortName}
 use Rattle.image_grammar.specs.Image.{History}
 use Rattle.image_writer.specs.declared.listed.Entry.{Entry}
 use Rattle.image_writer.specs.declared.listed.Listed.{Listed}
+use Rattle.image_writer.specs.Ordered.{history_in}
 
 abbrev pub seen_entry : Entry → HeldCoin
 seen_entry entry = record { at = entry.at.now; coin = entry.coin.now }
 
--- a name with its items
+-- the bytes behind references
+abbrev pub bytes_of : List (Bor (List ℕ)) → List (List ℕ)
+bytes_of names = map (λ name. name.now) names
+
 abbrev pub history_by : NameSlots → Bor (List ℕ) → History
-history_by slots name = record { name = name.now; items = names_in slots name.now }
+history_by slots name = history_in slots name.now
 
 -- ---- lengths
 

@@ -2,6 +2,7 @@
 #![tactic(auto)]
 
 mod listed;
+mod order;
 mod page;
 mod stage;
 mod text;
