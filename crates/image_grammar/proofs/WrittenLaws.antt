@@ -37,7 +37,7 @@ use Rattle.image_grammar.proofs.StateLaws.{coins_keyed, coins_lists, names_keyed
 
 -- ---- records
 
-sound_limits : (profile : Profile) (base tip : ℕ) (maps : Maps) (us : List UndoRecord) → IsSound profile base tip maps us → AllByRecursion IsWithinLimits us
+pub sound_limits : (profile : Profile) (base tip : ℕ) (maps : Maps) (us : List UndoRecord) → IsSound profile base tip maps us → AllByRecursion IsWithinLimits us
 sound_limits profile base tip maps [] sound = tt
 sound_limits profile base tip maps (u ∷ us) sound = (sound.1.limits, sound_limits profile base sound.0 (undone u.ops u.expired maps) us sound.2)
 
@@ -45,14 +45,14 @@ all_writable : (us : List UndoRecord) → AllByRecursion IsWithinLimits us → A
 all_writable [] limits measured = tt
 all_writable (u ∷ us) limits measured = (measured_fits u limits.0 measured.0, all_writable us limits.1 measured.1)
 
-all_reversed : {X : Type 0} (P : X → Type 0) (xs : List X) → AllByRecursion P xs → AllByRecursion P (reverse xs)
+pub all_reversed : {X : Type 0} (P : X → Type 0) (xs : List X) → AllByRecursion P xs → AllByRecursion P (reverse xs)
 all_reversed P [] all = tt
 all_reversed {X = X} P (x ∷ xs) all =
     subst (AllByRecursion P) (sym (reverse-append (x ∷ []) xs)) (all-append P (reverse xs) (x ∷ []) (all_reversed P xs all.1) (all.0, tt))
 
 -- ---- coins
 
-short_name : (name : List ℕ) (items : List Item) (item : Item) → AllByRecursion (FitsItem name) items → entry_of items ≡ Some item → IsWritableName name
+pub short_name : (name : List ℕ) (items : List Item) (item : Item) → AllByRecursion (FitsItem name) items → entry_of items ≡ Some item → IsWritableName name
 short_name name [] item fits e = let bad : None ≡ Some item = e in absurd cc
 short_name name (first ∷ items) item fits e = fits.0.name_length
 
@@ -118,7 +118,7 @@ items_writable name [] fits widths = tt
 items_writable name (item ∷ items) fits widths =
     (record { height = widths.0.height; registered = widths.0.registered; at = widths.0.at; value = fits.0.value_length }, items_writable name items fits.1 widths.1)
 
-name_short : (name : List ℕ) (items : List Item) → items ≢ [] → AllByRecursion (FitsItem name) items → IsWritableName name
+pub name_short : (name : List ℕ) (items : List Item) → items ≢ [] → AllByRecursion (FitsItem name) items → IsWritableName name
 name_short name [] some fits = absurd (some refl)
 name_short name (item ∷ items) some fits = fits.0.name_length
 

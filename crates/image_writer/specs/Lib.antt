@@ -2,4 +2,5 @@ pub mod Page
 pub mod Ordered
 pub mod Listed
 pub mod Left
+pub mod Whole
 pub mod Pieces

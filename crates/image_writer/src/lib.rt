@@ -7,5 +7,6 @@ mod page;
 mod stage;
 mod text;
 mod values;
+mod widths;
 
-pub use text::ImageText;
+pub use text::{ImageText, image_text};

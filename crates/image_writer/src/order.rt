@@ -6,12 +6,16 @@ ghost use Rattle.std.specs.Map.{keys_of};
 ghost use Rattle.std.specs.Str.{bytes_eq};
 ghost use Rattle.chain_names.specs.Points.{same_point};
 ghost use Rattle.chain_names.specs.Tables.{AreCoinsFilled, AreNamesFilled};
+ghost use Rattle.name_tables.specs.Parts.{tables_of};
+ghost use Rattle.name_tables.specs.Tables.{AreFilled};
 ghost use Rattle.image_writer.specs.Listed.{seen_entry, history_by, bytes_of};
 ghost use Rattle.image_writer.specs.Ordered.{held_in, ListsCoins, ListsNames};
+ghost use Rattle.image_writer.specs.Whole.{ListsParts};
 
-use crate::listed::Entry;
+use crate::listed::{Entry, Listed};
 use name_coins::Coins;
 use name_table::Table;
+use name_tables::Parts;
 use nmc_base::{NoMemory, Steps};
 use std::alloc::Global;
 use std::marker::Brand;
@@ -63,7 +67,7 @@ fn collect_coins<'a, L: Ledger>(
 }
 
 /// The coins, in the order of their outpoints. It takes 16 bytes for each.
-pub(crate) fn coins_in_order<'a>(alloc: Global, coins: &'a Coins) -> Result<Vec<Entry<'a>>, NoMemory>
+fn coins_in_order<'a>(alloc: Global, coins: &'a Coins) -> Result<Vec<Entry<'a>>, NoMemory>
     requires { AreCoinsFilled coins.now }
     ensures { IfOk result (λ entries. ListsCoins coins.now (map seen_entry entries.items)) }
 {
@@ -116,11 +120,23 @@ fn collect_names<'a, L: Ledger>(
 }
 
 /// The names, in the order of their bytes. It takes 16 bytes for each.
-pub(crate) fn names_in_order<'a>(alloc: Global, names: &'a Table) -> Result<Vec<&'a [u8]>, NoMemory>
+fn names_in_order<'a>(alloc: Global, names: &'a Table) -> Result<Vec<&'a [u8]>, NoMemory>
     requires { AreNamesFilled names.now }
     ensures { IfOk result (λ listed. ListsNames names.now (map (history_by names.now) listed.items)) }
 {
     let mut listed = collect_names::<Brand>(alloc, names, Blank::new(1))?;
     listed.sort_unstable();
     Ok(listed)
+}
+
+/// The coins and names of these parts, in order.
+pub(crate) fn list_parts<'a>(alloc: Global, parts: &'a Parts) -> Result<Listed<'a>, NoMemory>
+    requires { AreFilled (tables_of parts.now) }
+    ensures { IfOk result (λ listed. ListsParts parts.now listed) }
+{
+    Ok(Listed {
+        coins: coins_in_order(alloc, &parts.coins)?,
+        names: names_in_order(alloc, &parts.names)?,
+        table: &parts.names,
+    })
 }

@@ -1,9 +1,21 @@
-ghost use Rattle.std.specs.Prelude.{◌≡◌, ◌+◌, ◌-◌, ◌++◌, ◌≤◌, drop, length, min, take};
+ghost use Rattle.std.specs.Prelude.{◌≡◌, ℕ, ◌+◌, ◌-◌, ◌++◌, ◌≤◌, drop, length, min, take, IfOk};
+ghost use Rattle.name_tables.specs.Parts.{newest_first, tables_of};
+ghost use Rattle.name_tables.specs.Tables.{maps_by, AreFilled};
+ghost use Rattle.chain_names.specs.Sound.{IsSound};
+ghost use Rattle.undo_records.specs.declared.version.Version.TheVariants.{Two};
+ghost use Rattle.image_grammar.specs.Text.{IsStateText};
 ghost use Rattle.image_writer.specs.Pieces.{Gives};
+ghost use Rattle.image_writer.specs.Whole.{IsReadAgain};
 
 use crate::listed::Listed;
+use crate::order::list_parts;
 use crate::page::Page;
 use crate::stage::Stage;
+use crate::values::{put_count, put_head};
+use crate::widths::read_widths;
+use name_tables::Parts;
+use nmc_base::{Base, NoMemory};
+use std::alloc::Global;
 use std::marker::Model;
 
 /// Copies bytes into the buffer, from a place on, as many as there are or as have room there. Answers how many.
@@ -77,4 +89,32 @@ impl<'a> ImageText<'a> {
         }
         filled
     }
+}
+
+/// The text of the image of an index, in version 2: its base, and its parts.
+///
+/// It takes all its memory here: the order of coins and names, 16 bytes for each. Giving the text out takes none.
+pub fn image_text<'a>(
+    alloc: Global,
+    base: &'a Base,
+    parts: &'a Parts,
+) -> Result<ImageText<'a>, NoMemory>
+    requires filled { AreFilled (tables_of parts.now) }
+    requires sound { (tip : ℕ) × IsSound base.now.profile base.now.height tip (maps_by (tables_of parts.now)) (newest_first parts.now.undos.items) }
+    ensures text { IfOk result (λ t. IsStateText Two base.now (newest_first parts.now.undos.items) (maps_by (tables_of parts.now)) t) }
+    // A text that isn't too long is read again.
+    ensures again { IfOk result (λ t. IsReadAgain base.now (newest_first parts.now.undos.items) (maps_by (tables_of parts.now)) t) }
+{
+    read_widths(base, parts);
+    let listed = list_parts(alloc, parts)?;
+    let undos = parts.undos.as_slice();
+    let mut page = Page::new();
+    put_head(&mut page, base);
+    put_count(&mut page, undos.len());
+    Ok(ImageText {
+        listed,
+        stage: Stage::InUndos { undos },
+        page,
+        given: 0,
+    })
 }

@@ -8,12 +8,13 @@ ghost use Rattle.chain_names.specs.Limits.{IsShortBefore, IsWithinLimitsOp};
 ghost use Rattle.chain_names.specs.Writable.{change_of, IsWritableName, HasShortName};
 ghost use Rattle.undo_records.specs.declared.version.Version.TheVariants.{Two};
 ghost use Rattle.undo_records.specs.Text.{point_text, name_text, coin_text, item_text, before_text, change_text, op_text, held_text};
+ghost use Rattle.image_grammar.specs.Text.{head_text, profile_byte};
 ghost use Rattle.image_writer.specs.declared.page.TheConstants.{PAGE};
 ghost use Rattle.image_writer.specs.Page.{Grows};
 
 use crate::page::Page;
 use chain_names::{Coin, Item, UndoOp};
-use nmc_base::OutPoint;
+use nmc_base::{Base, OutPoint, Profile};
 use undo_records::coins::{NAMED, NEW};
 use undo_records::ops::{FIRST, MADE, UPDATE};
 
@@ -39,6 +40,28 @@ pub(crate) fn put_count(page: &mut Page, count: usize)
     ensures grows { Grows 4 page.old page.new }
 {
     page.put(&count.to_le_bytes()[..4]);
+}
+
+/// The byte of a profile.
+fn profile_number(profile: Profile) -> u8
+    ensures { result ≡ profile_byte profile }
+{
+    match profile {
+        Profile::Regtest => 1,
+        Profile::Main => 2,
+    }
+}
+
+/// What an image begins with: a mark, the version, and the base.
+pub(crate) fn put_head(page: &mut Page, base: &Base)
+    requires { length page.old + 42 ≤ PAGE }
+    ensures text { page.new ≡ page.old ++ head_text Two base.now }
+    ensures grows { Grows 42 page.old page.new }
+{
+    page.put(b"NMCI");
+    page.put(&[2, profile_number(base.profile)]);
+    put_u32(page, base.height);
+    page.put(&base.hash.0);
 }
 
 /// An outpoint.
