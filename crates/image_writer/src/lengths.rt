@@ -33,7 +33,7 @@ fn add_item(total: u64, item: &Item) -> u64
 }
 
 #[tactic(auto, using(crate::proofs::LengthLemmas::new_length, crate::proofs::LengthLemmas::named_length))]
-fn add_held(total: u64, at: OutPoint, coin: &Coin) -> u64
+pub(crate) fn add_held(total: u64, at: OutPoint, coin: &Coin) -> u64
     ensures { let held : HeldCoin = record { at = at; coin = coin.now } in result ≡ capped (total + length (held_text held)) }
 {
     read_coin(at, coin);
@@ -155,7 +155,7 @@ fn add_items(total: u64, items: &[Item]) -> u64
 }
 
 #[tactic(auto, using(crate::proofs::LengthLemmas::history_length))]
-fn add_history(total: u64, name: &[u8], items: &[Item]) -> u64
+pub(crate) fn add_history(total: u64, name: &[u8], items: &[Item]) -> u64
     ensures { let history : History = record { name = name.now; items = items.now } in result ≡ capped (total + length (history_text Two history)) }
 {
     add_items(add_name(total, name).saturating_add(4), items)
