@@ -1,0 +1,6 @@
+pub mod PieceLemmas
+pub mod KeyLemmas
+pub mod OrderLemmas
+pub mod WholeLemmas
+pub mod LengthLemmas
+pub mod CountLemmas
