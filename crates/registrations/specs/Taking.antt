@@ -1,5 +1,5 @@
 -- What operations did to histories is taken back.
-use Rattle.std.specs.Prelude.{ℕ, List, [], ◌∷◌, Option, Some, None}
+use Rattle.std.specs.Prelude.{◌≡◌, ℕ, List, [], ◌∷◌, Option, Some, None}
 use Rattle.std.specs.Str.{bytes_eq}
 use Rattle.nmc_base.specs.declared.hashes.Hash32.{Hash32}
 use Rattle.chain_names.specs.declared.coin.HeldCoin.{HeldCoin}
@@ -30,6 +30,12 @@ last_at (Some name) names = entry_of (names name)
 abbrev pub names_before : Option (List ℕ) → Histories → Histories
 names_before None names = names
 names_before (Some name) names = changed bytes_eq names name (without_entry (names name))
+
+-- the operation was taken back, with the item that it made
+pub record IsTakenBack (old new : Histories) (op : UndoOp) (t : Taken) : Type 0 where
+  pub op_is : t.op ≡ op
+  pub item_is : t.item ≡ last_at (name_of op) old
+  pub names_are : new ≡ names_before (name_of op) old
 
 -- ---- operations, from the last to the first
 

@@ -6,7 +6,7 @@ ghost use Rattle.chain_names.specs.Tables.{names_in};
 ghost use Rattle.name_tables.specs.Parts.{newest_first};
 ghost use Rattle.registrations.specs.Seen.{seen_taken};
 ghost use Rattle.registrations.specs.Taking as taking;
-ghost use Rattle.registrations.specs.Taking.{before_all, last_at, names_at_base, names_before, undos_taken};
+ghost use Rattle.registrations.specs.Taking.{IsTakenBack, before_all, names_at_base, undos_taken};
 
 use chain_names::{HeldCoin, Item, Undo, UndoOp};
 use name_table::Table;
@@ -43,9 +43,7 @@ pub(crate) fn name_of(op: &UndoOp) -> Option<&[u8]>
 
 /// Takes an operation back: the last item of its name.
 fn take_op<L: Ledger>(names: &mut Table, op: UndoOp, steps: &mut Steps<L>) -> Taken
-    ensures op { result.op ≡ op }
-    ensures item { result.item ≡ last_at (taking.name_of op) (names_in names.old) }
-    ensures names { names_in names.new ≡ names_before (taking.name_of op) (names_in names.old) }
+    ensures back { IsTakenBack (names_in names.old) (names_in names.new) op result }
     ensures list { keys_of names.new ≡ keys_of names.old }
 {
     let item = match name_of(&op) {
