@@ -1,2 +1,4 @@
 mod ListLemmas
 mod TakingLemmas
+mod NameLemmas
+mod BeginningLemmas

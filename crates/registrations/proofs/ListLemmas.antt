@@ -2,7 +2,7 @@
 use Rattle.std.proofs.Common.{◌≡◌, ℕ, zero, suc, ◌+◌, ◌-◌, ◌<◌, ◌≤◌, Bool, true, false, cond, List, [], ◌∷◌, ◌++◌, length, map, reverse, take, refl, sym, ap, ◌∙◌, arith, length-append, append_assoc}
 use Rattle.std.proofs.Math.Path.{fun_ext}
 use Rattle.std.proofs.lemmas.List.{reverse-append, map-append}
-use Rattle.std.specs.Prelude.{Some, slice_get}
+use Rattle.std.specs.Prelude.{Some, None, slice_get}
 use Rattle.chain_names.specs.declared.coin.Item.{Item}
 use Rattle.chain_names.specs.declared.undo.Undo.{Undo}
 use Rattle.chain_names.specs.Seen.{seen_undo}
@@ -34,3 +34,17 @@ front_and_last (first ∷ []) item e = let same : first ≡ item = cc in ap (λ 
 front_and_last (first ∷ next ∷ items) item e =
     let past : length (first ∷ next ∷ items) - 1 ≡ suc (length (next ∷ items) - 1) = omega arith in
     ap (λ n. take n (first ∷ next ∷ items) ++ item ∷ []) past ∙ ap (λ rest. first ∷ rest) (front_and_last (next ∷ items) item e)
+
+-- ---- the elements below a place
+
+module _ {A : Type 0} where
+  pub take_next : (xs : List A) (i : ℕ) (x : A) → slice_get xs i ≡ Some x → take (suc i) xs ≡ take i xs ++ x ∷ []
+  take_next [] i x e = absurd cc
+  take_next (y ∷ xs) zero x e = let same : y ≡ x = cc in ap (λ z. z ∷ []) same
+  take_next (y ∷ xs) (suc i) x e = ap (λ l. y ∷ l) (take_next xs i x e)
+
+  pub take_past : (xs : List A) (i : ℕ) → slice_get xs i ≡ None → take i xs ≡ xs
+  take_past [] zero e = refl
+  take_past [] (suc i) e = refl
+  take_past (x ∷ xs) zero e = absurd cc
+  take_past (x ∷ xs) (suc i) e = ap (λ l. x ∷ l) (take_past xs i e)
