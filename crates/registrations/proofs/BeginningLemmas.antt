@@ -86,6 +86,14 @@ all_put first now name all items e so =
     nothing [] = refl
     nothing (x ∷ xs) = ap (λ rest. x ∷ rest) (nothing xs)
 
+-- all items of the name were taken away and put back
+pub begun_whole : (first empty last : Histories) (name : List ℕ) (items : List Item) → IsEmptied first empty name items
+    → last ≡ changed bytes_eq empty name (empty name ++ map begun (reverse items)) → last ≡ changed bytes_eq first name (map begun (first name))
+begun_whole first empty last name items emptied e =
+    let none : empty name ≡ [] = ap (λ (ns : Histories). ns name) emptied.none ∙ at_name first name [] in
+    e ∙ ap (λ l. changed bytes_eq empty name (l ++ map begun (reverse items))) none ∙ ap (λ l. changed bytes_eq empty name (map begun l)) emptied.all
+    ∙ ap (λ ns. changed bytes_eq ns name (map begun (first name))) emptied.none ∙ changed_over first name [] (map begun (first name))
+
 -- ---- name after name
 
 begun_twice : (items : List Item) → map begun (map begun items) ≡ map begun items

@@ -1,4 +1,4 @@
-ghost use Rattle.std.specs.Prelude.{◌≡◌, ◌++◌, ◌≤◌, [], length, map, reverse, slice_get, true, IfOk, OnOk};
+ghost use Rattle.std.specs.Prelude.{◌≡◌, ◌++◌, ◌≤◌, [], length, map, reverse, slice_get, true, IfOk, IfSome, OnOk};
 ghost use Rattle.std.specs.Map.{keys_of};
 ghost use Rattle.std.specs.Str.{bytes_eq};
 ghost use Rattle.chain_names.specs.Points.{changed};
@@ -97,6 +97,7 @@ fn name_copy<L: Ledger>(
     steps: &mut Steps<L>,
 ) -> Result<Option<Bytes>, NoMemory>
     ensures copy { IfOk result (λ name. name ≡ slice_get (keys_of names.now) i) }
+    ensures placed { IfOk result (λ name. IfSome name (λ bytes. name_places names.now bytes ≡ true)) }
 {
     match names.name_at(i, steps) {
         Some(name) => Ok(Some(Bytes::copy_of(alloc, name)?)),
