@@ -2,3 +2,5 @@ mod ListLemmas
 mod TakingLemmas
 mod NameLemmas
 mod BeginningLemmas
+mod PlaceLemmas
+mod PuttingLemmas
