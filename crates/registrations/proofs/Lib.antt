@@ -1,6 +1,9 @@
 mod ListLemmas
-mod TakingLemmas
 mod NameLemmas
+mod TakingLemmas
 mod BeginningLemmas
 mod PlaceLemmas
 mod PuttingLemmas
+pub mod SoundLemmas
+pub mod ToldLemmas
+pub mod OnlyLemmas
