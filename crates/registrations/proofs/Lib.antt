@@ -7,3 +7,5 @@ mod PuttingLemmas
 pub mod SoundLemmas
 pub mod ToldLemmas
 pub mod OnlyLemmas
+mod FilledLemmas
+mod KeptLemmas

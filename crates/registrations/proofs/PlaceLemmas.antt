@@ -1,11 +1,16 @@
 -- Which places a table has, once items were put into it.
-use Rattle.std.proofs.Common.{◌≡◌, ◌≢◌, ◌⊎◌, Bool, true, false, cond, List, [], ◌∷◌, ◌++◌, ℕ, inl, inr, ⊎_elim, refl, sym, ap, subst, ◌∙◌}
+use Rattle.std.proofs.Common.{◌≡◌, ◌≢◌, ◌⊎◌, Bool, true, false, cond, List, [], ◌∷◌, ◌++◌, ℕ, map, Option, Some, None, is_some, inl, inr, ⊎_elim, refl, sym, ap, subst, ◌∙◌}
+use Rattle.std.proofs.Math.Path.{fun_ext}
+use Rattle.std.specs.Map.{lookup}
 use Rattle.std.specs.Str.{bytes_eq}
+use Rattle.nmc_base.specs.Roomy.{Roomy}
 use Rattle.chain_names.specs.declared.coin.Item.{Item}
 use Rattle.chain_names.specs.Coins.{with_value}
 use Rattle.chain_names.specs.Points.{changed}
-use Rattle.chain_names.specs.Tables.{NameSlots, names_in, name_places}
+use Rattle.chain_names.specs.Tables.{NameSlots, items_of, names_in, name_places}
+use Rattle.undo_records.specs.Versions.{item_without}
 use Rattle.registrations.specs.Places.{PlacesFilled}
+use Rattle.registrations.specs.Told.{Histories, names_without}
 
 some_there : (items : List Item) (item : Item) → items ++ item ∷ [] ≢ []
 some_there [] item e = absurd cc
@@ -34,3 +39,30 @@ then_filled first now next before after name =
     ⊎_elim (λ some. inl some)
     (λ same.
     ⊎_elim (λ some. inl (λ none. some (sym same.0 ∙ none))) (λ was. inr (same.0 ∙ was.0, same.1 ∙ was.1)) (before name)) (after name)
+
+-- ---- once all is told as before
+
+no_items : (entry : Option (Roomy Item)) → items_of entry ≢ [] → is_some entry ≡ true
+no_items None some = absurd (some refl)
+no_items (Some history) some = refl
+
+pub placed : (slots : NameSlots) (name : List ℕ) → names_in slots name ≢ [] → name_places slots name ≡ true
+placed slots name some = no_items (lookup (bytes_eq name) slots) some
+
+none_told : (items others : List Item) → map item_without items ≡ map item_without others → others ≡ [] → items ≡ []
+none_told [] others same none = refl
+none_told (item ∷ items) others same none =
+    let empty : map item_without (item ∷ items) ≡ [] = same ∙ ap (map item_without) none in
+    absurd cc
+
+-- where items were put only where there were items, no place is new
+pub places_same : (first emptied last : NameSlots) → name_places emptied ≡ name_places first → PlacesFilled emptied last → names_without (names_in last) ≡ names_without (names_in first)
+    → name_places last ≡ name_places first
+places_same first emptied last same filled told = fun_ext (λ name. by name (filled name))
+  where
+    by : (name : List ℕ) → (names_in last name ≢ []) ⊎ ((names_in last name ≡ names_in emptied name) × (name_places last name ≡ name_places emptied name))
+        → name_places last name ≡ name_places first name
+    by name (inl some) =
+        placed last name some
+        ∙ sym (placed first name (λ none. some (none_told (names_in last name) (names_in first name) (ap (λ (ns : Histories). ns name) told) none)))
+    by name (inr kept) = kept.1 ∙ ap (λ (places : List ℕ → Bool). places name) same

@@ -23,7 +23,7 @@ use Rattle.registrations.proofs.SoundLemmas.{put_back}
 
 -- ---- histories without registration heights
 
-entry_told : (items : List Item) → entry_of (map item_without items) ≡ before_without (entry_of items)
+pub entry_told : (items : List Item) → entry_of (map item_without items) ≡ before_without (entry_of items)
 entry_told [] = refl
 entry_told (item ∷ []) = refl
 entry_told (item ∷ next ∷ items) = entry_told (next ∷ items)

@@ -1,13 +1,15 @@
 -- The registration heights as they follow from the records: an item that no operation made begins its registration, and so does
 -- one that an operation made which opens a name; one that an operation made which updates a name goes on with the registration
 -- of the item before it.
-use Rattle.std.specs.Prelude.{ℕ, List, [], ◌∷◌, map, Option, Some, None}
+use Rattle.std.specs.Prelude.{◌≡◌, ℕ, List, [], ◌∷◌, map, Option, Some, None}
 use Rattle.chain_names.specs.declared.coin.Item.{Item}
 use Rattle.chain_names.specs.declared.undo.UndoOp.{UndoOp}
 use Rattle.chain_names.specs.declared.undo.UndoOp.TheVariants.{New, First, Update}
 use Rattle.chain_names.specs.Coins.{with_value}
+use Rattle.chain_names.specs.Tables.{NameSlots, names_in, name_places}
 use Rattle.chain_names.specs.Undo.{UndoRecord}
 use Rattle.registrations.specs.declared.taking.Taken.{Taken}
+use Rattle.registrations.specs.Places.{PlacesFilled}
 use Rattle.registrations.specs.Told.{Histories}
 use Rattle.registrations.specs.Taking.{TakenUndo, name_of, last_at, before_all, taken, names_at_base, undos_taken}
 
@@ -95,3 +97,17 @@ names_filled us names = names_with (undos_taken us names) (all_begun (names_at_b
 
 abbrev pub undos_filled : List UndoRecord → Histories → List UndoRecord
 undos_filled us names = undos_with (undos_taken us names) (all_begun (names_at_base us names))
+
+-- ---- tables
+
+-- records are done again, the newest of which stands first
+pub record AreDone (old new : NameSlots) (back : List TakenUndo) (us : List UndoRecord) : Type 0 where
+  pub names_are : names_in new ≡ names_with back (names_in old)
+  pub undos_are : us ≡ undos_with back (names_in old)
+  pub places : PlacesFilled old new
+
+-- the registration heights are those that follow from the records, and no place is gone or new
+pub record AreFilledBy (old new : NameSlots) (before after : List UndoRecord) : Type 0 where
+  pub names_are : names_in new ≡ names_filled before (names_in old)
+  pub undos_are : after ≡ undos_filled before (names_in old)
+  pub places : name_places new ≡ name_places old

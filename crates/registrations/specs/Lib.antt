@@ -1,5 +1,6 @@
 pub mod Told
+pub mod Places
 pub mod Taking
 pub mod Filling
 pub mod Seen
-pub mod Places
+pub mod Kept

@@ -2,10 +2,11 @@ ghost use Rattle.std.specs.Prelude.{◌≡◌, ℕ, ◌<◌, List, OnOk};
 ghost use Rattle.nmc_base.specs.declared.chain_ends.Profile.{Profile};
 ghost use Rattle.chain_names.specs.Coins.{Maps};
 ghost use Rattle.chain_names.specs.Sound.{IsSound};
-ghost use Rattle.chain_names.specs.Tables.{names_in, name_places};
+ghost use Rattle.chain_names.specs.Tables.{names_in};
 ghost use Rattle.chain_names.specs.Undo.{UndoRecord};
 ghost use Rattle.name_tables.specs.Parts.{newest_first};
-ghost use Rattle.registrations.specs.Filling.{names_filled, undos_filled};
+ghost use Rattle.registrations.specs.Filling.{AreFilledBy};
+ghost use Rattle.registrations.specs.Kept.{KeepsLimits};
 ghost use Rattle.registrations.specs.Told.{TellSame};
 
 use crate::beginnings::begin_all;
@@ -28,9 +29,7 @@ fn fill_by_rule<L: Ledger>(
     requires name { blank.name ≡ L.name }
     requires parts { blank.parts ≡ L.parts }
     requires some { 0 < blank.parts }
-    ensures names { OnOk result (names_in names.new ≡ names_filled (newest_first undos.old.items) (names_in names.old)) }
-    ensures undos { OnOk result (newest_first undos.new.items ≡ undos_filled (newest_first undos.old.items) (names_in names.old)) }
-    ensures places { OnOk result (name_places names.new ≡ name_places names.old) }
+    ensures { OnOk result (AreFilledBy names.old names.new (newest_first undos.old.items) (newest_first undos.new.items)) }
 {
     let mut steps = Steps::<L>::new(blank);
     let back = take_undos(alloc, names, undos, &mut steps)?;
@@ -53,7 +52,8 @@ pub fn fill(
     // Of all states of which it tells this, no other is sound.
     ensures only { OnOk result ((profile : Profile) (base tip : ℕ) (maps : Maps) (us : List UndoRecord) → IsSound profile base tip maps us
         → TellSame maps.names (names_in names.old) us (newest_first undos.old.items) → (maps.names ≡ names_in names.new) × (us ≡ newest_first undos.new.items)) }
-    ensures places { OnOk result (name_places names.new ≡ name_places names.old) }
+    // What else is known of them stays: which places there are, how long all is, how many coins there are.
+    ensures kept { OnOk result (KeepsLimits names.old names.new undos.old.items undos.new.items) }
 {
     fill_by_rule::<Brand>(alloc, names, undos, Blank::new(1))
 }

@@ -4,7 +4,7 @@ ghost use Rattle.chain_names.specs.Seen.{seen_undo};
 ghost use Rattle.chain_names.specs.Tables.{names_in};
 ghost use Rattle.name_tables.specs.Parts.{newest_first};
 ghost use Rattle.registrations.specs.Filling as filling;
-ghost use Rattle.registrations.specs.Filling.{names_with, ops_with, op_with, undo_with, undos_with, with_all, with_last, with_made};
+ghost use Rattle.registrations.specs.Filling.{AreDone, ops_with, op_with, undo_with, with_all, with_last, with_made};
 ghost use Rattle.registrations.specs.Places.{PlacesFilled};
 ghost use Rattle.registrations.specs.Seen.{seen_taken};
 ghost use Rattle.registrations.specs.Taking as taking;
@@ -178,9 +178,7 @@ pub(crate) fn put_undos<L: Ledger>(
     steps: &mut Steps<L>,
 ) -> Result<(), NoMemory>
     requires { undos.old.items ≡ [] }
-    ensures undos { OnOk result (newest_first undos.new.items ≡ undos_with (map seen_taken back.items) (names_in names.old)) }
-    ensures names { OnOk result (names_in names.new ≡ names_with (map seen_taken back.items) (names_in names.old)) }
-    ensures places { OnOk result (PlacesFilled names.old names.new) }
+    ensures { OnOk result (AreDone names.old names.new (map seen_taken back.items) (newest_first undos.new.items)) }
 {
     undos.reserve(back.len())?;
     let mut back = back;
