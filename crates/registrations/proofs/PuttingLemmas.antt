@@ -1,5 +1,5 @@
 -- One operation more is done again, and one record more.
-use Rattle.std.proofs.Common.{◌≡◌, List, [], ◌∷◌, ◌++◌, map, reverse, refl, sym, ap, ◌∙◌}
+use Rattle.std.proofs.Common.{◌≡◌, List, [], ◌∷◌, ◌++◌, map, reverse, refl, sym, ap, ◌∙◌, append-nil}
 use Rattle.chain_names.specs.declared.undo.Undo.{Undo}
 use Rattle.chain_names.specs.declared.undo.UndoOp.{UndoOp}
 use Rattle.chain_names.specs.Seen.{seen_undo}
@@ -33,6 +33,13 @@ one_put all first left t names next ops op one so = record {
   names_are = ap (with_all (reverse left)) one.1 ∙ ap (λ ts. with_all ts names) (sym (reverse-more left t)) ∙ so.names_are;
 }
 
+pub put_whole : (all : List Taken) (first : Histories) (left : List Taken) (names : Histories) (ops : List UndoOp) → left ≡ [] → IsPutting all first left names ops
+    → (ops ≡ ops_with (reverse all) first) × (names ≡ with_all (reverse all) first)
+put_whole all first left names ops e so = (
+  sym (append-nil ops) ∙ ap (λ ts. ops ++ ops_with (reverse ts) names) (sym e) ∙ so.ops_are,
+  ap (λ ts. with_all (reverse ts) names) (sym e) ∙ so.names_are,
+)
+
 -- ---- records
 
 names_with-more : (ts : List TakenUndo) (t : TakenUndo) (names : Histories) → names_with (ts ++ t ∷ []) names ≡ names_with ts (with_all t.ops names)
@@ -47,13 +54,9 @@ pub record IsPuttingUndos (all : List TakenBack) (first : Histories) (left : Lis
   pub undos_are : undos_with (map seen_taken left) names ++ newest_first undos ≡ undos_with (map seen_taken all) first
   pub names_are : names_with (map seen_taken left) names ≡ names_with (map seen_taken all) first
 
-nothing : (us : List UndoRecord) → us ++ [] ≡ us
-nothing [] = refl
-nothing (u ∷ us) = ap (λ rest. u ∷ rest) (nothing us)
-
 pub no_undo_put : (all : List TakenBack) (first : Histories) (undos : List Undo) → undos ≡ [] → IsPuttingUndos all first all first undos
 no_undo_put all first undos e = record {
-  undos_are = ap (λ us. undos_with (map seen_taken all) first ++ newest_first us) e ∙ nothing (undos_with (map seen_taken all) first);
+  undos_are = ap (λ us. undos_with (map seen_taken all) first ++ newest_first us) e ∙ append-nil (undos_with (map seen_taken all) first);
   names_are = refl;
 }
 
@@ -72,3 +75,10 @@ one_undo_put all first left t names next undos undo one so =
           ap (names_with seen) one.1 ∙ sym (names_with-more seen (seen_taken t) names)
           ∙ ap (λ ts. names_with ts names) (sym (map-more seen_taken left t)) ∙ so.names_are;
     }
+
+pub undos_put_whole : (all : List TakenBack) (first : Histories) (left : List TakenBack) (names : Histories) (undos : List Undo) → left ≡ [] → IsPuttingUndos all first left names undos
+    → (newest_first undos ≡ undos_with (map seen_taken all) first) × (names ≡ names_with (map seen_taken all) first)
+undos_put_whole all first left names undos e so = (
+  ap (λ ts. undos_with (map seen_taken ts) names ++ newest_first undos) (sym e) ∙ so.undos_are,
+  ap (λ ts. names_with (map seen_taken ts) names) (sym e) ∙ so.names_are,
+)

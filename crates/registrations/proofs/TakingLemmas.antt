@@ -1,5 +1,5 @@
 -- One operation more is taken back, and one record more.
-use Rattle.std.proofs.Common.{◌≡◌, List, [], ◌∷◌, ◌++◌, map, reverse, refl, sym, ap, ◌∙◌}
+use Rattle.std.proofs.Common.{◌≡◌, List, [], ◌∷◌, ◌++◌, map, reverse, refl, sym, ap, ◌∙◌, append-nil}
 use Rattle.std.specs.Prelude.{Option}
 use Rattle.chain_names.specs.declared.coin.Item.{Item}
 use Rattle.chain_names.specs.declared.undo.Undo.{Undo}
@@ -34,11 +34,7 @@ pub record IsTaking (all : List UndoOp) (first : Histories) (ops : List UndoOp) 
   pub names_are : before_all ops names ≡ before_all all first
 
 pub none_taken : (all : List UndoOp) (first : Histories) (back : List Taken) → back ≡ [] → IsTaking all first all first back
-none_taken all first back e = record { taken_are = ap (λ ts. taken all first ++ reverse ts) e ∙ nothing (taken all first); names_are = refl }
-  where
-    nothing : (ts : List Taken) → ts ++ [] ≡ ts
-    nothing [] = refl
-    nothing (t ∷ ts) = ap (λ rest. t ∷ rest) (nothing ts)
+none_taken all first back e = record { taken_are = ap (λ ts. taken all first ++ reverse ts) e ∙ append-nil (taken all first); names_are = refl }
 
 pub one_taken : (all : List UndoOp) (first : Histories) (ops : List UndoOp) (op : UndoOp) (names next : Histories) (back : List Taken) (t : Taken)
     → IsTakenBack names next op t → IsTaking all first (ops ++ op ∷ []) names back → IsTaking all first ops next (back ++ t ∷ [])
@@ -50,6 +46,13 @@ one_taken all first ops op names next back t one so = record {
       ∙ ap (λ ts. ts ++ reverse back) (sym (taken-more ops op names)) ∙ so.taken_are;
   names_are = ap (before_all ops) one.names_are ∙ sym (before_all-more ops op names) ∙ so.names_are;
 }
+
+pub taken_whole : (all : List UndoOp) (first : Histories) (ops : List UndoOp) (names : Histories) (back : List Taken) → ops ≡ [] → IsTaking all first ops names back
+    → (reverse back ≡ taken all first) × (names ≡ before_all all first)
+taken_whole all first ops names back e so = (
+  ap (λ os. taken os names ++ reverse back) (sym e) ∙ so.taken_are,
+  ap (λ os. before_all os names) (sym e) ∙ so.names_are,
+)
 
 -- ---- records
 
@@ -71,3 +74,10 @@ one_undo_taken all first undos undo names next back t one so = record {
       ∙ ap (λ us. map seen_taken back ++ undos_taken us names) (sym (newest-more undos undo)) ∙ so.taken_are;
   names_are = ap (names_at_base (newest_first undos)) one.1 ∙ ap (λ us. names_at_base us names) (sym (newest-more undos undo)) ∙ so.names_are;
 }
+
+pub undos_taken_whole : (all : List Undo) (first : Histories) (undos : List Undo) (names : Histories) (back : List TakenBack) → undos ≡ [] → IsTakingUndos all first undos names back
+    → (map seen_taken back ≡ undos_taken (newest_first all) first) × (names ≡ names_at_base (newest_first all) first)
+undos_taken_whole all first undos names back e so = (
+  sym (append-nil (map seen_taken back)) ∙ ap (λ us. map seen_taken back ++ undos_taken (newest_first us) names) (sym e) ∙ so.taken_are,
+  ap (λ us. names_at_base (newest_first us) names) (sym e) ∙ so.names_are,
+)

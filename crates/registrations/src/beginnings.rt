@@ -6,6 +6,7 @@ ghost use Rattle.chain_names.specs.Tables.{names_in, name_places, room_in};
 ghost use Rattle.registrations.specs.Filling as filling;
 ghost use Rattle.registrations.specs.Filling.{all_begun};
 
+use crate::room::with_room;
 use chain_names::Item;
 use name_table::Table;
 use nmc_base::{Bytes, NoMemory, RoomyList, Steps};
@@ -46,8 +47,7 @@ fn take_items<L: Ledger>(
     ensures names { OnOk result (names_in names.new ≡ changed bytes_eq (names_in names.old) name.now []) }
     ensures list { OnOk result (keys_of names.new ≡ keys_of names.old) }
 {
-    let mut items = RoomyList::new(alloc);
-    items.reserve(names.history(name, steps).len())?;
+    let mut items = with_room(alloc, names.history(name, steps).len())?;
     while let Some(item) = names.pop(name, steps) {
         items.push(item);
     }

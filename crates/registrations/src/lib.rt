@@ -4,6 +4,7 @@
 mod beginnings;
 mod filling;
 mod putting;
+mod room;
 mod taking;
 
 pub use filling::fill;

@@ -10,6 +10,7 @@ ghost use Rattle.registrations.specs.Seen.{seen_taken};
 ghost use Rattle.registrations.specs.Taking as taking;
 
 use crate::beginnings::going_on;
+use crate::room::with_room;
 use crate::taking::{name_of, Taken, TakenBack};
 use chain_names::{Item, Undo, UndoOp};
 use name_table::Table;
@@ -142,8 +143,7 @@ fn put_ops<L: Ledger>(
     ensures names { OnOk result (names_in names.new ≡ with_all (reverse back.items) (names_in names.old)) }
     ensures places { OnOk result (PlacesFilled names.old names.new) }
 {
-    let mut ops = RoomyList::new(alloc);
-    ops.reserve(back.len())?;
+    let mut ops = with_room(alloc, back.len())?;
     let mut back = back;
     while let Some(taken) = back.pop() {
         ops.push(put_op(names, taken, steps)?);

@@ -8,6 +8,7 @@ ghost use Rattle.registrations.specs.Seen.{seen_taken};
 ghost use Rattle.registrations.specs.Taking as taking;
 ghost use Rattle.registrations.specs.Taking.{IsTakenBack, before_all, names_at_base, undos_taken};
 
+use crate::room::with_room;
 use chain_names::{HeldCoin, Item, Undo, UndoOp};
 use name_table::Table;
 use nmc_base::{Hash32, NoMemory, RoomyList, Steps};
@@ -64,8 +65,7 @@ fn take_ops<L: Ledger>(
     ensures names { OnOk result (names_in names.new ≡ before_all ops.items (names_in names.old)) }
     ensures list { OnOk result (keys_of names.new ≡ keys_of names.old) }
 {
-    let mut back = RoomyList::new(alloc);
-    back.reserve(ops.len())?;
+    let mut back = with_room(alloc, ops.len())?;
     let mut ops = ops;
     while let Some(op) = ops.pop() {
         back.push(take_op(names, op, steps));
@@ -104,8 +104,7 @@ pub(crate) fn take_undos<L: Ledger>(
     ensures names { OnOk result (names_in names.new ≡ names_at_base (newest_first undos.old.items) (names_in names.old)) }
     ensures list { OnOk result (keys_of names.new ≡ keys_of names.old) }
 {
-    let mut back = RoomyList::new(alloc);
-    back.reserve(undos.len())?;
+    let mut back = with_room(alloc, undos.len())?;
     while let Some(undo) = undos.pop() {
         back.push(take_undo(alloc, names, undo, steps)?);
     }
