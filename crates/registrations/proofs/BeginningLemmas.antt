@@ -1,5 +1,5 @@
 -- Items that begin their registration, name by name.
-use Rattle.std.proofs.Common.{◌≡◌, ℕ, zero, suc, ◌+◌, ◌-◌, ◌≤◌, Bool, true, false, cond, ◌||◌, List, [], ◌∷◌, ◌++◌, length, map, reverse, take, Option, Some, None, refl, sym, ap, subst, ◌∙◌, arith, true≢false, slice_get, ⊎_elim}
+use Rattle.std.proofs.Common.{◌≡◌, ℕ, suc, Bool, true, false, cond, ◌||◌, List, [], ◌∷◌, ◌++◌, length, map, reverse, take, Some, None, refl, sym, ap, ◌∙◌, arith, true≢false, slice_get, ⊎_elim}
 use Rattle.std.proofs.Math.Path.{fun_ext}
 use Rattle.std.proofs.lemmas.Bool.{or_cases}
 use Rattle.std.proofs.lemmas.List.Folds.{list_any-append}
@@ -15,7 +15,7 @@ use Rattle.sound_states.proofs.HistoryLemmas.{no_entry}
 use Rattle.chain_names.proofs.Changed.{bytes_eq-true, bytes_eq-self}
 use Rattle.registrations.specs.Filling.{begun, all_begun}
 use Rattle.registrations.specs.Told.{Histories}
-use Rattle.registrations.proofs.ListLemmas.{reverse-more, map-more, middle, front_and_last, length-more, take_past}
+use Rattle.registrations.proofs.ListLemmas.{reverse-more, middle, front_and_last, length-more, take_past}
 use Rattle.registrations.proofs.NameLemmas.{changed_over, at_name, same_there, then_changed, unlisted}
 
 -- ---- the items of one name

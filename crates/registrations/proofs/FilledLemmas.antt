@@ -4,12 +4,12 @@ use Rattle.std.specs.Map.{keys_of}
 use Rattle.nmc_base.specs.declared.chain_ends.Profile.{Profile}
 use Rattle.chain_names.specs.Coins.{Maps}
 use Rattle.chain_names.specs.Sound.{IsSound}
-use Rattle.chain_names.specs.Tables.{NameSlots, names_in, name_places}
+use Rattle.chain_names.specs.Tables.{NameSlots, names_in}
 use Rattle.chain_names.specs.Undo.{UndoRecord}
 use Rattle.undo_records.specs.Versions.{without_heights}
-use Rattle.registrations.specs.Told.{Histories, names_without, TellSame}
+use Rattle.registrations.specs.Told.{names_without, TellSame}
 use Rattle.registrations.specs.Taking.{TakenUndo, names_at_base, undos_taken}
-use Rattle.registrations.specs.Filling.{AreDone, AreFilledBy, all_begun, names_with, undos_with, names_filled, undos_filled}
+use Rattle.registrations.specs.Filling.{AreDone, AreFilledBy, all_begun, names_with, undos_with, names_filled}
 use Rattle.registrations.proofs.NameLemmas.{places_by_keys}
 use Rattle.registrations.proofs.OnlyLemmas.{told_once}
 use Rattle.registrations.proofs.PlaceLemmas.{places_same}

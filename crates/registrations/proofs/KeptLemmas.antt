@@ -3,9 +3,7 @@ use Rattle.std.proofs.Common.{◌≡◌, ℕ, ◌+◌, ◌<◌, ◌^◌, List, [
 use Rattle.std.proofs.lemmas.List.{length-map, length-reverse, reverse-append, reverse-reverse}
 use Rattle.std.specs.Prelude.{Option, Some, None}
 use Rattle.std.specs.List.{AllByRecursion}
-use Rattle.nmc_base.specs.declared.hashes.OutPoint.{OutPoint}
 use Rattle.nmc_base.proofs.ListLemmas.{all-more}
-use Rattle.chain_names.specs.declared.coin.Coin.{Coin}
 use Rattle.chain_names.specs.declared.coin.Item.{Item}
 use Rattle.chain_names.specs.declared.undo.Undo.{Undo}
 use Rattle.chain_names.specs.declared.undo.UndoOp.{UndoOp}
@@ -15,13 +13,12 @@ use Rattle.chain_names.specs.Expired.{points_of}
 use Rattle.chain_names.specs.Limits.{IsShortBefore, IsWithinLimitsOp, IsWithinLimits}
 use Rattle.chain_names.specs.Seen.{seen_undo}
 use Rattle.chain_names.specs.State.{FitsItem}
-use Rattle.chain_names.specs.Tables.{NameSlots, names_in, name_places, AreNamesFilled}
+use Rattle.chain_names.specs.Tables.{NameSlots, names_in, name_places}
 use Rattle.chain_names.specs.Undo.{UndoRecord}
 use Rattle.name_tables.specs.Parts.{newest_first}
-use Rattle.sound_states.specs.Touched.{spent_points, points_put_back, points_below}
-use Rattle.sound_states.specs.Walk.{HasFewCoins}
+use Rattle.sound_states.specs.Touched.{spent_points, points_below}
 use Rattle.undo_records.specs.Versions.{item_without, before_without, op_without, without_heights}
-use Rattle.registrations.specs.Kept.{IsWithin, AreShort, KeepsLimits}
+use Rattle.registrations.specs.Kept.{IsWithin, KeepsLimits}
 use Rattle.registrations.specs.Told.{Histories, names_without, TellSame}
 use Rattle.registrations.proofs.ToldLemmas.{entry_told}
 

@@ -1,6 +1,5 @@
 -- Lists whose last element is taken away or put back.
-use Rattle.std.proofs.Common.{◌≡◌, ℕ, zero, suc, ◌+◌, ◌-◌, ◌<◌, ◌≤◌, Bool, true, false, cond, List, [], ◌∷◌, ◌++◌, length, map, reverse, take, refl, sym, ap, ◌∙◌, arith, length-append, append_assoc}
-use Rattle.std.proofs.Math.Path.{fun_ext}
+use Rattle.std.proofs.Common.{◌≡◌, ℕ, zero, suc, ◌+◌, ◌-◌, List, [], ◌∷◌, ◌++◌, length, map, reverse, take, refl, sym, ap, ◌∙◌, arith, length-append, append_assoc}
 use Rattle.std.proofs.lemmas.List.{reverse-append, map-append}
 use Rattle.std.specs.Prelude.{Some, None, slice_get}
 use Rattle.chain_names.specs.declared.coin.Item.{Item}

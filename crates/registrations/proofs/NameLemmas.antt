@@ -11,7 +11,7 @@ use Rattle.nmc_base.specs.Roomy.{Roomy}
 use Rattle.chain_names.specs.declared.coin.Item.{Item}
 use Rattle.chain_names.specs.Points.{changed}
 use Rattle.chain_names.specs.Tables.{NameSlots, items_of, names_in, name_places}
-use Rattle.chain_names.proofs.Changed.{changed_at, changed_kept, bytes_eq-self}
+use Rattle.chain_names.proofs.Changed.{changed_at, changed_kept}
 use Rattle.registrations.specs.Told.{Histories}
 
 -- ---- one name's history changes

@@ -3,7 +3,6 @@ use Rattle.std.proofs.Common.{◌≡◌, List, [], ◌∷◌, ◌++◌, map, rev
 use Rattle.chain_names.specs.declared.undo.Undo.{Undo}
 use Rattle.chain_names.specs.declared.undo.UndoOp.{UndoOp}
 use Rattle.chain_names.specs.Seen.{seen_undo}
-use Rattle.chain_names.specs.Undo.{UndoRecord}
 use Rattle.name_tables.specs.Parts.{newest_first}
 use Rattle.registrations.specs.declared.taking.Taken.{Taken}
 use Rattle.registrations.specs.declared.taking.TakenBack.{TakenBack}

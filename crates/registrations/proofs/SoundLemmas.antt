@@ -14,10 +14,9 @@ use Rattle.chain_names.specs.Fits.{with_restored, IsMadeName, FitsOp, FitsOps}
 use Rattle.chain_names.specs.Points.{changed}
 use Rattle.chain_names.specs.Sound.{BeginsRegistration, IsSound}
 use Rattle.chain_names.specs.Undo.{UndoRecord}
-use Rattle.registrations.specs.declared.taking.Taken.{Taken}
 use Rattle.registrations.specs.Told.{Histories}
 use Rattle.registrations.specs.Taking.{name_of, last_at, names_before, before_all, taken}
-use Rattle.registrations.specs.Filling.{begun, going_on_if, registered_in, registered_at, goes_on_with, op_behind, with_last, with_made, op_with, with_all, ops_with, all_begun, names_filled, undos_filled}
+use Rattle.registrations.specs.Filling.{begun, going_on_if, registered_in, registered_at, with_last, with_made, op_with, with_all, ops_with, names_filled, undos_filled}
 use Rattle.registrations.proofs.ListLemmas.{front_and_last}
 use Rattle.registrations.proofs.NameLemmas.{changed_over, at_name, same_there}
 

@@ -4,13 +4,12 @@ use Rattle.std.specs.Prelude.{Option}
 use Rattle.chain_names.specs.declared.coin.Item.{Item}
 use Rattle.chain_names.specs.declared.undo.Undo.{Undo}
 use Rattle.chain_names.specs.declared.undo.UndoOp.{UndoOp}
-use Rattle.chain_names.specs.Seen.{seen_undo}
 use Rattle.name_tables.specs.Parts.{newest_first}
 use Rattle.registrations.specs.declared.taking.Taken.{Taken}
 use Rattle.registrations.specs.declared.taking.TakenBack.{TakenBack}
 use Rattle.registrations.specs.Seen.{seen_taken}
 use Rattle.registrations.specs.Told.{Histories}
-use Rattle.registrations.specs.Taking.{TakenUndo, IsTakenBack, name_of, last_at, names_before, before_all, taken, names_at_base, undos_taken}
+use Rattle.registrations.specs.Taking.{IsTakenBack, name_of, last_at, names_before, before_all, taken, names_at_base, undos_taken}
 use Rattle.registrations.proofs.ListLemmas.{reverse-more, map-more, middle, newest-more}
 
 -- ---- operations

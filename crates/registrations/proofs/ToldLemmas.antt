@@ -1,5 +1,5 @@
 -- What follows from records and histories goes by what version 1 tells of them, and that stays as it was.
-use Rattle.std.proofs.Common.{◌≡◌, ℕ, ◌-◌, List, [], ◌∷◌, ◌++◌, length, map, take, refl, sym, ap, subst, ◌∙◌}
+use Rattle.std.proofs.Common.{◌≡◌, ℕ, ◌-◌, List, [], ◌∷◌, ◌++◌, length, map, take, refl, sym, ap, ◌∙◌}
 use Rattle.std.proofs.Math.Path.{fun_ext}
 use Rattle.std.proofs.lemmas.List.{length-map, take-map, map-append}
 use Rattle.std.specs.Prelude.{Option, Some, None}
@@ -8,7 +8,7 @@ use Rattle.chain_names.specs.declared.coin.Item.{Item}
 use Rattle.chain_names.specs.declared.undo.UndoOp.{UndoOp}
 use Rattle.chain_names.specs.declared.undo.UndoOp.TheVariants.{New, First, Update}
 use Rattle.chain_names.specs.Changes.{without_entry}
-use Rattle.chain_names.specs.Coins.{entry_of, with_value}
+use Rattle.chain_names.specs.Coins.{entry_of}
 use Rattle.chain_names.specs.Points.{changed}
 use Rattle.chain_names.specs.Undo.{UndoRecord}
 use Rattle.chain_names.proofs.Changed.{changed_mapped}
@@ -16,7 +16,7 @@ use Rattle.undo_records.specs.Versions.{item_without, before_without, op_without
 use Rattle.registrations.specs.declared.taking.Taken.{Taken}
 use Rattle.registrations.specs.Told.{Histories, names_without, TellSame}
 use Rattle.registrations.specs.Taking.{name_of, last_at, names_before, before_all, taken}
-use Rattle.registrations.specs.Filling.{begun, going_on, going_on_if, registered_in, registered_at, goes_on_with, op_behind, with_last, with_made, op_with, with_all, ops_with, all_begun, names_filled, undos_filled}
+use Rattle.registrations.specs.Filling.{begun, going_on_if, registered_at, goes_on_with, with_last, with_made, op_with, with_all, ops_with, names_filled, undos_filled}
 use Rattle.sound_states.proofs.HistoryLemmas.{no_entry}
 use Rattle.registrations.proofs.NameLemmas.{same_there}
 use Rattle.registrations.proofs.SoundLemmas.{put_back}

@@ -11,7 +11,7 @@ use Rattle.chain_names.specs.Undo.{UndoRecord}
 use Rattle.registrations.specs.declared.taking.Taken.{Taken}
 use Rattle.registrations.specs.Places.{PlacesFilled}
 use Rattle.registrations.specs.Told.{Histories}
-use Rattle.registrations.specs.Taking.{TakenUndo, name_of, last_at, before_all, taken, names_at_base, undos_taken}
+use Rattle.registrations.specs.Taking.{TakenUndo, name_of, last_at, names_at_base, undos_taken}
 
 -- ---- one item
 

@@ -1,5 +1,5 @@
 -- What contracts see of the records that were taken back.
-use Rattle.std.specs.Prelude.{List, map, reverse}
+use Rattle.std.specs.Prelude.{reverse}
 use Rattle.registrations.specs.declared.taking.TakenBack.{TakenBack}
 use Rattle.registrations.specs.Taking.{TakenUndo}
 

@@ -42,11 +42,7 @@ fn fill_by_rule<L: Ledger>(
 ///
 /// The operations are taken back, from the newest to the oldest, and then done again: four look-ups for each, and a few for each
 /// name. Where memory runs out, histories and records are in no known state: let both go.
-pub fn fill(
-    alloc: Global,
-    names: &mut Table,
-    undos: &mut RoomyList<Undo>,
-) -> Result<(), NoMemory>
+pub fn fill(alloc: Global, names: &mut Table, undos: &mut RoomyList<Undo>) -> Result<(), NoMemory>
     // A text of version 1 tells the same as before.
     ensures told { OnOk result (TellSame (names_in names.new) (names_in names.old) (newest_first undos.new.items) (newest_first undos.old.items)) }
     // Of all states of which it tells this, no other is sound.

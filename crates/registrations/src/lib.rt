@@ -3,8 +3,10 @@
 
 mod beginnings;
 mod filling;
+mod laws;
 mod putting;
 mod room;
 mod taking;
 
 pub use filling::fill;
+pub use laws::{a_sound_state_is_told_by_version_1, registrations_follow};

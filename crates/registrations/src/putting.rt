@@ -11,7 +11,7 @@ ghost use Rattle.registrations.specs.Taking as taking;
 
 use crate::beginnings::going_on;
 use crate::room::with_room;
-use crate::taking::{name_of, Taken, TakenBack};
+use crate::taking::{Taken, TakenBack, name_of};
 use chain_names::{Item, Undo, UndoOp};
 use name_table::Table;
 use nmc_base::{NoMemory, RoomyList, Steps};

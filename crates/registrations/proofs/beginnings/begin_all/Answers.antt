@@ -1,10 +1,9 @@
-use Rattle.std.proofs.Common.{◌≡◌, ◌+◌, ℕ, suc, Bool, true, List, take, Option, Some, sym, ap, subst, ◌∙◌, arith}
+use Rattle.std.proofs.Common.{◌≡◌, ◌+◌, ℕ, suc, true, List, take, Option, Some, sym, ap, subst, ◌∙◌, arith}
 use Rattle.std.specs.Prelude.{slice_get, IfSome}
 use Rattle.std.specs.Map.{keys_of}
 use Rattle.chain_names.specs.Tables.{names_in, name_places}
-use Rattle.registrations.specs.Told.{Histories}
 use Rattle.registrations.proofs.ListLemmas.{take_next}
-use Rattle.registrations.proofs.BeginningLemmas.{IsBeginning, none_begun, one_begun, whole_begun}
+use Rattle.registrations.proofs.BeginningLemmas.{IsBeginning, one_begun, whole_begun}
 use Rattle.registrations.proofs.beginnings.begin_all.Goals as goal
 
 pub begin_name-requires : goal.begin_name-requires

@@ -1,6 +1,5 @@
 use Rattle.std.proofs.Common.{ℕ, Bool, true, ◌++◌, List, map, reverse, ap, ◌∙◌}
 use Rattle.std.specs.Str.{bytes_eq}
-use Rattle.chain_names.specs.declared.coin.Item.{Item}
 use Rattle.chain_names.specs.Points.{changed}
 use Rattle.chain_names.specs.Tables.{names_in}
 use Rattle.chain_names.proofs.Changed.{bytes_eq-at_changed}

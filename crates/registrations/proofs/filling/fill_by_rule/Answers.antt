@@ -1,6 +1,5 @@
 use Rattle.std.proofs.Common.{map, ap, ◌∙◌}
 use Rattle.std.proofs.lemmas.Result.{on_ok_weaker}
-use Rattle.chain_names.specs.Tables.{names_in}
 use Rattle.name_tables.specs.Parts.{newest_first}
 use Rattle.registrations.specs.Filling.{all_begun}
 use Rattle.registrations.specs.Seen.{seen_taken}

@@ -1,7 +1,5 @@
-use Rattle.std.proofs.Common.{◌≡◌, ◌++◌, ◌∷◌, [], Bool, true, List, ℕ, ap, ◌∙◌}
-use Rattle.std.specs.Str.{bytes_eq}
+use Rattle.std.proofs.Common.{ap, ◌∙◌}
 use Rattle.chain_names.specs.Coins.{with_value}
-use Rattle.chain_names.specs.Tables.{names_in}
 use Rattle.registrations.proofs.PlaceLemmas.{one_filled}
 use Rattle.registrations.proofs.putting.put_item.Goals as goal
 

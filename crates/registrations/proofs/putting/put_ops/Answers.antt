@@ -1,4 +1,4 @@
-use Rattle.std.proofs.Common.{List, length, sym, ap, subst, ◌∙◌, arith}
+use Rattle.std.proofs.Common.{List, length, sym, ap, subst, arith}
 use Rattle.chain_names.specs.declared.undo.UndoOp.{UndoOp}
 use Rattle.chain_names.specs.Tables.{names_in}
 use Rattle.registrations.specs.declared.taking.Taken.{Taken}
