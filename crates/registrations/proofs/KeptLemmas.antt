@@ -21,6 +21,9 @@ use Rattle.undo_records.specs.Versions.{item_without, before_without, op_without
 use Rattle.registrations.specs.Kept.{IsWithin, KeepsLimits}
 use Rattle.registrations.specs.Told.{Histories, names_without, TellSame}
 use Rattle.registrations.proofs.ToldLemmas.{entry_told}
+use Rattle.registrations.proofs.WritableLemmas.{HaveText, filled_writable}
+use Rattle.registrations.specs.Filling.{AreFilledBy}
+use Rattle.chain_names.specs.Writable.{IsWritable}
 
 -- ---- the same lists but for registration heights
 
@@ -88,7 +91,7 @@ undo_from u limits = record {
 
 -- ---- the newest first
 
-all_reverse : {A : Type 0} (P : A → Type 0) (xs : List A) → AllByRecursion P xs → AllByRecursion P (reverse xs)
+pub all_reverse : {A : Type 0} (P : A → Type 0) (xs : List A) → AllByRecursion P xs → AllByRecursion P (reverse xs)
 all_reverse P [] all = tt
 all_reverse P (x ∷ xs) all = subst (AllByRecursion P) (sym (reverse-append (x ∷ []) xs)) (all-more P (reverse xs) x (all_reverse P xs all.1) all.0)
 
@@ -117,14 +120,15 @@ points_same (u ∷ us) = λ i. (spent_same u.ops i ++ points_of u.expired) ++ po
 newest_length : (undos : List Undo) → length (newest_first undos) ≡ length undos
 newest_length undos = length-reverse (map seen_undo undos) ∙ length-map undos seen_undo
 
-pub keeps_limits : (old new : NameSlots) (before after : List Undo) → TellSame (names_in new) (names_in old) (newest_first after) (newest_first before) → name_places new ≡ name_places old
+pub keeps_limits : (old new : NameSlots) (before after : List Undo) → TellSame (names_in new) (names_in old) (newest_first after) (newest_first before) → AreFilledBy old new (newest_first before) (newest_first after)
     → KeepsLimits old new before after
-keeps_limits old new before after told places =
+keeps_limits old new before after told filled =
+    let places = filled.places in
     let us = newest_first before in
     let them = newest_first after in
     record {
       places = places;
-      filled = λ filled name. ap (λ (ps : List ℕ → _). ps name) places ∙ filled name ∙ sym (entry_same (names_in new) (names_in old) name told.names_told);
+      filled = λ each name. ap (λ (ps : List ℕ → _). ps name) places ∙ each name ∙ sym (entry_same (names_in new) (names_in old) name told.names_told);
       short = λ short name.
           all_same (FitsItem name) item_without (λ item fits. fits) (λ item fits. fits) (names_in new name) (names_in old name) (ap (λ (ns : Histories). ns name) told.names_told) (short name);
       count =
@@ -134,6 +138,9 @@ keeps_limits old new before after told places =
           (subst (AllByRecursion IsWithinLimits) (reverse-reverse (map seen_undo after))
           (all_reverse IsWithinLimits them
           (all_same IsWithinLimits without_heights undo_to undo_from them us told.undos_told (all_reverse IsWithinLimits (map seen_undo before) (within_seen before within)))));
+      writable = λ fits.
+          let texts = filled_writable us (names_in old) fits in
+          record { items = subst HaveText (sym filled.names_are) texts.items; undos = subst (AllByRecursion IsWritable) (sym filled.undos_are) texts.undos };
       few = λ coins few.
           let same : points_below them ≡ points_below us = sym (points_same them) ∙ ap points_below told.undos_told ∙ points_same us in
           record { points = few.points; all = few.all; few = subst (λ l. length few.points + length l < 2 ^ 32) (sym same) few.few };

@@ -9,3 +9,5 @@ pub mod ToldLemmas
 pub mod OnlyLemmas
 mod FilledLemmas
 mod KeptLemmas
+mod WritableLemmas
+pub mod ImageLemmas

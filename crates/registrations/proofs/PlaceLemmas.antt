@@ -49,7 +49,7 @@ no_items (Some history) some = refl
 pub placed : (slots : NameSlots) (name : List ℕ) → names_in slots name ≢ [] → name_places slots name ≡ true
 placed slots name some = no_items (lookup (bytes_eq name) slots) some
 
-none_told : (items others : List Item) → map item_without items ≡ map item_without others → others ≡ [] → items ≡ []
+pub none_told : (items others : List Item) → map item_without items ≡ map item_without others → others ≡ [] → items ≡ []
 none_told [] others same none = refl
 none_told (item ∷ items) others same none =
     let empty : map item_without (item ∷ items) ≡ [] = same ∙ ap (map item_without) none in

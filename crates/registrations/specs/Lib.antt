@@ -3,4 +3,5 @@ pub mod Places
 pub mod Taking
 pub mod Filling
 pub mod Seen
+pub mod Images
 pub mod Kept

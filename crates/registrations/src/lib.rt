@@ -9,4 +9,4 @@ mod room;
 mod taking;
 
 pub use filling::fill;
-pub use laws::{a_sound_state_is_told_by_version_1, registrations_follow};
+pub use laws::{a_sound_state_is_told_by_version_1, images_of_one_text, registrations_follow};

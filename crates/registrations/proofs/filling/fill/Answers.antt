@@ -19,5 +19,5 @@ returns-clause-kept c =
     on_ok_weaker c.fill_by_rule.result
     (λ filled.
     keeps_limits c.args.names.now c.fill_by_rule.new.names c.args.undos.now.items c.fill_by_rule.new.undos.items
-    (told_as_before c.args.names.now c.fill_by_rule.new.names (newest_first c.args.undos.now.items) (newest_first c.fill_by_rule.new.undos.items) filled) filled.places)
+    (told_as_before c.args.names.now c.fill_by_rule.new.names (newest_first c.args.undos.now.items) (newest_first c.fill_by_rule.new.undos.items) filled) filled)
     c.fill_by_rule.ensures
