@@ -93,11 +93,23 @@ fn record_of(alloc: Global, how: How, before: u32) -> Result<Undo, NoMemory> {
     })
 }
 
+/// Gives the name a value more.
+fn give<L: Ledger>(
+    alloc: Global,
+    names: &mut Table,
+    height: u32,
+    steps: &mut Steps<L>,
+) -> Result<(), NoMemory> {
+    let item = told(alloc, height)?;
+    names.place(b"d/a", 1, steps)?;
+    names.push(b"d/a", item, steps);
+    Ok(())
+}
+
 fn histories<L: Ledger>(alloc: Global, steps: &mut Steps<L>) -> Result<Table, NoMemory> {
     let mut names = Table::new(alloc)?;
     for given in &GIVEN {
-        names.place(b"d/a", 1, steps)?;
-        names.push(b"d/a", told(alloc, given.height)?, steps);
+        give(alloc, &mut names, given.height, steps)?;
     }
     Ok(names)
 }
@@ -113,26 +125,30 @@ fn records(alloc: Global) -> Result<RoomyList<Undo>, NoMemory> {
     Ok(undos)
 }
 
-/// The registration height of the item before an operation.
-fn before_in(op: Option<&UndoOp>) -> Option<u32> {
-    match op? {
+fn since(item: Option<&Item>) -> Option<u32> {
+    Some(item?.registered)
+}
+
+/// The registration height of the item before the operation of a record.
+fn before(undo: Option<&Undo>) -> Option<u32> {
+    match undo?.ops.item(0)? {
         UndoOp::New { .. } => None,
-        UndoOp::First { before, .. } => Some(before.as_ref()?.registered),
-        UndoOp::Update { before, .. } => Some(before.as_ref()?.registered),
+        UndoOp::First { before, .. } => since(before.as_ref()),
+        UndoOp::Update { before, .. } => since(before.as_ref()),
     }
 }
 
+fn is_since(rt: &impl Abort, got: Option<u32>, want: Option<u32>, row: usize) {
+    assert!(rt; got == want, "row {row}: {got:?}");
+}
+
 fn are_set<L: Ledger>(rt: &impl Abort, names: &Table, undos: &[Undo], steps: &mut Steps<L>) {
+    let items = names.history(b"d/a", steps);
     let mut last = None;
     for (row, given) in GIVEN.iter().enumerate() {
-        let item = names.history(b"d/a", steps).get(row);
-        assert!(rt; item.map(|item| item.registered) == Some(given.since), "item {row}");
-        let before = match undos.get(row) {
-            Some(undo) => before_in(undo.ops.item(0)),
-            None => None,
-        };
-        assert!(rt; before == last, "record {row}: {before:?}");
+        is_since(rt, before(undos.get(row)), last, row);
         last = Some(given.since);
+        is_since(rt, since(items.get(row)), last, row);
     }
 }
 
