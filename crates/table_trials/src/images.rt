@@ -86,7 +86,12 @@ fn named(alloc: Global, name: &[u8], height: u32) -> Result<Coin, NoMemory>
 }
 
 /// A value of this height from the output of this number.
-fn value(alloc: Global, height: u32, registered: u32, number: u8) -> Result<Item, NoMemory>
+pub(crate) fn value(
+    alloc: Global,
+    height: u32,
+    registered: u32,
+    number: u8,
+) -> Result<Item, NoMemory>
     ensures { IfOk result (λ item. length item.value ≤ LONGEST_VALUE) }
 {
     let value = Bytes::copy_of(alloc, b"{}")?;

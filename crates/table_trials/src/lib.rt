@@ -1,10 +1,12 @@
-//! Trials of the tables of names and of what they are made of: coins, histories, the queue of what expires, verdicts, undo records, sound images.
+//! Trials of the tables of names and of what they are made of: coins, histories, the queue of what expires, verdicts, undo records, sound images, registration heights.
 #![tactic(auto)]
 
 #[cfg(test)]
 mod coins;
 #[cfg(test)]
 mod comparing;
+#[cfg(test)]
+mod heights;
 #[cfg(test)]
 mod histories;
 #[cfg(test)]
