@@ -12,3 +12,4 @@ pub mod FewLaws
 pub mod TakeLaws
 pub mod SortedLaws
 pub mod ReadLaws
+pub mod ShorterLaws
