@@ -1,0 +1,3 @@
+pub mod Accepting
+pub mod Standing
+pub mod Turning
