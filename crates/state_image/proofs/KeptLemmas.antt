@@ -7,9 +7,9 @@ use Rattle.chain_names.specs.declared.coin.Coin.{Coin}
 use Rattle.chain_names.specs.Tables.{coins_in, names_in, queued_in, queue_of}
 use Rattle.name_tables.specs.Tables.{AreEmpty, AreFilled, maps_by}
 use Rattle.name_tables.specs.declared.tables.Tables.{Tables}
-use Rattle.state_image.specs.Standing.{IsBlank, BeginsAt, IsKept, no_maps}
+use Rattle.state_image.specs.Standing.{IsBlank, BeginsAt, IsKept, AreUpTo, no_maps}
 use Rattle.state_image.specs.declared.next.Next.{Next}
-use Rattle.state_image.specs.declared.next.Next.TheVariants.{Head}
+use Rattle.state_image.specs.declared.next.Next.TheVariants.{Head, Coins}
 use Rattle.state_image.specs.declared.reading.Reading.{Reading}
 
 -- ---- nothing was read
@@ -27,19 +27,11 @@ empty_filled t empty =
 
 pub blank_kept : (r : Reading) → r.next ≡ Head → r.undos.items ≡ [] → r.last ≡ None → r.name ≡ None → AreEmpty r.tables → IsKept r
 blank_kept r first undos last name empty = record {
-  queue = empty_queue r.tables empty;
-  filled = empty_filled r.tables empty;
+  tables = record { queue = empty_queue r.tables empty; filled = empty_filled r.tables empty };
   begins = subst (λ n. BeginsAt n r) (sym first) (record { undos = undos; last = last; name = name; maps = empty_maps r.tables empty });
 }
 
--- ---- steps that leave the tables as they are
+-- ---- the list of coins
 
-pub begins_as : (r : Reading) (next : Next) → r.next ≡ next → IsKept r → BeginsAt next r
-begins_as r next is kept = subst (λ n. BeginsAt n r) is kept.begins
-
-pub moves_on : (old new : Reading) (next : Next) → old.next ≡ next → IsKept old → new.tables ≡ old.tables → (BeginsAt next old → BeginsAt new.next new) → IsKept new
-moves_on old new next is kept same on = record {
-  queue = subst (λ (t : Tables). queued_in t.queue ≡ queue_of (coins_in t.coins)) (sym same) kept.queue;
-  filled = subst AreFilled (sym same) kept.filled;
-  begins = on (begins_as old next is kept);
-}
+pub coins_begin : (r : Reading) (coins : ℕ) → r.next ≡ Coins coins → IsKept r → AreUpTo r.last (coins_in r.tables.coins)
+coins_begin r coins is kept = subst (λ n. BeginsAt n r) is kept.begins

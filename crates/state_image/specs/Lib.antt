@@ -1,3 +1,4 @@
 pub mod Accepting
+pub mod Queueing
 pub mod Standing
 pub mod Turning

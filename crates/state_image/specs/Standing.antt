@@ -7,11 +7,12 @@ use Rattle.nmc_base.specs.Hash.{outpoint_cmp}
 use Rattle.chain_names.specs.declared.coin.Coin.{Coin}
 use Rattle.chain_names.specs.Coins.{Maps}
 use Rattle.chain_names.specs.Seen.{seen_undo}
-use Rattle.chain_names.specs.Tables.{coins_in, queued_in, queue_of}
+use Rattle.chain_names.specs.Tables.{coins_in}
 use Rattle.chain_names.specs.Undo.{UndoRecord}
 use Rattle.name_tables.specs.Parts.{newest_first}
-use Rattle.name_tables.specs.Tables.{maps_by, AreFilled}
+use Rattle.name_tables.specs.Tables.{maps_by}
 use Rattle.image_grammar.specs.Stages.{Gathered, Stage, head, in_undos, in_ops, at_expired, in_expired, at_coins, in_coins, at_names, in_names, in_items, Standing, stands}
+use Rattle.state_image.specs.Queueing.{HasItsQueue}
 use Rattle.state_image.specs.declared.next.Next.{Next}
 use Rattle.state_image.specs.declared.next.Next.TheVariants.{Head, Undos, Ops, ExpiredCount, Expired, CoinCount, Coins, NameCount, Names, Items}
 use Rattle.state_image.specs.declared.reading.Reading.{Reading}
@@ -95,8 +96,7 @@ BeginsAt NameCount r = Unit {0}
 BeginsAt (Names names) r = Unit {0}
 BeginsAt (Items items names) r = Unit {0}
 
--- the queue is that of the coins, and each place in the tables is filled
+-- what is kept while an image is read
 pub record IsKept (r : Reading) : Type 0 where
-  pub queue : queued_in r.tables.queue ≡ queue_of (coins_in r.tables.coins)
-  pub filled : AreFilled r.tables
+  pub tables : HasItsQueue r.tables
   pub begins : BeginsAt r.next r

@@ -3,6 +3,7 @@
 
 mod accepting;
 mod head;
+mod live_coins;
 mod next;
 mod reading;
 mod records;
