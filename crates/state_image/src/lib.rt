@@ -3,6 +3,7 @@
 
 mod accepting;
 mod head;
+mod histories;
 mod live_coins;
 mod next;
 mod reading;
