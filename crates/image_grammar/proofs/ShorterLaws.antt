@@ -178,19 +178,20 @@ op_takes version (b ∷ bytes) z e = by (b == 0x51) (b == 0x52) (b == 0x53) e
 
 -- ---- heads
 
-exactly_none : (want : List ℕ) → Takes 0 (exactly_from want)
-exactly_none want bytes z e =
+exactly_takes : (want : List ℕ) → Takes (length want) (exactly_from want)
+exactly_takes want bytes z e =
     let a = bind_ok (piece_from (length want) bytes) (λ (x : List ℕ × List ℕ). same_or_fault x.0 x.1 (first_other want bytes)) z e in
-    by a.0 (piece_none (length want) bytes a.0 a.1) (first_other want bytes) a.2
+    by a.0 (front_takes (λ bytes. bytes) (length want) bytes a.0 a.1) (first_other want bytes) a.2
   where
-    by : (x : List ℕ × List ℕ) → 0 + length x.1 ≤ length bytes → (other : List ℕ) → same_or_fault x.0 x.1 other ≡ Ok z → 0 + length z.1 ≤ length bytes
+    by : (x : List ℕ × List ℕ) → length want + length x.1 ≤ length bytes → (other : List ℕ) → same_or_fault x.0 x.1 other ≡ Ok z → length want + length z.1 ≤ length bytes
     by x low [] e' = omega (arith, low, ap (λ (w : List ℕ × List ℕ). length w.1) (ok_is x z e'))
     by x low (b ∷ other) e' = absurd cc
 
-opening_takes : Takes 1 opening_from
+-- the magic at least
+pub opening_takes : Takes 4 opening_from
 opening_takes =
-    then_takes head_from (λ _. number_from w32) 1 0
-    (map_takes head_of _ 1 (then_takes (exactly_from magic) _ 0 1 (exactly_none magic) (λ _. then_takes version_from _ 1 0 (map_takes version_of _ 1 (checked_takes BadTag is_version byte_from 1 byte_takes))
+    then_takes head_from (λ _. number_from w32) 4 0
+    (map_takes head_of _ 4 (then_takes (exactly_from magic) _ 4 0 (exactly_takes magic) (λ _. then_takes version_from _ 0 0 (map_takes version_of _ 0 (checked_takes BadTag is_version byte_from 0 (less_takes 0 1 byte_from (omega arith) byte_takes)))
     (λ _. then_takes profile_from _ 0 0 (map_takes profile_of _ 0 (checked_takes BadTag is_profile byte_from 0 (less_takes 0 1 byte_from (omega arith) byte_takes)))
     (λ _. then_takes (number_from w32) (λ _. piece_from 32) 0 0 (number_none w32) (λ _. piece_none 32))))))
     (λ _. number_none w32)
@@ -217,7 +218,7 @@ idle_step next bytes z from low e = omega (arith, low, ap (λ (w : Standing × L
 
 ends_at : (version : Version) (stage : Stage) (g : Gathered) (bytes : List ℕ) (z : Standing × List ℕ) → stage ≢ in_names 0 → step_at version stage g bytes ≡ Ok z
     → work_left z.0.stage z.1 < work_left stage bytes
-ends_at version head g bytes z on e = value_step (λ x. stands x.0.0 (in_undos x.1) (nothing_of x.0.1)) opening_from 0 1 (λ x. refl) (omega arith) opening_takes bytes z e
+ends_at version head g bytes z on e = value_step (λ x. stands x.0.0 (in_undos x.1) (nothing_of x.0.1)) opening_from 0 1 (λ x. refl) (omega arith) (less_takes 1 4 opening_from (omega arith) opening_takes) bytes z e
 ends_at version (in_undos zero) g bytes z on e = idle_step (stands version at_coins g) bytes z 1 (omega arith) e
 ends_at version (in_undos (suc n)) g bytes z on e = value_step (λ x. stands version (in_ops x.1 n) (begun g x.0)) undo_head_from 1 1 (λ x. refl) (omega arith) undo_head_takes bytes z e
 ends_at version (in_ops zero undos) g bytes z on e = idle_step (stands version (at_expired undos) g) bytes z 1 (omega arith) e

@@ -1,3 +1,4 @@
 pub mod KeptLemmas
 pub mod QueueLemmas
 pub mod HistoryLemmas
+pub mod TurnLemmas

@@ -1,6 +1,6 @@
 //! The names of an image and their items.
 
-ghost use Rattle.std.specs.Prelude.{◌≡◌, ◌<◌, ◌+◌, ◌++◌, ◌∷◌, [], Some, true, OnOk};
+ghost use Rattle.std.specs.Prelude.{◌≡◌, ◌<◌, ◌++◌, ◌∷◌, [], Some, true, OnOk};
 ghost use Rattle.std.specs.Option.{option_copied};
 ghost use Rattle.std.specs.Str.{bytes_eq};
 ghost use Rattle.chain_names.specs.Points.{changed};
@@ -91,18 +91,21 @@ impl Reading {
         }
     }
 
-    /// The next name and the number of its items.
+    /// The next name and the number of its items, or the end of the names.
     pub(crate) fn read_name<'a>(
         &mut self,
         alloc: Global,
         names: u32,
         bytes: &'a [u8],
     ) -> Result<Option<&'a [u8]>, Stop<'a>>
-        requires next { self.old.next ≡ Next.Names (names + 1) }
+        requires next { self.old.next ≡ Next.Names names }
         requires kept { IsKept self.old }
         ensures turns { Turns self.old bytes.entry.now self.new result }
         ensures kept { OnOk result (IsKept self.new) }
     {
+        let Some(names) = names.checked_sub(1) else {
+            return Ok(Some(bytes));
+        };
         match history_head_at(bytes_of(&self.name), bytes) {
             Ok((name, items, rest)) => {
                 let name = Bytes::copy_of(alloc, name)?;

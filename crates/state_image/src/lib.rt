@@ -8,4 +8,5 @@ mod live_coins;
 mod next;
 mod reading;
 mod records;
+mod turning;
 mod values;
