@@ -2,3 +2,5 @@ pub mod KeptLemmas
 pub mod QueueLemmas
 pub mod HistoryLemmas
 pub mod TurnLemmas
+pub mod TakenLemmas
+pub mod FormLemmas

@@ -2,11 +2,13 @@
 #![tactic(auto)]
 
 mod accepting;
+mod fault;
 mod head;
 mod histories;
 mod live_coins;
 mod next;
 mod reading;
 mod records;
+mod settling;
 mod turning;
 mod values;
