@@ -35,7 +35,7 @@ use Rattle.image_grammar.proofs.FewLaws.{few_coins}
 use Rattle.image_grammar.proofs.ReadLaws.{image_takes}
 use Rattle.state_image.specs.Accepting.{Accepts, taken_from}
 use Rattle.state_image.specs.Answers.{IsSoundImage, IsSoundText, IsImageOfParts, IsSoundOn, IsLoaded, IsDamaged, place_by, IsImageAnswer}
-use Rattle.state_image.specs.Forming.{AreFormed, IsReadWhole, TellsFault}
+use Rattle.state_image.specs.Forming.{AreFormed, IsReadWhole, AreOf, TellsFault}
 use Rattle.state_image.specs.Standing.{standing}
 use Rattle.state_image.specs.declared.fault.ImageFault.{ImageFault}
 use Rattle.state_image.specs.declared.fault.ImageFault.TheVariants.{Damaged, NoMemory}
@@ -110,12 +110,6 @@ module _ (image : Image) (base : Base) (parts : Parts) (is : IsImageOfParts imag
 
   sound_parts : IsSoundImage image → IsSoundOn base parts
   sound_parts sound = subst SoundAs (sym same_state) sound
-
--- the parts of what was read
-pub record AreOf (r : Reading) (base : Base) (parts : Parts) : Type 0 where
-  pub base_is : base ≡ r.base
-  pub tables_are : tables_of parts ≡ r.tables
-  pub undos_are : parts.undos ≡ r.undos
 
 held_parts : (r : Reading) (base : Base) (parts : Parts) (image : Image) → AreOf r base parts → Holds image (standing r).gathered → IsImageOfParts image base parts
 held_parts r base parts image are holds = record {

@@ -30,6 +30,12 @@ pub record IsReadWhole (text : List ℕ) (r : Reading) : Type 0 where
   pub read : taken_from text ≡ Ok ((standing r).gathered, [])
   pub kept : IsKept r
 
+-- the parts of what was read
+pub record AreOf (r : Reading) (base : Base) (parts : Parts) : Type 0 where
+  pub base_is : base ≡ r.base
+  pub tables_are : tables_of parts ≡ r.tables
+  pub undos_are : parts.undos ≡ r.undos
+
 -- the fault of a state that isn't sound has the place 0
 abbrev pub TellsFault : Type 0 → Result (Unit {0}) ImageFault → Type 0
 TellsFault Sound (Ok done) = Sound

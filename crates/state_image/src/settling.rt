@@ -1,10 +1,10 @@
 //! What becomes of what was read whole.
 
 ghost use Rattle.std.specs.Prelude.{◌≡◌, ℕ, List};
-ghost use Rattle.name_tables.specs.Parts.{tables_of};
 ghost use Rattle.states_below.specs.Scan.{TellsWhether};
+ghost use Rattle.state_image.specs.Accepting.{Accepts};
 ghost use Rattle.state_image.specs.Answers.{IsSoundOn, IsImageAnswer};
-ghost use Rattle.state_image.specs.Forming.{AreFormed, IsReadWhole, TellsFault};
+ghost use Rattle.state_image.specs.Forming.{AreFormed, IsReadWhole, AreOf, TellsFault};
 
 use crate::fault::ImageFault;
 use crate::reading::Reading;
@@ -12,6 +12,7 @@ use name_tables::Parts;
 use nmc_base::{Base, HIGHEST_HEIGHT, NoMemory};
 use states_below::is_image_sound;
 use std::alloc::Global;
+use undo_records::Version;
 
 /// Whether the parts are sound on the base.
 fn is_sound(alloc: Global, base: &Base, parts: &Parts) -> Result<bool, NoMemory>
@@ -47,20 +48,31 @@ fn soundness(alloc: Global, base: &Base, parts: &Parts) -> Result<(), ImageFault
 
 fn let_go(_parts: Parts) {}
 
+/// The parts with their registration heights. A text of version 2 has them.
+fn registered(version: Version, parts: Parts) -> Parts
+    requires { Accepts version }
+    ensures { result ≡ parts }
+{
+    match version {
+        Version::One => unreachable!(),
+        Version::Two => parts,
+    }
+}
+
 impl Reading {
     /// The base and the parts.
     fn split(self) -> (Base, Parts)
-        ensures base { result.0 ≡ self.base }
-        ensures tables { tables_of result.1 ≡ self.tables }
-        ensures undos { result.1.undos ≡ self.undos }
+        requires { Accepts self.version }
+        ensures { AreOf self result.0 result.1 }
     {
         let Reading {
+            version,
             base,
             undos,
             tables,
             ..
         } = self;
-        (base, Parts::of(tables, undos))
+        (base, registered(version, Parts::of(tables, undos)))
     }
 
     /// The base and the parts, where they are sound.

@@ -1,17 +1,14 @@
-use Rattle.state_image.proofs.FormLemmas.{AreOf, whole_formed, whole_loaded, whole_fault}
+use Rattle.state_image.proofs.FormLemmas.{whole_formed, whole_loaded, whole_fault}
 use Rattle.state_image.proofs.reading.Reading.settle.Goals as goal
 
+pub split-parts-requires : goal.split-parts-requires
+split-parts-requires c = c.requires.1.kept.version
+
 pub soundness-requires : goal.soundness-requires
-soundness-requires c =
-    let are : AreOf c.args.self c.split-parts.result.0 c.split-parts.result.1 = record { base_is = c.split-parts.ensures.base; tables_are = c.split-parts.ensures.tables; undos_are = c.split-parts.ensures.undos } in
-    whole_formed c.requires.0 c.args.self c.requires.1 c.split-parts.result.0 c.split-parts.result.1 are
+soundness-requires c = whole_formed c.requires.0 c.args.self c.requires.1 _ _ c.split-parts.ensures
 
 pub returns-in-Ok : goal.returns-in-Ok
-returns-in-Ok c = λ text whole.
-    let are : AreOf c.args.self c.split-parts.result.0 c.split-parts.result.1 = record { base_is = c.split-parts.ensures.base; tables_are = c.split-parts.ensures.tables; undos_are = c.split-parts.ensures.undos } in
-    whole_loaded text c.args.self whole c.split-parts.result.0 c.split-parts.result.1 are c.in-Ok.ensures
+returns-in-Ok c = λ text whole. whole_loaded text c.args.self whole _ _ c.split-parts.ensures c.in-Ok.ensures
 
 pub returns-in-Err : goal.returns-in-Err
-returns-in-Err c = λ text whole.
-    let are : AreOf c.args.self c.split-parts.result.0 c.split-parts.result.1 = record { base_is = c.split-parts.ensures.base; tables_are = c.split-parts.ensures.tables; undos_are = c.split-parts.ensures.undos } in
-    whole_fault text c.args.self whole c.split-parts.result.0 c.split-parts.result.1 are c.in-Err.fault c.in-Err.ensures
+returns-in-Err c = λ text whole. whole_fault text c.args.self whole _ _ c.split-parts.ensures c.in-Err.fault c.in-Err.ensures
