@@ -4,3 +4,4 @@ pub mod HistoryLemmas
 pub mod TurnLemmas
 pub mod TakenLemmas
 pub mod FormLemmas
+pub mod LoadLemmas

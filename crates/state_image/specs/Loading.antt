@@ -1,13 +1,15 @@
 -- What a loader was fed.
-use Rattle.std.specs.Prelude.{◌≡◌, ◌≢◌, ℕ, ◌-◌, ◌<◌, ◌≤◌, ◌^◌, List, [], ◌++◌, length, slice_index, Option, Some, None, Result, Ok, Err}
+use Rattle.std.specs.Prelude.{◌≡◌, ◌≢◌, ℕ, zero, ◌-◌, ◌<◌, ◌≤◌, ◌^◌, List, [], ◌++◌, length, slice_index, Option, Some, None, Result, Ok, Err}
 use Rattle.undo_records.specs.declared.fault.FaultKind.{FaultKind}
 use Rattle.undo_records.specs.declared.fault.FaultKind.TheVariants.{Cut}
 use Rattle.state_image.specs.Accepting.{left_from, taken_from}
 use Rattle.state_image.specs.Answers.{IsDamaged}
 use Rattle.state_image.specs.Standing.{standing, IsKept}
-use Rattle.state_image.specs.Turning.{Waits}
+use Rattle.state_image.specs.Turning.{GoesOn, StopsAt, Waits}
 use Rattle.state_image.specs.declared.fault.ImageFault.{ImageFault}
 use Rattle.state_image.specs.declared.fault.ImageFault.TheVariants.{Damaged, NoMemory}
+use Rattle.state_image.specs.declared.next.Next.{Next}
+use Rattle.state_image.specs.declared.next.Next.TheVariants.{Names}
 use Rattle.state_image.specs.declared.reading.Reading.{Reading}
 
 pub record Loading : Type 0 where
@@ -59,3 +61,33 @@ pub record IsLoading (l : Loading) : Type 0 where
   pub few : l.total ≤ 2 ^ 37
   pub within : l.fed ≤ l.total
   pub reads : l.stop ≡ None → (text : List ℕ) × HasRead text l
+
+-- reading on stops at a fault, so many bytes before the end of what was fed
+pub record StopsShort (old : Reading) (bytes : List ℕ) (fed at : ℕ) : Type 0 where
+  pub kind : FaultKind
+  pub rest : List ℕ
+  pub stops : StopsAt old bytes kind rest
+  pub other : kind ≢ Cut
+  pub at_is : at ≡ fed - length rest
+
+-- what is held back and a piece behind it are read on, or there is a fault
+abbrev pub TakesOn : Reading → List ℕ → ℕ → Reading → List ℕ → Result (Unit {0}) ImageFault → Type 0
+TakesOn old bytes fed new pending (Ok done) = GoesOn old bytes new pending × Waits new pending × IsKept new
+TakesOn old bytes fed new pending (Err (Damaged at)) = StopsShort old bytes fed at
+TakesOn old bytes fed new pending (Err NoMemory) = Unit {0}
+
+abbrev pub stop_of : Result (Unit {0}) ImageFault → Option ImageFault
+stop_of (Ok done) = None
+stop_of (Err fault) = Some fault
+
+-- the end of what was fed is a fault, unless all was read
+abbrev pub fault_unless : Next → ℕ → Option ImageFault
+fault_unless (Names zero) fed = None
+fault_unless next fed = Some (Damaged fed)
+
+abbrev pub fault_or : Option ImageFault → Option ImageFault → Option ImageFault
+fault_or None other = other
+fault_or (Some fault) other = Some fault
+
+abbrev pub fault_at : Loading → Option ImageFault
+fault_at l = fault_or l.stop (fault_unless l.reading.next l.fed)

@@ -6,9 +6,13 @@ mod fault;
 mod head;
 mod histories;
 mod live_coins;
+mod loader;
 mod next;
 mod reading;
 mod records;
 mod settling;
 mod turning;
 mod values;
+
+pub use fault::ImageFault;
+pub use loader::Loader;
