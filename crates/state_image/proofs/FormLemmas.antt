@@ -1,6 +1,6 @@
 -- What the form of a text tells of its parts, and what it is to be sound.
-use Rattle.std.proofs.Common.{◌≡◌, ℕ, ◌+◌, ◌<◌, ◌≤◌, ◌^◌, Bool, true, false, cond, List, [], ◌∷◌, ◌++◌, length, map, refl, sym, ap, subst, ◌∙◌, arith}
-use Rattle.std.proofs.lemmas.List.{length-map, length-reverse, reverse-reverse}
+use Rattle.std.proofs.Common.{◌≡◌, ℕ, ◌+◌, ◌≤◌, ◌^◌, Bool, true, false, cond, List, [], ◌∷◌, length, map, refl, sym, ap, subst, ◌∙◌, arith}
+use Rattle.std.proofs.lemmas.List.{length-map, reverse-reverse}
 use Rattle.std.specs.Prelude.{Ok, Err, reverse}
 use Rattle.std.specs.List.{AllByRecursion}
 use Rattle.std.specs.Str.{bytes_eq}
@@ -33,14 +33,14 @@ use Rattle.image_grammar.specs.Stages.{Gathered, image_from}
 use Rattle.image_grammar.specs.Text.{image_text}
 use Rattle.image_grammar.proofs.FewLaws.{few_coins}
 use Rattle.image_grammar.proofs.ReadLaws.{image_takes}
-use Rattle.state_image.specs.Accepting.{Accepts, taken_from}
+use Rattle.state_image.specs.Accepting.{taken_from}
 use Rattle.state_image.specs.Answers.{IsSoundImage, IsSoundText, IsImageOfParts, IsSoundOn, IsLoaded, IsDamaged, place_by, IsImageAnswer}
 use Rattle.state_image.specs.Forming.{AreFormed, IsReadWhole, AreOf, TellsFault}
 use Rattle.state_image.specs.Standing.{standing}
 use Rattle.state_image.specs.declared.fault.ImageFault.{ImageFault}
 use Rattle.state_image.specs.declared.fault.ImageFault.TheVariants.{Damaged, NoMemory}
 use Rattle.state_image.specs.declared.reading.Reading.{Reading}
-use Rattle.state_image.proofs.TakenLemmas.{taken_image, version_taken, again, taken_again, told_whole}
+use Rattle.state_image.proofs.TakenLemmas.{taken_image, version_taken, again, told_whole}
 
 -- ---- lengths
 

@@ -20,7 +20,7 @@ names_filled old new name item names places filled =
     let has : List Item → Bool = λ items. is_some (entry_of items) in
     let same : name_places old ≡ (λ (n : List ℕ). has (names_in old n)) = fun_ext filled in
     let held : (λ (n : List ℕ). has (names_in new n)) ≡ changed bytes_eq (λ (n : List ℕ). has (names_in old n)) name true =
-        ap {B = List ℕ → Bool} (λ (f : List ℕ → List Item) (n : List ℕ). has (f n)) names ∙ changed_mapped bytes_eq has (names_in old) name (names_in old name ++ item ∷ [])
-        ∙ ap (λ (o : _). changed bytes_eq (λ (n : List ℕ). has (names_in old n)) name (is_some o)) (entry_of-more (names_in old name) item) in
+    ap {B = List ℕ → Bool} (λ (f : List ℕ → List Item) (n : List ℕ). has (f n)) names ∙ changed_mapped bytes_eq has (names_in old) name (names_in old name ++ item ∷ [])
+    ∙ ap (λ (o : _). changed bytes_eq (λ (n : List ℕ). has (names_in old n)) name (is_some o)) (entry_of-more (names_in old name) item) in
     let whole : name_places new ≡ (λ (n : List ℕ). has (names_in new n)) = places ∙ ap (λ (f : List ℕ → Bool). changed bytes_eq f name true) same ∙ sym held in
     λ n. ap (λ (f : List ℕ → Bool). f n) whole

@@ -1,15 +1,11 @@
 -- What the tables keep while an image is read.
-use Rattle.std.proofs.Common.{◌≡◌, ℕ, Bool, true, false, List, [], refl, sym, ap, subst, ◌∙◌}
-use Rattle.std.proofs.Math.Path.{fun_ext}
-use Rattle.std.specs.Prelude.{Option, Some, None}
-use Rattle.nmc_base.specs.declared.hashes.OutPoint.{OutPoint}
-use Rattle.chain_names.specs.declared.coin.Coin.{Coin}
+use Rattle.std.proofs.Common.{◌≡◌, ℕ, [], refl, sym, ap, subst, ◌∙◌}
+use Rattle.std.specs.Prelude.{None}
 use Rattle.chain_names.specs.Tables.{coins_in, names_in, queued_in, queue_of}
 use Rattle.name_tables.specs.Tables.{AreEmpty, AreFilled, maps_by}
 use Rattle.name_tables.specs.declared.tables.Tables.{Tables}
 use Rattle.state_image.specs.Accepting.{Accepts}
-use Rattle.state_image.specs.Standing.{IsBlank, BeginsAt, IsKept, AreUpTo, no_maps}
-use Rattle.state_image.specs.declared.next.Next.{Next}
+use Rattle.state_image.specs.Standing.{BeginsAt, IsKept, AreUpTo, no_maps}
 use Rattle.state_image.specs.declared.next.Next.TheVariants.{Head, Coins}
 use Rattle.state_image.specs.declared.reading.Reading.{Reading}
 

@@ -1,6 +1,6 @@
 -- A loader goes on from piece to piece, and what it answers at the end.
-use Rattle.std.proofs.Common.{◌≡◌, ◌≢◌, ℕ, zero, suc, ◌+◌, ◌-◌, ◌≤◌, ◌<◌, ◌^◌, List, [], ◌∷◌, ◌++◌, length, ◌⊎◌, inl, inr, refl, sym, ap, subst, ◌∙◌, arith, append_assoc, append-nil, length-append, get_or}
-use Rattle.std.specs.Prelude.{Option, Some, None, Result, Ok, Err, slice_index}
+use Rattle.std.proofs.Common.{◌≡◌, ◌≢◌, ℕ, zero, suc, ◌+◌, ◌-◌, ◌≤◌, List, [], ◌∷◌, ◌++◌, length, ◌⊎◌, inl, inr, refl, sym, ap, subst, ◌∙◌, arith, append_assoc, append-nil, length-append}
+use Rattle.std.specs.Prelude.{Option, Some, None, Result, Ok, Err}
 use Rattle.block_grammar.proofs.Readers.{IsBytes}
 use Rattle.block_grammar.proofs.ReaderLaws.{ok_err}
 use Rattle.undo_records.specs.declared.fault.FaultKind.{FaultKind}
@@ -12,7 +12,7 @@ use Rattle.image_grammar.specs.Stages.{Gathered, end_from}
 use Rattle.state_image.specs.Accepting.{left_from, taken_from}
 use Rattle.state_image.specs.Answers.{IsSoundText, IsDamaged, IsImageAnswer, place_by}
 use Rattle.state_image.specs.Forming.{IsReadWhole}
-use Rattle.state_image.specs.Loading.{Loading, loading_of, HasRead, ShowsFault, HasStopped, Takes, IsLoading, StopsShort, TakesOn, stop_of, fault_unless, fault_or, fault_at}
+use Rattle.state_image.specs.Loading.{Loading, loading_of, HasRead, ShowsFault, Takes, IsLoading, StopsShort, TakesOn, stop_of, fault_unless, fault_or, fault_at}
 use Rattle.state_image.specs.Standing.{standing, standing_at}
 use Rattle.state_image.specs.Turning.{Waits}
 use Rattle.state_image.specs.declared.fault.ImageFault.{ImageFault}

@@ -1,5 +1,5 @@
 -- Coins that are put one after the other, each behind a greater outpoint, with the queue beside them.
-use Rattle.std.proofs.Common.{◌≡◌, ◌≢◌, ℕ, Bool, true, false, cond, List, [], refl, sym, ap, subst, ◌∙◌}
+use Rattle.std.proofs.Common.{◌≡◌, ◌≢◌, ℕ, Bool, true, false, cond, List, refl, sym, ap, subst, ◌∙◌}
 use Rattle.std.proofs.Math.Path.{fun_ext}
 use Rattle.std.specs.Ordering.{ordering_reverse}
 use Rattle.std.specs.Option.{is_some}
@@ -46,7 +46,7 @@ coins_filled : (old new : CoinSlots) (at : OutPoint) (coin : Coin) → coins_in 
 coins_filled old new at coin coins places filled =
     let same : coin_places old ≡ (λ (p : OutPoint). is_some (coins_in old p)) = fun_ext filled in
     let held : (λ (p : OutPoint). is_some (coins_in new p)) ≡ changed same_point (λ (p : OutPoint). is_some (coins_in old p)) at true =
-        ap {B = OutPoint → Bool} (λ (f : OutPoint → Option Coin) (p : OutPoint). is_some (f p)) coins ∙ changed_mapped same_point is_some (coins_in old) at (Some coin) in
+    ap {B = OutPoint → Bool} (λ (f : OutPoint → Option Coin) (p : OutPoint). is_some (f p)) coins ∙ changed_mapped same_point is_some (coins_in old) at (Some coin) in
     let whole : coin_places new ≡ (λ (p : OutPoint). is_some (coins_in new p)) = places ∙ ap (λ (f : OutPoint → Bool). changed same_point f at true) same ∙ sym held in
     λ p. ap (λ (f : OutPoint → Bool). f p) whole
 

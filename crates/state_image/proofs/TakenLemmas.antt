@@ -1,12 +1,9 @@
 -- Texts in a version that is taken.
-use Rattle.std.proofs.Common.{◌≡◌, ℕ, Bool, true, false, cond, List, [], ◌∷◌, ◌++◌, map, drop, refl, sym, ap, subst, ◌∙◌, append_assoc}
-use Rattle.std.specs.Prelude.{Ok, Err, reverse}
+use Rattle.std.proofs.Common.{◌≡◌, ℕ, Bool, cond, List, [], ◌∷◌, ◌++◌, map, drop, refl, sym, ap, subst, ◌∙◌, append_assoc}
+use Rattle.std.specs.Prelude.{Ok, Err}
 use Rattle.std.specs.Int.{w32, to_le_bytes}
 use Rattle.block_grammar.specs.Combinators.{◌>>=◌}
 use Rattle.block_grammar.proofs.ReaderLaws.{bind_ok, ok_is}
-use Rattle.nmc_base.specs.declared.chain_ends.Base.{Base}
-use Rattle.chain_names.specs.declared.coin.Item.{Item}
-use Rattle.chain_names.specs.Undo.{UndoRecord}
 use Rattle.undo_records.specs.declared.fault.FaultKind.TheVariants.{BadTag}
 use Rattle.undo_records.specs.declared.version.Version.{Version}
 use Rattle.undo_records.specs.declared.version.Version.TheVariants.{One, Two}
@@ -14,11 +11,11 @@ use Rattle.undo_records.specs.Reading.{number_from}
 use Rattle.undo_records.specs.Text.{held_text, undo_text}
 use Rattle.undo_records.specs.Versions.{told}
 use Rattle.image_grammar.specs.Answers.{Holds, IsWhole}
-use Rattle.image_grammar.specs.Image.{Image, History, HasText, item_told, history_told, image_told}
+use Rattle.image_grammar.specs.Image.{Image, HasText, item_told, history_told, image_told}
 use Rattle.image_grammar.specs.Reading.{Head, head_from}
 use Rattle.image_grammar.specs.Resuming.{Answer}
 use Rattle.image_grammar.specs.Stages.{Gathered, nothing_of, undos_then, opening_from, image_from}
-use Rattle.image_grammar.specs.Text.{magic, version_byte, profile_byte, counted_text, history_text, head_text, image_text}
+use Rattle.image_grammar.specs.Text.{magic, version_byte, profile_byte, counted_text, history_text, image_text}
 use Rattle.image_grammar.proofs.WholeLaws.{head_again, text_again}
 use Rattle.state_image.specs.Accepting.{accepts, Accepts, accepted_from, taken_from}
 use Rattle.state_image.proofs.TurnLemmas.{accepted_ok}

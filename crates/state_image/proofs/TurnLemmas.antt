@@ -1,10 +1,10 @@
 -- The steps of a reading, whatever follows.
-use Rattle.std.proofs.Common.{◌≡◌, ◌≢◌, ℕ, zero, suc, ◌+◌, ◌<◌, ◌≤◌, Bool, true, false, cond, List, [], ◌∷◌, ◌++◌, length, drop, ◌⊎◌, inl, inr, refl, sym, ap, subst, ◌∙◌, arith}
+use Rattle.std.proofs.Common.{◌≡◌, ◌≢◌, ℕ, zero, suc, ◌+◌, ◌<◌, ◌≤◌, Bool, true, false, cond, List, [], ◌∷◌, ◌++◌, length, drop, inl, inr, refl, sym, ap, subst, ◌∙◌, arith}
 use Rattle.std.specs.Prelude.{Option, Some, None, Result, Ok, Err}
 use Rattle.std.specs.Borrow.{Bor}
 use Rattle.std.specs.Int.{w32}
 use Rattle.std.proofs.lemmas.Grind.{common_steps}
-use Rattle.block_grammar.specs.Combinators.{◌>>=◌, map_from}
+use Rattle.block_grammar.specs.Combinators.{◌>>=◌}
 use Rattle.block_grammar.proofs.ReaderLaws.{bind_ok, ok_is}
 use Rattle.undo_records.specs.declared.fault.FaultKind.{FaultKind}
 use Rattle.undo_records.specs.declared.fault.FaultKind.TheVariants.{Cut, BadTag}
@@ -23,7 +23,7 @@ use Rattle.image_grammar.proofs.StepLaws.{step_stable}
 use Rattle.image_grammar.proofs.ValueLaws.{opening_stable}
 use Rattle.state_image.specs.Accepting.{accepts, Accepts, accepted_from, left_at, left_from, turn_at, turn_from}
 use Rattle.state_image.specs.Standing.{stage_of, standing, standing_at}
-use Rattle.state_image.specs.Turning.{Turns, GoesOn, StopsAt, Waits, Steps}
+use Rattle.state_image.specs.Turning.{Turns, StopsAt, Steps}
 use Rattle.state_image.specs.declared.next.Next.{Next}
 use Rattle.state_image.specs.declared.next.Next.TheVariants.{Head as at_head, Undos, Ops, ExpiredCount, Expired, CoinCount, Coins, NameCount, Names, Items}
 use Rattle.state_image.specs.declared.reading.Reading.{Reading}

@@ -1,5 +1,5 @@
 -- Which versions of the text are taken.
-use Rattle.std.specs.Prelude.{◌≡◌, ℕ, Bool, true, false, if◌then◌else◌, List, drop, Ok, Err}
+use Rattle.std.specs.Prelude.{◌≡◌, ℕ, Bool, true, false, if◌then◌else◌, drop, Ok, Err}
 use Rattle.block_grammar.specs.Combinators.{◌>>=◌, map_from}
 use Rattle.undo_records.specs.declared.fault.FaultKind.TheVariants.{BadTag}
 use Rattle.undo_records.specs.declared.version.Version.{Version}

@@ -1,5 +1,5 @@
 -- What a loader was fed.
-use Rattle.std.specs.Prelude.{◌≡◌, ◌≢◌, ℕ, zero, ◌-◌, ◌<◌, ◌≤◌, ◌^◌, List, [], ◌++◌, length, slice_index, Option, Some, None, Result, Ok, Err}
+use Rattle.std.specs.Prelude.{◌≡◌, ◌≢◌, ℕ, zero, ◌-◌, ◌<◌, ◌≤◌, ◌^◌, List, ◌++◌, length, slice_index, Option, Some, None, Result, Ok, Err}
 use Rattle.undo_records.specs.declared.fault.FaultKind.{FaultKind}
 use Rattle.undo_records.specs.declared.fault.FaultKind.TheVariants.{Cut}
 use Rattle.state_image.specs.Accepting.{left_from, taken_from}

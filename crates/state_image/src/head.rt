@@ -38,10 +38,7 @@ fn first_other<'a>(want: &[u8], bytes: &'a [u8]) -> &'a [u8]
 }
 
 /// Bytes that must be these: the first that differs is the fault's place.
-fn exactly_at<'a>(
-    want: &[u8],
-    bytes: &'a [u8],
-) -> Result<(&'a [u8], &'a [u8]), Fault<'a>>
+fn exactly_at<'a>(want: &[u8], bytes: &'a [u8]) -> Result<(&'a [u8], &'a [u8]), Fault<'a>>
     ensures { seen (λ x. (x.0.now, x.1.now)) result ≡ exactly_from want.entry.now bytes.entry.now }
 {
     let Some((piece, rest)) = bytes.split_at_checked(want.len()) else {
@@ -119,9 +116,7 @@ fn behind_magic<'a>(bytes: &'a [u8]) -> &'a [u8]
 }
 
 /// The same, in a version that is taken. Another is a fault at its byte.
-pub(crate) fn accepted_at<'a>(
-    bytes: &'a [u8],
-) -> Result<(Version, Base, u32, &'a [u8]), Fault<'a>>
+pub(crate) fn accepted_at<'a>(bytes: &'a [u8]) -> Result<(Version, Base, u32, &'a [u8]), Fault<'a>>
     ensures { seen (λ x. (((x.0, x.1), x.2), x.3.now)) result ≡ accepted_from bytes.entry.now }
 {
     let (version, base, undos, rest) = opening_at(bytes)?;

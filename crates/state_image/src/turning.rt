@@ -30,11 +30,7 @@ impl Reading {
     }
 
     /// Reads the next value, or goes on to the next list.
-    fn turn<'a>(
-        &mut self,
-        alloc: Global,
-        bytes: &'a [u8],
-    ) -> Result<Option<&'a [u8]>, Stop<'a>>
+    fn turn<'a>(&mut self, alloc: Global, bytes: &'a [u8]) -> Result<Option<&'a [u8]>, Stop<'a>>
         requires kept { IsKept self.old }
         ensures turns { Turns self.old bytes.entry.now self.new result }
         ensures kept { OnOk result (IsKept self.new) }
@@ -66,11 +62,7 @@ impl Reading {
     }
 
     /// One step.
-    fn step<'a>(
-        &mut self,
-        alloc: Global,
-        bytes: &'a [u8],
-    ) -> Result<Option<&'a [u8]>, Stop<'a>>
+    fn step<'a>(&mut self, alloc: Global, bytes: &'a [u8]) -> Result<Option<&'a [u8]>, Stop<'a>>
         requires kept { IsKept self.old }
         ensures steps { Steps self.old bytes.entry.now self.new result }
         ensures kept { OnOk result (IsKept self.new) }
@@ -82,11 +74,7 @@ impl Reading {
     }
 
     /// Reads all whole values at the front, and answers the bytes behind them.
-    pub(crate) fn read<'a>(
-        &mut self,
-        alloc: Global,
-        bytes: &'a [u8],
-    ) -> Result<&'a [u8], Stop<'a>>
+    pub(crate) fn read<'a>(&mut self, alloc: Global, bytes: &'a [u8]) -> Result<&'a [u8], Stop<'a>>
         requires kept { IsKept self.old }
         ensures reads { ReadsOn self.old bytes.entry.now self.new result }
         ensures kept { OnOk result (IsKept self.new) }

@@ -1,5 +1,4 @@
-use Rattle.std.proofs.Common.{ℕ, ◌+◌, ◌≤◌, ◌++◌, length, sym, subst, arith}
-use Rattle.std.specs.Prelude.{slice_index}
+use Rattle.std.proofs.Common.{◌+◌, ◌≤◌, ◌++◌, length, sym, subst, arith}
 use Rattle.block_grammar.proofs.Readers.{IsBytes}
 use Rattle.state_image.specs.Loading.{Loading, loading_of, HasRead, Takes, IsLoading}
 use Rattle.state_image.proofs.LoadLemmas.{takes_piece, loading_more}

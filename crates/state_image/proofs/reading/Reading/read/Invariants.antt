@@ -1,4 +1,3 @@
-use Rattle.std.proofs.Common.{◌+◌}
 use Rattle.image_grammar.specs.Work.{work_left}
 use Rattle.state_image.specs.Standing.{stage_of, IsKept}
 use Rattle.state_image.specs.Turning.{GoesOn}
