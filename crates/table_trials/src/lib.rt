@@ -1,4 +1,4 @@
-//! Trials of the tables of names and of what they are made of: coins, histories, the queue of what expires, verdicts, undo records, sound images.
+//! Trials of the tables of names and of what they are made of: coins, histories, the queue of what expires, verdicts, undo records, sound images, images that are read in pieces.
 #![tactic(auto)]
 
 #[cfg(test)]
@@ -9,6 +9,8 @@ mod comparing;
 mod histories;
 #[cfg(test)]
 mod images;
+#[cfg(test)]
+mod loading;
 #[cfg(test)]
 mod outputs;
 #[cfg(test)]
