@@ -15,3 +15,4 @@ pub mod ReadLaws
 pub mod KeyedLaws
 pub mod StateLaws
 pub mod WrittenLaws
+pub mod ShorterLaws

@@ -5,3 +5,4 @@ pub mod Reading
 pub mod Stages
 pub mod Answers
 pub mod Widths
+pub mod Work
