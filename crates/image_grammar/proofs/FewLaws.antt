@@ -25,11 +25,11 @@ use Rattle.undo_records.specs.declared.version.Version.{Version}
 
 -- ---- lengths
 
-point_long : (p : OutPoint) → IsWritablePoint p → 32 ≤ length (point_text p)
+pub point_long : (p : OutPoint) → IsWritablePoint p → 32 ≤ length (point_text p)
 unfolding point_text
 point_long p fits = omega (arith, fits.txid, length-append p.txid.0 (to_le_bytes w32 p.index))
 
-held_long : (held : HeldCoin) → IsWritablePoint held.at → 32 ≤ length (held_text held)
+pub held_long : (held : HeldCoin) → IsWritablePoint held.at → 32 ≤ length (held_text held)
 unfolding held_text
 held_long held fits = omega (arith, point_long held.at fits, length-append (point_text held.at) (coin_text held.coin))
 

@@ -12,3 +12,6 @@ pub mod FewLaws
 pub mod TakeLaws
 pub mod SortedLaws
 pub mod ReadLaws
+pub mod KeyedLaws
+pub mod StateLaws
+pub mod WrittenLaws

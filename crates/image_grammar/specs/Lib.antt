@@ -4,3 +4,4 @@ pub mod Resuming
 pub mod Reading
 pub mod Stages
 pub mod Answers
+pub mod Widths

@@ -1,0 +1,4 @@
+pub mod PieceLemmas
+pub mod KeyLemmas
+pub mod OrderLemmas
+pub mod WholeLemmas

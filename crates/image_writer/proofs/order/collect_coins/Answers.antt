@@ -1,0 +1,7 @@
+use Rattle.image_writer.proofs.OrderLemmas.{coins_more}
+use Rattle.image_writer.proofs.order.collect_coins.Goals as goal
+
+pub loop-i-preserved : goal.loop-i-preserved
+loop-i-preserved g c =
+    coins_more c.args.coins.now c.loop-i.i c.loop-i.entries.items c.push.new.self.items (record { at = c.in-Some.at; coin = c.in-Some.coin }) c.loop-i.invariant c.in-Some.ensures.item
+    c.in_ok-push-in-Some.ensures.items

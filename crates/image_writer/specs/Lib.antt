@@ -1,0 +1,6 @@
+pub mod Page
+pub mod Ordered
+pub mod Listed
+pub mod Left
+pub mod Whole
+pub mod Pieces

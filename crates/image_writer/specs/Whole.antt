@@ -1,0 +1,35 @@
+-- The image of what is listed, and what is known of its parts.
+use Rattle.std.specs.Prelude.{◌≡◌, ℕ, ◌^◌, ◌≤◌, List, length, map, reverse}
+use Rattle.nmc_base.specs.declared.chain_ends.Base.{Base}
+use Rattle.chain_names.specs.Coins.{Maps}
+use Rattle.chain_names.specs.Seen.{seen_undo}
+use Rattle.chain_names.specs.Undo.{UndoRecord}
+use Rattle.chain_names.specs.declared.undo.Undo.{Undo}
+use Rattle.undo_records.specs.Measured.{IsMeasured}
+use Rattle.name_tables.specs.declared.parts.Parts.{Parts}
+use Rattle.image_grammar.specs.Image.{Image, HasText, IsImageOf}
+use Rattle.image_writer.specs.declared.listed.Listed.{Listed}
+use Rattle.image_writer.specs.Ordered.{ListsCoins, ListsNames}
+use Rattle.image_writer.specs.Listed.{seen_entry, history_by}
+
+-- the records from the oldest on, and the coins and names as they are listed
+abbrev pub image_by : Base → List Undo → Listed → Image
+image_by base undos l = record {
+  base = base;
+  undos = map seen_undo undos;
+  coins = map seen_entry l.coins.items;
+  names = map (history_by l.table.now) l.names.items;
+}
+
+-- the coins and names of the parts, in order
+pub record ListsParts (parts : Parts) (l : Listed) : Type 0 where
+  pub coins_are : ListsCoins parts.coins (map seen_entry l.coins.items)
+  pub names_are : ListsNames parts.names (map (history_by l.table.now) l.names.items)
+  pub table_is : l.table.now ≡ parts.names
+
+abbrev pub IsWide : Undo → Type 0
+IsWide undo = IsMeasured (seen_undo undo)
+
+-- the image of the state is one that is read again, where its text is no longer than 2^37 bytes
+abbrev pub IsReadAgain : Base → List UndoRecord → Maps → List ℕ → Type 0
+IsReadAgain base undos maps text = length text ≤ 2 ^ 37 → (image : Image) → IsImageOf base (reverse undos) maps image → HasText image
