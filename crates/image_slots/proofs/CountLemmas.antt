@@ -1,6 +1,6 @@
 -- What is read of the selections.
-use Rattle.std.proofs.Common.{◌≡◌, ℕ, suc, ◌+◌, ◌*◌, ◌<◌, ◌≤◌, Bool, true, false, List, [], length, take, Ok, Err, refl, sym, ◌∙◌, ap, subst, arith, length-take}
-use Rattle.std.specs.Prelude.{Result, IsErrAnd, IsTrue, MatchResult}
+use Rattle.std.proofs.Common.{◌≡◌, ℕ, suc, ◌+◌, ◌*◌, ◌<◌, ◌≤◌, Bool, true, false, List, [], length, take, Ok, Err, sym, ◌∙◌, ap, subst, arith, length-take}
+use Rattle.std.specs.Prelude.{Result, IsTrue}
 use Rattle.disk_model.specs.FileState.{FileState, IsSettled}
 use Rattle.disk_model.specs.Moments.{Files, Moments, EachMoment}
 use Rattle.disk_model.specs.Changes.{Unchanged}
@@ -32,11 +32,10 @@ fault_there file old new into count journal.DiskFault answer = tt
 fault_there file old new into count journal.NoMemory answer = tt
 fault_there file old new into count (journal.Damaged place) answer = (answer.0, answer.1.is_open, answer.1.no_record (next_selection count))
 
-pub fault_told : (seen : ℕ → List ℕ) (old new : Stand) (into : List ℕ) (count : ℕ) (fault : JournalFault) (result : Result Bool SlotFault) → old.file ≡ selections_file
-    → NextAnswer (seen old.file) old new into (Err fault) → IsErrAnd result (λ e. e ≡ of_journal fault) → SelectionAnswer (seen selections_file) (gate_of old) old.limit count result
-fault_told seen old new into count fault (Ok more) is answer told = absurd told
-fault_told seen old new into count fault (Err e) is answer told =
-    subst (λ (f : SlotFault). SelectionAnswer (seen selections_file) (gate_of old) old.limit count (Err f)) (sym told)
+pub fault_told : (seen : ℕ → List ℕ) (old new : Stand) (into : List ℕ) (count : ℕ) (fault : JournalFault) (told : SlotFault) → old.file ≡ selections_file
+    → NextAnswer (seen old.file) old new into (Err fault) → told ≡ of_journal fault → SelectionAnswer (seen selections_file) (gate_of old) old.limit count (Err told)
+fault_told seen old new into count fault told is answer told_is =
+    subst (λ (f : SlotFault). SelectionAnswer (seen selections_file) (gate_of old) old.limit count (Err f)) (sym told_is)
     (fault_there (seen selections_file) old new into count fault (subst (λ (n : ℕ). NextAnswer (seen n) old new into (Err fault)) is answer))
 
 -- a record that is not the next selection
@@ -50,12 +49,6 @@ pub another_there : (seen : ℕ → List ℕ) (old new : Stand) (into : List ℕ
 another_there seen old new into count false e is answer differs = absurd cc
 another_there seen old new into count true e is answer differs =
     not_next (seen selections_file) (gate_of old) old.limit count into (subst (λ (n : ℕ). IsRecordAt (seen n) (gate_of old) old.limit into) is answer.0) differs
-
--- a fault that is handed on
-pub fault_passed : {T : Type 0} (P : T → Type 0) (at most : ℕ) (file other : List ℕ) (fault : SlotFault) (result : Result T SlotFault) → other ≡ file → FaultAnswer at most other fault
-    → IsErrAnd result (λ e. e ≡ fault) → MatchResult result P (FaultAnswer at most file)
-fault_passed P at most file other fault (Ok x) are answer same = absurd same
-fault_passed P at most file other fault (Err e) are answer same = subst (FaultAnswer at most file) (sym same) (subst (λ (l : List ℕ). FaultAnswer at most l fault) are answer)
 
 -- ---- all of them
 
@@ -121,9 +114,8 @@ module _ (tells : Bool) (at most : ℕ) (file : List ℕ) (journal : Stand) (cou
   fault_read (faults.Damaged place) told answer =
       subst (IsDamaged at most file) (sym answer.0) (selection (record { count = count; few = so_far.few; read = so_far.read told; is_open = answer.1; no_next = answer.2 }))
 
-  pub fault_counted : (fault : SlotFault) (result : Result ℕ SlotFault) → IsTrue tells → SelectionAnswer file (gate_of journal) journal.limit count (Err fault) → IsErrAnd result (λ e. e ≡ fault)
-      → MatchResult result (λ n. HasSelections (take at file) n file) (FaultAnswer at most file)
-  fault_counted fault result told answer same = fault_passed (λ n. HasSelections (take at file) n file) at most file file fault result refl (fault_read fault told (told_at (Err fault) answer)) same
+  pub fault_counted : (fault : SlotFault) → IsTrue tells → SelectionAnswer file (gate_of journal) journal.limit count (Err fault) → FaultAnswer at most file fault
+  fault_counted fault told answer = fault_read fault told (told_at (Err fault) answer)
 
 -- reads give the same bytes while no file changes
 pub same_bytes : {old new : Moments} (file : ℕ) → EachMoment (Unchanged old.now) old new → seen new file ≡ seen old file

@@ -5,15 +5,36 @@ use Rattle.disk_model.specs.Moments.{EachMoment}
 use Rattle.disk_model.specs.Changes.{LeavesOthers, Unchanged}
 use Rattle.disk_model.specs.DiskSeen.{DiskSeen, Ends, EndsWith, file_in, bytes_in}
 use Rattle.gate_journal.specs.Records.{IsArea, image_front}
+use Rattle.gate_journal.specs.Stand.{Stand, IsReadable, gate_of}
 use Rattle.image_slots.specs.Selections.{HasSelections, drafted_by, selections_file}
 use Rattle.image_slots.specs.Slotted.{Slotted, AreOn, KeepsOrSelects, with_one_more}
 use Rattle.image_slots.specs.Drafted.{Drafted, DraftHolds}
-use Rattle.image_slots.specs.Answers.{FaultAnswer, BeginAnswer}
+use Rattle.image_slots.specs.Answers.{FaultAnswer, SelectionAnswer, BeginAnswer}
 use Rattle.image_slots.specs.declared.limits.SlotLimits.{SlotLimits}
 use Rattle.image_slots.specs.declared.faults.SlotFault.{SlotFault}
 use Rattle.image_slots.specs.declared.faults.SlotFault.TheVariants as slot_fault
 use Rattle.image_slots.specs.declared.faults.DraftFault.{DraftFault}
 use Rattle.image_slots.specs.declared.faults.DraftFault.TheVariants.{DiskFault}
+
+-- The selection behind so many others was read, or a closed gate reached, without a write and a cut. How far the journal moved is said
+-- over every disk.
+pub record ReadsSelection (tells : Bool) (old new : Stand) (count : ℕ) (before after : DiskSeen) (result : Result Bool SlotFault) : Type 0 where
+  pub answer : IsTrue tells → SelectionAnswer (bytes_in before selections_file) (gate_of old) old.limit count result
+  pub moved : IfOk result (λ more. IsTrue more → (new.length ≡ old.length + 6) × (new.length ≤ old.limit))
+  pub same : (new.file ≡ old.file) × (new.limit ≡ old.limit)
+  pub readable : IsTrue tells → OnOk result (IsReadable new (file_in after selections_file))
+  pub unchanged : IsTrue tells → EachMoment (Unchanged before.moments.now) before.moments after.moments
+  pub ends : EndsWith slot_fault.DiskFault before after result
+  pub reads : after.changes ≡ before.changes
+
+-- The selections were counted behind a first gate inside the file, without a write and a cut.
+pub record CountsSelections (tells : Bool) (at most : ℕ) (old new : DiskSeen) (result : Result ℕ SlotFault) : Type 0 where
+  pub answer : IsTrue tells → (let file = bytes_in old selections_file in
+      MatchResult result (λ count. HasSelections (take at file) count file) (FaultAnswer at most file))
+  pub few : IfOk result (λ count. count ≤ most)
+  pub unchanged : IsTrue tells → EachMoment (Unchanged old.moments.now) old.moments new.moments
+  pub ends : EndsWith slot_fault.DiskFault old new result
+  pub reads : new.changes ≡ old.changes
 
 -- Slots were opened whose first gate stands at this place. No write and no cut was asked for.
 pub record OpensSlots (tells : Bool) (at : ℕ) (limits : SlotLimits) (old new : DiskSeen) (result : Result Slotted SlotFault) : Type 0 where

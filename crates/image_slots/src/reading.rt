@@ -5,7 +5,7 @@ ghost use Rattle.disk_model.specs.Changes.{Unchanged};
 ghost use Rattle.disk_model.specs.DiskSeen.{EndsWith, file_in, bytes_in};
 ghost use Rattle.gate_journal.specs.Stand.{IsReadable, gate_of};
 ghost use Rattle.image_slots.specs.Selections.{HasSelections, next_selection, selections_file, selections_limit};
-ghost use Rattle.image_slots.specs.Answers.{SelectionAnswer, FaultAnswer};
+ghost use Rattle.image_slots.specs.Calls.{ReadsSelection, CountsSelections};
 
 use crate::areas::drafted_area;
 use crate::faults::SlotFault;
@@ -30,22 +30,21 @@ fn read_next<D: Disk>(
     requires file { journal.old.file ≡ selections_file }
     requires gate { 1 ≤ journal.old.length }
     requires readable { IsTrue D.tells → IsReadable journal.old (file_in (D.seen disk.old) selections_file) }
-    ensures answer { IsTrue D.tells → SelectionAnswer (bytes_in (D.seen disk.old) selections_file) (gate_of journal.old) journal.old.limit count result }
-    ensures moved { IfOk result (λ more. IsTrue more → (journal.new.length ≡ journal.old.length + 6) × (journal.new.length ≤ journal.old.limit)) }
-    ensures same { (journal.new.file ≡ journal.old.file) × (journal.new.limit ≡ journal.old.limit) }
-    ensures readable { IsTrue D.tells → OnOk result (IsReadable journal.new (file_in (D.seen disk.new) selections_file)) }
-    ensures time { IsTrue D.tells → EachMoment (Unchanged (D.seen disk.old).moments.now) (D.seen disk.old).moments (D.seen disk.new).moments }
-    ensures reads { (D.seen disk.new).changes ≡ (D.seen disk.old).changes }
-    ensures ends { EndsWith SlotFault.DiskFault (D.seen disk.old) (D.seen disk.new) result }
+    ensures { ReadsSelection D.tells journal.old journal.new count (D.seen disk.old) (D.seen disk.new) result }
 {
     let at = journal.length() - 1;
-    if !journal.next_record(disk, held)? {
-        return Ok(false);
+    match journal.next_record(disk, held) {
+        Ok(more) => {
+            if !more {
+                return Ok(false);
+            }
+            if !is_next(held.as_slice(), count) {
+                return Err(SlotFault::Damaged { at });
+            }
+            Ok(true)
+        }
+        Err(fault) => Err(SlotFault::from(fault)),
     }
-    if !is_next(held.as_slice(), count) {
-        return Err(SlotFault::Damaged { at });
-    }
-    Ok(true)
 }
 
 /// How many selections there are behind the journal's first gate, at most as many as fit its limit.
@@ -60,18 +59,18 @@ pub fn count_selections<D: Disk>(
     requires gate { journal.old.length ≡ at + 1 }
     requires limit { journal.old.limit ≡ selections_limit at most }
     requires readable { IsTrue D.tells → IsReadable journal.old (file_in (D.seen disk.old) selections_file) }
-    ensures answer { IsTrue D.tells → (let file = bytes_in (D.seen disk.old) selections_file in
-        MatchResult result (λ count. HasSelections (take at file) count file) (FaultAnswer at most file)) }
-    ensures few { IfOk result (λ count. count ≤ most) }
-    ensures time { IsTrue D.tells → EachMoment (Unchanged (D.seen disk.old).moments.now) (D.seen disk.old).moments (D.seen disk.new).moments }
-    ensures reads { (D.seen disk.new).changes ≡ (D.seen disk.old).changes }
-    ensures ends { EndsWith SlotFault.DiskFault (D.seen disk.old) (D.seen disk.new) result }
+    ensures { CountsSelections D.tells at most (D.seen disk.old) (D.seen disk.new) result }
 {
     let mut count = 0;
     'selections: loop {
-        if !read_next(disk, journal, held, count)? {
-            return Ok(count);
+        match read_next(disk, journal, held, count) {
+            Ok(more) => {
+                if !more {
+                    return Ok(count);
+                }
+                count += 1;
+            }
+            Err(fault) => return Err(fault),
         }
-        count += 1;
     }
 }

@@ -67,8 +67,10 @@ impl Slots {
         let limit = selections_limit(at, limits.selections);
         let mut journal = Journal::open(disk, SELECTIONS_FILE, at, limit)?;
         let mut held = Bytes::new(alloc);
-        let count = count_selections(disk, &mut journal, &mut held, at, limits.selections)?;
-        Ok(Slots::at(at, count, limits))
+        match count_selections(disk, &mut journal, &mut held, at, limits.selections) {
+            Ok(count) => Ok(Slots::at(at, count, limits)),
+            Err(fault) => Err(fault),
+        }
     }
 
     /// The number of the selected area's file: 1 or 2.

@@ -24,35 +24,41 @@ selections-preserved g c =
     let file = bytes_in (g.D.Disk.seen c.args.disk.now) selections_file in
     let journal = c.selections.journal in
     let answer = λ (tells : IsTrue g.D.Disk.tells).
-    subst (λ (l : List ℕ). SelectionAnswer l (journal.length - 1) journal.limit c.selections.count (Ok c.in_ok-read_next.field-0)) (same_bytes selections_file (c.selections.invariant.time tells))
-    (c.in_ok-read_next.ensures.answer tells) in
+    subst (λ (l : List ℕ). SelectionAnswer l (journal.length - 1) journal.limit c.selections.count (Ok c.in-Ok.more)) (same_bytes selections_file (c.selections.invariant.time tells))
+    (c.in-Ok.ensures.answer tells) in
     record {
-      counted = one_counted g.D.Disk.tells c.args.at c.args.most file journal c.selections.count c.selections.invariant.counted c.read_next.new.journal c.in_ok-read_next.field-0 c.if-not-branch.false answer
-          c.in_ok-read_next.ensures.same (c.in_ok-read_next.ensures.moved c.if-not-branch.false);
-      readable = c.in_ok-read_next.ensures.readable;
-      time = λ tells. unchanged_then (c.selections.invariant.time tells) (c.in_ok-read_next.ensures.time tells);
-      reads = c.in_ok-read_next.ensures.reads ∙ c.selections.invariant.reads;
+      counted = one_counted g.D.Disk.tells c.args.at c.args.most file journal c.selections.count c.selections.invariant.counted c.read_next.new.journal c.in-Ok.more c.if-not-more.false answer
+          c.in-Ok.ensures.same (c.in-Ok.ensures.moved c.if-not-more.false);
+      readable = c.in-Ok.ensures.readable;
+      time = λ tells. unchanged_then (c.selections.invariant.time tells) (c.in-Ok.ensures.unchanged tells);
+      reads = c.in-Ok.ensures.reads ∙ c.selections.invariant.reads;
       later = search rules;
     }
 
-pub returns-in_err-read_next-clause-answer : goal.returns-in_err-read_next-clause-answer
-returns-in_err-read_next-clause-answer g c = λ tells.
+pub returns-then-not-more : goal.returns-then-not-more
+returns-then-not-more g c =
     let file = bytes_in (g.D.Disk.seen c.args.disk.now) selections_file in
     let journal = c.selections.journal in
-    let answer = subst (λ (l : List ℕ). SelectionAnswer l (journal.length - 1) journal.limit c.selections.count (Err c.in_err-read_next.field-0.0)) (same_bytes selections_file (c.selections.invariant.time tells))
-    (c.in_err-read_next.ensures.answer tells) in
-    fault_counted g.D.Disk.tells c.args.at c.args.most file journal c.selections.count c.selections.invariant.counted c.in_err-read_next.field-0.0 c.from_residual.result tells answer c.from_residual.ensures.1
+    record {
+      answer = λ tells.
+          all_counted g.D.Disk.tells c.args.at c.args.most file journal c.selections.count c.selections.invariant.counted c.in-Ok.more c.if-not-more.true tells
+          (subst (λ (l : List ℕ). SelectionAnswer l (journal.length - 1) journal.limit c.selections.count (Ok c.in-Ok.more)) (same_bytes selections_file (c.selections.invariant.time tells)) (c.in-Ok.ensures.answer tells));
+      few = c.selections.invariant.counted.few;
+      unchanged = λ tells. unchanged_then (c.selections.invariant.time tells) (c.in-Ok.ensures.unchanged tells);
+      ends = search rules;
+      reads = c.in-Ok.ensures.reads ∙ c.selections.invariant.reads;
+    }
 
-pub returns-in_err-read_next-clause-time : goal.returns-in_err-read_next-clause-time
-returns-in_err-read_next-clause-time g c = λ tells. unchanged_then (c.selections.invariant.time tells) (c.read_next.ensures.time tells)
-
-pub returns-then-not-branch-clause-answer : goal.returns-then-not-branch-clause-answer
-returns-then-not-branch-clause-answer g c = λ tells.
+pub returns-in-Err : goal.returns-in-Err
+returns-in-Err g c =
     let file = bytes_in (g.D.Disk.seen c.args.disk.now) selections_file in
     let journal = c.selections.journal in
-    let answer = subst (λ (l : List ℕ). SelectionAnswer l (journal.length - 1) journal.limit c.selections.count (Ok c.in_ok-read_next.field-0)) (same_bytes selections_file (c.selections.invariant.time tells))
-    (c.in_ok-read_next.ensures.answer tells) in
-    all_counted g.D.Disk.tells c.args.at c.args.most file journal c.selections.count c.selections.invariant.counted c.in_ok-read_next.field-0 c.if-not-branch.true tells answer
-
-pub returns-then-not-branch-clause-time : goal.returns-then-not-branch-clause-time
-returns-then-not-branch-clause-time g c = λ tells. unchanged_then (c.selections.invariant.time tells) (c.read_next.ensures.time tells)
+    record {
+      answer = λ tells.
+          fault_counted g.D.Disk.tells c.args.at c.args.most file journal c.selections.count c.selections.invariant.counted c.in-Err.fault tells
+          (subst (λ (l : List ℕ). SelectionAnswer l (journal.length - 1) journal.limit c.selections.count (Err c.in-Err.fault)) (same_bytes selections_file (c.selections.invariant.time tells)) (c.in-Err.ensures.answer tells));
+      few = tt;
+      unchanged = λ tells. unchanged_then (c.selections.invariant.time tells) (c.in-Err.ensures.unchanged tells);
+      ends = search rules;
+      reads = c.in-Err.ensures.reads ∙ c.selections.invariant.reads;
+    }
