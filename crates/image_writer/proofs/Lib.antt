@@ -2,3 +2,4 @@ pub mod PieceLemmas
 pub mod KeyLemmas
 pub mod OrderLemmas
 pub mod WholeLemmas
+pub mod LengthLemmas

@@ -4,3 +4,4 @@ pub mod Listed
 pub mod Left
 pub mod Whole
 pub mod Pieces
+pub mod Lengths

@@ -1,6 +1,7 @@
 //! The text of an image of an index, given out in pieces, and its length.
 #![tactic(auto)]
 
+mod lengths;
 mod listed;
 mod order;
 mod page;

@@ -14,7 +14,7 @@ use name_tables::Parts;
 use nmc_base::{Base, Hash32, OutPoint};
 use undo_records::widths::{read_coin, read_item, read_point};
 
-fn read_hash(hash: Hash32)
+pub(crate) fn read_hash(hash: Hash32)
     ensures { length hash.0 ≡ 32 }
 {}
 

@@ -1,0 +1,97 @@
+//! The lengths of the values of an image in version 2. Each is added to what was counted before; where the sum is greater than
+//! 2^64 - 1, it stays at that.
+
+ghost use Rattle.std.specs.Prelude.{◌≡◌, ◌+◌, length, map};
+ghost use Rattle.std.specs.List.{flat_map};
+ghost use Rattle.chain_names.specs.declared.coin.HeldCoin.{HeldCoin};
+ghost use Rattle.chain_names.specs.Seen.{seen_undo};
+ghost use Rattle.chain_names.specs.Writable.{change_of};
+ghost use Rattle.undo_records.specs.declared.version.Version.TheVariants.{Two};
+ghost use Rattle.undo_records.specs.Text.{name_text, item_text, before_text, change_text, op_text, held_text, undo_text};
+ghost use Rattle.image_grammar.specs.Image.{History};
+ghost use Rattle.image_grammar.specs.Text.{history_text};
+ghost use Rattle.image_writer.specs.Lengths.{capped};
+
+use crate::widths::read_hash;
+use chain_names::{Coin, HeldCoin, Item, Undo, UndoOp};
+use nmc_base::OutPoint;
+use undo_records::widths::{read_coin, read_item, read_point};
+
+fn add_name(total: u64, name: &[u8]) -> u64
+    ensures { result ≡ capped (total + length (name_text name.now)) }
+{
+    total.saturating_add(1).saturating_add(name.len() as u64)
+}
+
+#[tactic(auto, using(crate::proofs::LengthLemmas::item_length))]
+fn add_item(total: u64, item: &Item) -> u64
+    ensures { result ≡ capped (total + length (item_text Two item.now)) }
+{
+    read_item(item);
+    let value = item.value.as_slice();
+    total.saturating_add(46).saturating_add(value.len() as u64)
+}
+
+#[tactic(auto, using(crate::proofs::LengthLemmas::new_length, crate::proofs::LengthLemmas::named_length))]
+fn add_held(total: u64, at: OutPoint, coin: &Coin) -> u64
+    ensures { let held : HeldCoin = record { at = at; coin = coin.now } in result ≡ capped (total + length (held_text held)) }
+{
+    read_coin(at, coin);
+    match coin {
+        Coin::New { .. } => total.saturating_add(61),
+        Coin::Named { name, .. } => add_name(total.saturating_add(41), name.as_slice()),
+    }
+}
+
+#[tactic(auto, unfolding(undo_records::specs::Text::before_text))]
+fn add_before(total: u64, before: &Option<Item>) -> u64
+    ensures { result ≡ capped (total + length (before_text Two before.now)) }
+{
+    match before {
+        Some(item) => add_item(total.saturating_add(1), item),
+        None => total.saturating_add(1),
+    }
+}
+
+#[tactic(auto, using(crate::proofs::LengthLemmas::change_length))]
+fn add_change(
+    total: u64,
+    made: OutPoint,
+    spent: OutPoint,
+    coin: &Coin,
+    name: &[u8],
+    before: &Option<Item>,
+) -> u64
+    ensures { result ≡ capped (total + length (change_text Two (change_of made spent coin.now name.now before.now))) }
+{
+    read_point(made);
+    let points = add_held(total.saturating_add(36), spent, coin);
+    add_before(add_name(points, name), before)
+}
+
+#[tactic(auto, using(crate::proofs::LengthLemmas::point_length), unfolding(undo_records::specs::Text::op_text))]
+fn add_op(total: u64, op: &UndoOp) -> u64
+    ensures { result ≡ capped (total + length (op_text Two op.now)) }
+{
+    let tag = total.saturating_add(1);
+    match op {
+        UndoOp::New { made } => {
+            read_point(*made);
+            tag.saturating_add(36)
+        }
+        UndoOp::First {
+            made,
+            spent,
+            coin,
+            name,
+            before,
+        } => add_change(tag, *made, *spent, coin, name.as_slice(), before),
+        UndoOp::Update {
+            made,
+            spent,
+            coin,
+            name,
+            before,
+        } => add_change(tag, *made, *spent, coin, name.as_slice(), before),
+    }
+}
