@@ -1,4 +1,4 @@
-//! Trials of the files: the disk in memory, the journal, the store; each stop, each failing call and each changed byte in turn.
+//! Trials of the files: the disk in memory, the journal, the slots, the store; each stop, each failing call and each changed byte in turn.
 #![tactic(auto)]
 
 #[cfg(test)]
@@ -7,5 +7,7 @@ mod comparing;
 mod disk;
 #[cfg(test)]
 mod journal;
+#[cfg(test)]
+mod slots;
 #[cfg(test)]
 mod store;

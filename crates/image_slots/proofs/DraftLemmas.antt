@@ -1,16 +1,23 @@
 -- What the calls of a draft leave.
-use Rattle.std.proofs.Common.{◌≡◌, ℕ, ◌+◌, List, [], ◌∷◌, ◌++◌, length, take, drop, sym, ◌∙◌, ap, subst, arith, append_assoc, length-append}
+use Rattle.std.proofs.Common.{◌≡◌, ℕ, ◌+◌, Bool, List, [], ◌∷◌, ◌++◌, length, take, drop, Ok, Err, refl, sym, ◌∙◌, ap, subst, arith, append_assoc, length-append}
+use Rattle.std.specs.Prelude.{◌≢◌, Result, IsErrAnd}
 use Rattle.std.specs.Int.{w64, to_le_bytes}
 use Rattle.std.proofs.lemmas.List.{append-nil, take_all, drop_all}
 use Rattle.disk_model.specs.FileState.{FileState, put}
-use Rattle.disk_model.specs.Moments.{Moments, EachMoment}
+use Rattle.disk_model.specs.Moments.{Moments, EachMoment, start}
 use Rattle.disk_model.specs.Changes.{Changes, LeavesOthers}
+use Rattle.disk_model.specs.DiskSeen.{DiskSeen}
 use Rattle.disk_model.proofs.MomentLemmas.{weaken, join, last_moment}
 use Rattle.gate_journal.specs.Gate.{ClosedAfter}
 use Rattle.gate_journal.specs.Records.{IsArea, image_front}
 use Rattle.gate_journal.proofs.RecordLemmas.{none_fit}
 use Rattle.gate_journal.proofs.AppendLemmas.{closed_front}
+use Rattle.image_slots.specs.Slotted.{Slotted}
 use Rattle.image_slots.specs.Drafted.{Drafted, DraftHolds}
+use Rattle.image_slots.specs.Answers.{RefusalAnswer}
+use Rattle.image_slots.specs.Calls.{Begins}
+use Rattle.image_slots.specs.declared.faults.DraftFault.{DraftFault}
+use Rattle.image_slots.specs.declared.faults.DraftFault.TheVariants.{DiskFault}
 
 -- ---- what a call leaves of the other files
 
@@ -51,3 +58,14 @@ area_is pieces new is = record {
   closed = subst (λ (l : List ℕ). ClosedAfter l new) (sym (append-nil (image_front pieces))) (subst (ClosedAfter (image_front pieces)) (sym is) (closed_front (image_front pieces) [] 0 (omega arith)));
   fit = none_fit;
 }
+
+-- where a limit is passed, nothing is done
+pub refused : (tells : Bool) (slots : Slotted) (image : ℕ) (disk : DiskSeen) (fault : DraftFault) (result : Result Drafted DraftFault) → RefusalAnswer slots.limits slots.count image fault
+    → fault ≢ DiskFault → IsErrAnd result (λ e. e ≡ fault) → Begins tells slots image disk disk result
+refused tells slots image disk fault (Ok draft) why no_disk told = absurd told
+refused tells slots image disk fault (Err e) why no_disk told = subst (λ (f : DraftFault). Begins tells slots image disk disk (Err f)) (sym told) (record {
+  answer = why;
+  holds = λ tells. tt;
+  others = λ tells. start (λ other differ. refl);
+  ends = record { later = record { count = omega arith; at_limit = λ h. h }; worked = tt; failed = λ is. absurd (no_disk cc) };
+})

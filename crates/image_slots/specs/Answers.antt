@@ -6,6 +6,7 @@ use Rattle.image_slots.specs.Selections.{drafted_by, next_selection}
 use Rattle.image_slots.specs.Slotted.{Slotted}
 use Rattle.image_slots.specs.Damage.{IsDamaged}
 use Rattle.image_slots.specs.Drafted.{Drafted}
+use Rattle.image_slots.specs.declared.limits.SlotLimits.{SlotLimits}
 use Rattle.image_slots.specs.declared.faults.SlotFault.{SlotFault}
 use Rattle.image_slots.specs.declared.faults.SlotFault.TheVariants.{DiskFault, Damaged, NoMemory}
 use Rattle.image_slots.specs.declared.faults.DraftFault.{DraftFault}
@@ -25,14 +26,18 @@ SelectionAnswer file gate limit count (Err (Damaged place)) = (place ≡ gate) �
 SelectionAnswer file gate limit count (Err DiskFault) = ⊤
 SelectionAnswer file gate limit count (Err NoMemory) = ⊤
 
--- there is room for a selection more, and for an image of this length
-pub record HasRoom (slots : Slotted) (image : ℕ) : Type 0 where
-  pub one_more : slots.count < slots.limits.selections
-  pub short : image ≤ slots.limits.image
+-- there is room for a selection more behind so many, and for an image of this length
+pub record HasRoom (limits : SlotLimits) (count image : ℕ) : Type 0 where
+  pub one_more : count < limits.selections
+  pub short : image ≤ limits.image
 
--- the draft of an image of this length in the area that is not selected; the limit of selections comes before that of images
+-- Why an image of this length is not drafted behind so many selections: their limit comes before that of images.
+abbrev pub RefusalAnswer : SlotLimits → ℕ → ℕ → DraftFault → Type 0
+RefusalAnswer limits count image draft_fault.CheckpointLimit = count ≡ limits.selections
+RefusalAnswer limits count image draft_fault.ImageLimit = (count < limits.selections) × (limits.image < image)
+RefusalAnswer limits count image draft_fault.DiskFault = HasRoom limits count image
+
+-- the draft of an image of this length in the area that is not selected
 abbrev pub BeginAnswer : Slotted → ℕ → Result Drafted DraftFault → Type 0
-BeginAnswer slots image (Ok draft) = HasRoom slots image × (draft ≡ record { file = drafted_by slots.count; image = image; written = 0 })
-BeginAnswer slots image (Err draft_fault.CheckpointLimit) = slots.count ≡ slots.limits.selections
-BeginAnswer slots image (Err draft_fault.ImageLimit) = (slots.count < slots.limits.selections) × (slots.limits.image < image)
-BeginAnswer slots image (Err draft_fault.DiskFault) = HasRoom slots image
+BeginAnswer slots image (Ok draft) = HasRoom slots.limits slots.count image × (draft ≡ record { file = drafted_by slots.count; image = image; written = 0 })
+BeginAnswer slots image (Err fault) = RefusalAnswer slots.limits slots.count image fault

@@ -49,7 +49,7 @@ pub record OpensSlots (tells : Bool) (at : ℕ) (limits : SlotLimits) (old new :
 -- A draft was begun: its area is empty but for the length of the image. The selected area is among the files that stay.
 pub record Begins (tells : Bool) (slots : Slotted) (image : ℕ) (old new : DiskSeen) (result : Result Drafted DraftFault) : Type 0 where
   pub answer : BeginAnswer slots image result
-  pub holds : IsTrue tells → IfOk result (λ draft. DraftHolds draft [] (bytes_in new (drafted_by slots.count)))
+  pub holds : IsTrue tells → IfOk result (λ draft. DraftHolds draft [] (bytes_in new draft.file))
   pub others : IsTrue tells → EachMoment (LeavesOthers (drafted_by slots.count) old.moments.now) old.moments new.moments
   pub ends : EndsWith DiskFault old new result
 
@@ -57,7 +57,7 @@ pub record Begins (tells : Bool) (slots : Slotted) (image : ℕ) (old new : Disk
 pub record AddsPiece {T : Type 0} (tells : Bool) (old new : Drafted) (piece : List ℕ) (before after : DiskSeen) (result : Result T DraftFault) : Type 0 where
   pub ok : OnOk result (new ≡ record old { written = old.written + length piece })
   pub err : OnErr result (new ≡ old)
-  pub holds : IsTrue tells → (pieces : List ℕ) → DraftHolds old pieces (bytes_in before old.file) → OnOk result (DraftHolds new (pieces ++ piece) (bytes_in after old.file))
+  pub holds : IsTrue tells → (pieces : List ℕ) → DraftHolds old pieces (bytes_in before old.file) → OnOk result (DraftHolds new (pieces ++ piece) (bytes_in after new.file))
   pub others : IsTrue tells → EachMoment (LeavesOthers old.file before.moments.now) before.moments after.moments
   pub alone : IfErr result (λ fault. fault ≡ DiskFault)
   pub ends : Ends before after result
@@ -72,19 +72,19 @@ pub record Finishes (tells : Bool) (draft : Drafted) (old new : DiskSeen) (resul
   pub alone : IfErr result (λ fault. fault ≡ DiskFault)
   pub ends : Ends old new result
 
--- A selection was added to those on the disk. A crash meanwhile leaves them as before, or with this one; after Ok each crash leaves this
--- one too.
-pub record AddsSelection {T E : Type 0} (tells : Bool) (slots : Slotted) (before after : DiskSeen) (result : Result T E) : Type 0 where
-  pub on_disk : IsTrue tells → (front : List ℕ) → AreOn front slots (file_in before selections_file) → OnOk result (AreOn front (with_one_more slots) (file_in after selections_file))
-  pub any_moment : IsTrue tells → (front : List ℕ) → AreOn front slots (file_in before selections_file)
-      → EachMoment (KeepsOrSelects front slots.count before.moments.now) before.moments after.moments
-  pub durable : IsTrue tells → (front : List ℕ) → AreOn front slots (file_in before selections_file)
-      → OnOk result ((image : List ℕ) → IsFileImage (file_in after selections_file) image → HasSelections front (slots.count + 1) image)
+-- A selection was added to those on the disk, so that the new slots are on it. A crash meanwhile leaves the selections as before, or with
+-- this one; after Ok each crash leaves this one too.
+pub record AddsSelection {T E : Type 0} (tells : Bool) (old new : Slotted) (before after : DiskSeen) (result : Result T E) : Type 0 where
+  pub on_disk : IsTrue tells → (front : List ℕ) → AreOn front old (file_in before selections_file) → OnOk result (AreOn front new (file_in after selections_file))
+  pub any_moment : IsTrue tells → (front : List ℕ) → AreOn front old (file_in before selections_file)
+      → EachMoment (KeepsOrSelects front old.count before.moments.now) before.moments after.moments
+  pub durable : IsTrue tells → (front : List ℕ) → AreOn front old (file_in before selections_file)
+      → OnOk result ((image : List ℕ) → IsFileImage (file_in after selections_file) image → HasSelections front (old.count + 1) image)
   pub ends : Ends before after result
 
 -- The area that was drafted was selected.
 pub record Selects (tells : Bool) (old new : Slotted) (before after : DiskSeen) (result : Result ℕ DraftFault) : Type 0 where
   pub ok : IfOk result (λ number. (number ≡ old.count + 1) × (new ≡ with_one_more old))
   pub err : OnErr result (new ≡ old)
-  pub adds : AddsSelection tells old before after result
+  pub adds : AddsSelection tells old new before after result
   pub alone : IfErr result (λ fault. fault ≡ DiskFault)

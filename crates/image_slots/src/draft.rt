@@ -59,7 +59,7 @@ pub fn begin_draft<D: Disk>(disk: &mut D, file: u8, image: u64) -> Result<Draft,
     requires file { file < 3 }
     requires short { image ≤ farthest }
     ensures ok { IfOk result (λ draft. draft ≡ record { file = file; image = image; written = 0 }) }
-    ensures holds { IsTrue D.tells → IfOk result (λ draft. DraftHolds draft [] (bytes_in (D.seen disk.new) file)) }
+    ensures holds { IsTrue D.tells → IfOk result (λ draft. DraftHolds draft [] (bytes_in (D.seen disk.new) draft.file)) }
     ensures others { IsTrue D.tells → EachMoment (LeavesOthers file (D.seen disk.old).moments.now) (D.seen disk.old).moments (D.seen disk.new).moments }
     ensures ends { Ends (D.seen disk.old) (D.seen disk.new) result }
 {

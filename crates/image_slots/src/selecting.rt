@@ -34,7 +34,7 @@ pub fn append_selection<D: Disk>(
     requires one_more { count < limits.selections }
     requires drafted { area ≡ drafted_by count }
     requires on_disk { IsTrue D.tells → (front : List ℕ) × AreOn front (record { at = at; count = count; limits = limits }) (file_in (D.seen disk.old) selections_file) }
-    ensures { AddsSelection D.tells (record { at = at; count = count; limits = limits }) (D.seen disk.old) (D.seen disk.new) result }
+    ensures { AddsSelection D.tells (record { at = at; count = count; limits = limits }) (record { at = at; count = count + 1; limits = limits }) (D.seen disk.old) (D.seen disk.new) result }
 {
     let length = at + SELECTION_SIZE * u64::from(count) + 1;
     let limit = selections_limit(at, limits.selections);

@@ -97,12 +97,7 @@ impl Slots {
         ensures at_limit { IsErrOf result DraftFault.CheckpointLimit → disk.new ≡ disk.old }
         ensures too_long { IsErrOf result DraftFault.ImageLimit → disk.new ≡ disk.old }
     {
-        if self.count >= self.limits.selections {
-            return Err(DraftFault::CheckpointLimit);
-        }
-        if image > self.limits.image {
-            return Err(DraftFault::ImageLimit);
-        }
+        self.limits.check(self.count, image)?;
         let draft = begin_draft(disk, drafted_area(self.count), image)?;
         Ok(draft)
     }

@@ -33,7 +33,7 @@ returns g c =
       err = search rules;
       holds = λ tells pieces holds.
           let wrote = subst (λ (d : Drafted). bytes_in new d.file ≡ put (bytes_in old d.file) (8 + d.written) piece) c.self.view_is (c.in_ok-write_at.ensures.written tells) in
-          subst (λ (d : Drafted). DraftHolds (record d { written = d.written + length piece }) (pieces ++ piece) (bytes_in new draft.file)) (sym c.self.view_is)
+          subst (λ (d : Drafted). DraftHolds (record d { written = d.written + length piece }) (pieces ++ piece) (bytes_in new d.file)) (sym c.self.view_is)
           (holds_more draft pieces (bytes_in old draft.file) holds piece (bytes_in new draft.file) wrote);
       others = λ tells.
           leaves draft.file _ old.moments new.moments (subst (λ (d : Drafted). EachMoment (Changes d.file (AfterWrite (8 + d.written) (length piece)) old.moments.now) old.moments new.moments) c.self.view_is (c.write_at.ensures.time tells));

@@ -1,20 +1,10 @@
-use Rattle.std.proofs.Common.{rules, ◌≡◌, ◌<◌, refl, subst, arith}
-use Rattle.disk_model.specs.Moments.{start}
+use Rattle.std.proofs.Common.{subst}
 use Rattle.image_slots.specs.Slotted.{Slotted}
+use Rattle.image_slots.specs.Answers.{RefusalAnswer}
+use Rattle.image_slots.proofs.DraftLemmas.{refused}
 use Rattle.image_slots.proofs.slots.Slots.begin.Goals as goal
 
-pub returns-then-self-clause-begins : goal.returns-then-self-clause-begins
-returns-then-self-clause-begins g c = record {
-  answer = subst (λ (s : Slotted). s.count ≡ s.limits.selections) c.self.view_is (omega (arith, c.self.invariant.1));
-  holds = search rules;
-  others = λ tells. start (λ other differ. refl);
-  ends = search rules;
-}
-
-pub returns-then-image-self-clause-begins : goal.returns-then-image-self-clause-begins
-returns-then-image-self-clause-begins g c = record {
-  answer = subst (λ (s : Slotted). (s.count < s.limits.selections) × (s.limits.image < c.args.image)) c.self.view_is (omega arith, omega arith);
-  holds = search rules;
-  others = λ tells. start (λ other differ. refl);
-  ends = search rules;
-}
+pub returns-in_err-check-clause-begins : goal.returns-in_err-check-clause-begins
+returns-in_err-check-clause-begins g c =
+    refused g.D.Disk.tells c.args.self.now c.args.image (g.D.Disk.seen c.args.disk.now) c.in_err-check.field-0.0 c.from_residual.result
+    (subst (λ (s : Slotted). RefusalAnswer s.limits s.count c.args.image c.in_err-check.field-0.0) c.self.view_is c.in_err-check.ensures.answer) c.in_err-check.ensures.no_disk c.from_residual.ensures.1
