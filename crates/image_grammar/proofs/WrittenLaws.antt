@@ -1,13 +1,12 @@
 -- The image of a sound state has a text, where that is no longer than 2^37 bytes.
-use Rattle.std.proofs.Common.{◌≡◌, ◌≢◌, ℕ, suc, ◌+◌, ◌*◌, ◌^◌, ◌<◌, ◌≤◌, List, [], ◌∷◌, ◌++◌, length, reverse, refl, sym, ap, subst, ◌∙◌, arith, length-append}
-use Rattle.std.specs.Prelude.{Option, Some, None}
+use Rattle.std.proofs.Common.{◌≡◌, ◌≢◌, ℕ, ◌*◌, ◌^◌, ◌<◌, ◌≤◌, List, [], ◌∷◌, ◌++◌, length, reverse, refl, sym, ap, subst, ◌∙◌, arith, length-append}
+use Rattle.std.specs.Prelude.{Some, None}
 use Rattle.std.specs.Int.{w16, w32, to_le_bytes}
 use Rattle.std.specs.List.{flat_map, AllByRecursion}
 use Rattle.std.proofs.lemmas.List.{reverse-append}
 use Rattle.nmc_base.specs.declared.chain_ends.Base.{Base}
 use Rattle.nmc_base.specs.declared.chain_ends.Profile.{Profile}
 use Rattle.nmc_base.specs.declared.hashes.OutPoint.{OutPoint}
-use Rattle.nmc_base.specs.declared.limits.TheConstants.{LONGEST_NAME}
 use Rattle.nmc_base.specs.Heights.{highest}
 use Rattle.nmc_base.proofs.ListLemmas.{all-append}
 use Rattle.chain_names.specs.declared.coin.Coin.{Coin}

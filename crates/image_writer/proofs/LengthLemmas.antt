@@ -1,16 +1,18 @@
 -- How long texts are.
-use Rattle.std.proofs.Common.{◌≡◌, ℕ, ◌+◌, List, ◌∷◌, ◌++◌, length, arith, length-append}
+use Rattle.std.proofs.Common.{◌≡◌, ℕ, ◌+◌, List, ◌++◌, length, arith, length-append}
 use Rattle.std.specs.Int.{w16, w32, to_le_bytes}
+use Rattle.std.specs.List.{flat_map}
 use Rattle.nmc_base.specs.declared.hashes.OutPoint.{OutPoint}
 use Rattle.nmc_base.specs.declared.hashes.Hash20.{Hash20}
-use Rattle.chain_names.specs.declared.coin.Coin.{Coin}
 use Rattle.chain_names.specs.declared.coin.Coin.TheVariants.{New, Named}
-use Rattle.chain_names.specs.declared.coin.HeldCoin.{HeldCoin}
 use Rattle.chain_names.specs.declared.coin.Item.{Item}
 use Rattle.chain_names.specs.Measured.{IsMeasuredCoin, IsMeasuredItem}
+use Rattle.chain_names.specs.Undo.{UndoRecord}
 use Rattle.chain_names.specs.Writable.{IsWritablePoint, Change}
 use Rattle.undo_records.specs.declared.version.Version.TheVariants.{Two}
-use Rattle.undo_records.specs.Text.{point_text, name_text, coin_text, item_text, before_text, change_text, held_text}
+use Rattle.undo_records.specs.Text.{point_text, name_text, coin_text, item_text, before_text, change_text, op_text, held_text, undo_text}
+use Rattle.image_grammar.specs.Image.{History}
+use Rattle.image_grammar.specs.Text.{counted_text, history_text}
 
 pub point_length : (p : OutPoint) → IsWritablePoint p → length (point_text p) ≡ 36
 unfolding point_text
@@ -64,3 +66,23 @@ change_length c fits =
       length-append (coin_text c.coin) last,
       length-append (name_text c.name) (before_text Two c.before),
     )
+
+pub undo_length : (u : UndoRecord) → length u.block.0 ≡ 32 → length (undo_text Two u) ≡ 40 + (length (flat_map (op_text Two) u.ops) + length (flat_map held_text u.expired))
+unfolding undo_text
+undo_length u fits =
+    let ops : List ℕ = flat_map (op_text Two) u.ops in
+    let gone : List ℕ = flat_map held_text u.expired in
+    let last : List ℕ = to_le_bytes w32 (length u.expired) ++ gone in
+    omega (
+      arith,
+      fits,
+      length-append u.block.0 (to_le_bytes w32 (length u.ops) ++ (ops ++ last)),
+      length-append (to_le_bytes w32 (length u.ops)) (ops ++ last),
+      length-append ops last,
+      length-append (to_le_bytes w32 (length u.expired)) gone,
+    )
+
+pub history_length : (h : History) → length (history_text Two h) ≡ length (name_text h.name) + (4 + length (flat_map (item_text Two) h.items))
+history_length h =
+    let items : List ℕ = flat_map (item_text Two) h.items in
+    omega (arith, length-append (name_text h.name) (counted_text (item_text Two) h.items), length-append (to_le_bytes w32 (length h.items)) items)

@@ -3,3 +3,4 @@ pub mod KeyLemmas
 pub mod OrderLemmas
 pub mod WholeLemmas
 pub mod LengthLemmas
+pub mod CountLemmas

@@ -1,5 +1,5 @@
 -- The coins and names of a table, collected place by place and put into order.
-use Rattle.std.proofs.Common.{◌≡◌, ◌≢◌, ℕ, suc, ◌+◌, ◌≤◌, Bool, true, false, cond, List, [], ◌∷◌, ◌++◌, length, map, take, slice_get, refl, sym, ap, subst, ◌∙◌, arith, true≢false}
+use Rattle.std.proofs.Common.{◌≡◌, ◌≢◌, ℕ, suc, ◌+◌, Bool, true, false, cond, List, [], ◌∷◌, ◌++◌, map, take, slice_get, refl, sym, ap, subst, ◌∙◌, arith, true≢false}
 use Prim.Native.Nat.{zero}
 use Rattle.std.specs.Prelude.{Option, Some, None, ◌||◌}
 use Rattle.std.specs.Cmp.{IsEquivalence}
@@ -29,7 +29,7 @@ use Rattle.chain_names.specs.declared.coin.HeldCoin.{HeldCoin}
 use Rattle.chain_names.specs.declared.coin.Item.{Item}
 use Rattle.chain_names.specs.Coins.{entry_of}
 use Rattle.chain_names.specs.Points.{same_point}
-use Rattle.chain_names.specs.Tables.{CoinSlots, NameSlots, filled_by, coins_in, items_of, names_in, AreCoinsFilled, AreNamesFilled}
+use Rattle.chain_names.specs.Tables.{CoinSlots, NameSlots, filled_by, coins_in, items_of, names_in, AreNamesFilled}
 use Rattle.chain_names.proofs.OrderLemmas.{outpoint_cmp-total, same_by_cmp}
 use Rattle.chain_names.proofs.Changed.{bytes_eq-true, bytes_eq-self}
 use Rattle.chain_names.proofs.Points.{same_point-comm, same_point-true}
@@ -43,13 +43,13 @@ use Rattle.image_writer.proofs.KeyLemmas.{strictly, distinct_apart, listed_in_or
 
 -- ---- place by place
 
-take-past : {X : Type 0} (xs : List X) (i : ℕ) → slice_get xs i ≡ None → take i xs ≡ xs
+pub take-past : {X : Type 0} (xs : List X) (i : ℕ) → slice_get xs i ≡ None → take i xs ≡ xs
 take-past [] zero e = refl
 take-past [] (suc i) e = refl
 take-past (x ∷ xs) zero e = absurd (none-some _ (sym e))
 take-past (x ∷ xs) (suc i) e = ap (λ l. x ∷ l) (take-past xs i e)
 
-take-more : {X : Type 0} (xs : List X) (i : ℕ) (x : X) → slice_get xs i ≡ Some x → take (suc i) xs ≡ take i xs ++ x ∷ []
+pub take-more : {X : Type 0} (xs : List X) (i : ℕ) (x : X) → slice_get xs i ≡ Some x → take (suc i) xs ≡ take i xs ++ x ∷ []
 take-more [] i x e = absurd (none-some _ e)
 take-more (first ∷ xs) zero x e = let same : first ≡ x = cc in ap (λ y. y ∷ []) same
 take-more (first ∷ xs) (suc i) x e = ap (λ l. first ∷ l) (take-more xs i x e)
@@ -58,7 +58,7 @@ held_by-append : (at : OutPoint) (coin : Option Coin) (xs ys : List HeldCoin) �
 held_by-append at None xs ys = refl
 held_by-append at (Some coin) xs ys = refl
 
-held_in-append : (xs ys : CoinSlots) → held_in (xs ++ ys) ≡ held_in xs ++ held_in ys
+pub held_in-append : (xs ys : CoinSlots) → held_in (xs ++ ys) ≡ held_in xs ++ held_in ys
 held_in-append [] ys = refl
 held_in-append (slot ∷ xs) ys = ap (held_by slot.0 slot.1) (held_in-append xs ys) ∙ held_by-append slot.0 slot.1 (held_in xs) (held_in ys)
 
@@ -137,7 +137,7 @@ coins_ordered slots collected sorted distinct are moved rising =
     let apart : IsDistinct same_point (map point_of (held_in slots)) = held_distinct slots distinct in
     let apart' : IsDistinct same_point (map point_of helds) = IsDistinct-IsPermutation same_point same_point-comm _ _ (IsPermutation-map point_of (held_in slots) helds permuted) apart in
     let up : IsStrictlySortedBy outpoint_cmp (map (λ (e : Entry). e.at.now) sorted) =
-        strictly outpoint_cmp outpoint_cmp-total same_point same_by_cmp (λ (e : Entry). e.at.now) sorted rising (subst (IsDistinct same_point) (sym (points_behind sorted)) apart') in
+    strictly outpoint_cmp outpoint_cmp-total same_point same_by_cmp (λ (e : Entry). e.at.now) sorted rising (subst (IsDistinct same_point) (sym (points_behind sorted)) apart') in
     record {
       maps =
           sym (coins_lists helds)

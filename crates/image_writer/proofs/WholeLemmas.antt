@@ -1,6 +1,6 @@
 -- The whole of what is written is the image of the parts.
-use Rattle.std.proofs.Common.{◌≡◌, ◌≢◌, ℕ, ◌≤◌, ◌^◌, List, [], ◌∷◌, ◌++◌, length, map, drop, reverse, refl, sym, ap, subst, ◌∙◌, append_assoc}
-use Rattle.std.specs.Prelude.{Option, Some, None}
+use Rattle.std.proofs.Common.{◌≡◌, ℕ, ◌≤◌, ◌^◌, List, [], ◌∷◌, ◌++◌, length, map, reverse, refl, sym, ap, subst, ◌∙◌, append_assoc}
+use Rattle.std.specs.Prelude.{Some}
 use Rattle.std.specs.Int.{w32, to_le_bytes}
 use Rattle.std.specs.List.{flat_map, AllByRecursion}
 use Rattle.std.proofs.lemmas.List.{length-map, reverse-reverse}
@@ -12,16 +12,15 @@ use Rattle.nmc_base.proofs.ListLemmas.{all-weaker}
 use Rattle.chain_names.specs.declared.coin.Coin.{Coin}
 use Rattle.chain_names.specs.declared.coin.Coin.TheVariants.{New, Named}
 use Rattle.chain_names.specs.declared.coin.HeldCoin.{HeldCoin}
-use Rattle.chain_names.specs.declared.coin.Item.{Item}
 use Rattle.chain_names.specs.declared.undo.Undo.{Undo}
-use Rattle.chain_names.specs.Coins.{Maps, entry_of}
+use Rattle.chain_names.specs.Coins.{Maps}
 use Rattle.chain_names.specs.Limits.{IsWithinLimits}
 use Rattle.chain_names.specs.Seen.{seen_undo}
 use Rattle.chain_names.specs.Sound.{IsSound}
 use Rattle.chain_names.specs.State.{IsState, FitsItem}
-use Rattle.chain_names.specs.Tables.{NameSlots, coins_in, names_in}
+use Rattle.chain_names.specs.Tables.{NameSlots, names_in}
 use Rattle.chain_names.specs.Undo.{UndoRecord}
-use Rattle.chain_names.specs.Writable.{IsWritableName, HasShortName}
+use Rattle.chain_names.specs.Writable.{HasShortName}
 use Rattle.chain_names.proofs.SoundLemmas.{sound_state}
 use Rattle.undo_records.specs.declared.version.Version.TheVariants.{Two}
 use Rattle.undo_records.specs.Measured.{IsMeasured}
@@ -29,7 +28,7 @@ use Rattle.undo_records.specs.Text.{held_text, undo_text}
 use Rattle.name_tables.specs.Parts.{newest_first, tables_of}
 use Rattle.name_tables.specs.Tables.{maps_by}
 use Rattle.name_tables.specs.declared.parts.Parts.{Parts}
-use Rattle.image_grammar.specs.Image.{Image, History, HasItems, HasText, IsImageOf}
+use Rattle.image_grammar.specs.Image.{HasItems, IsImageOf}
 use Rattle.image_grammar.specs.Text.{counted_text, head_text, history_text, image_text, IsStateText}
 use Rattle.image_grammar.specs.Widths.{HaveWidths}
 use Rattle.image_grammar.proofs.KeyedLaws.{StandIn, each_listed}
@@ -40,7 +39,6 @@ use Rattle.image_writer.specs.declared.listed.Entry.{Entry}
 use Rattle.image_writer.specs.declared.listed.Listed.{Listed}
 use Rattle.image_writer.specs.Left.{undos_left, IsWithin}
 use Rattle.image_writer.specs.Listed.{seen_entry, history_by, AreShort, IsShortEntry, IsShortItem, IsShortName}
-use Rattle.image_writer.specs.Ordered.{ListsCoins, ListsNames}
 use Rattle.image_writer.specs.Whole.{image_by, IsWide, IsReadAgain, ListsParts}
 
 -- ---- the text
@@ -68,7 +66,7 @@ seen_all : {X Y : Type 0} (P : Y → Type 0) (f : X → Y) (xs : List X) → All
 seen_all P f [] all = tt
 seen_all P f (x ∷ xs) all = (all.0, seen_all P f xs all.1)
 
-oldest_first : (undos : List Undo) → reverse (newest_first undos) ≡ map seen_undo undos
+pub oldest_first : (undos : List Undo) → reverse (newest_first undos) ≡ map seen_undo undos
 oldest_first undos = reverse-reverse (map seen_undo undos)
 
 pub all_measured : (undos : List Undo) → AllByRecursion IsWide undos → AllByRecursion IsMeasured (newest_first undos)

@@ -33,7 +33,7 @@ fn add_item(total: u64, item: &Item) -> u64
 }
 
 #[tactic(auto, using(crate::proofs::LengthLemmas::new_length, crate::proofs::LengthLemmas::named_length))]
-fn add_held(total: u64, at: OutPoint, coin: &Coin) -> u64
+pub(crate) fn add_held(total: u64, at: OutPoint, coin: &Coin) -> u64
     ensures { let held : HeldCoin = record { at = at; coin = coin.now } in result ≡ capped (total + length (held_text held)) }
 {
     read_coin(at, coin);
@@ -94,4 +94,69 @@ fn add_op(total: u64, op: &UndoOp) -> u64
             before,
         } => add_change(tag, *made, *spent, coin, name.as_slice(), before),
     }
+}
+
+fn add_ops(total: u64, ops: &[UndoOp]) -> u64
+    ensures { result ≡ capped (total + length (flat_map (op_text Two) ops.now)) }
+{
+    let mut sum = total;
+    let mut rest = ops;
+    while let [op, more @ ..] = rest {
+        sum = add_op(sum, op);
+        rest = more;
+    }
+    sum
+}
+
+fn add_expired(total: u64, expired: &[HeldCoin]) -> u64
+    ensures { result ≡ capped (total + length (flat_map held_text expired.now)) }
+{
+    let mut sum = total;
+    let mut rest = expired;
+    while let [held, more @ ..] = rest {
+        sum = add_held(sum, held.at, &held.coin);
+        rest = more;
+    }
+    sum
+}
+
+#[tactic(auto, using(crate::proofs::LengthLemmas::undo_length))]
+fn add_undo(total: u64, undo: &Undo) -> u64
+    ensures { result ≡ capped (total + length (undo_text Two (seen_undo undo.now))) }
+{
+    read_hash(undo.block);
+    let ops = add_ops(total.saturating_add(36), undo.ops.as_slice());
+    add_expired(ops.saturating_add(4), undo.expired.as_slice())
+}
+
+/// The length of records.
+pub(crate) fn add_undos(total: u64, undos: &[Undo]) -> u64
+    ensures { result ≡ capped (total + length (flat_map (undo_text Two) (map seen_undo undos.now))) }
+{
+    let mut sum = total;
+    let mut rest = undos;
+    while let [undo, more @ ..] = rest {
+        sum = add_undo(sum, undo);
+        rest = more;
+    }
+    sum
+}
+
+fn add_items(total: u64, items: &[Item]) -> u64
+    ensures { result ≡ capped (total + length (flat_map (item_text Two) items.now)) }
+{
+    let mut sum = total;
+    let mut rest = items;
+    while let [item, more @ ..] = rest {
+        sum = add_item(sum, item);
+        rest = more;
+    }
+    sum
+}
+
+#[tactic(auto, using(crate::proofs::LengthLemmas::history_length))]
+pub(crate) fn add_history(total: u64, name: &[u8], items: &[Item]) -> u64
+    ensures { let history : History = record { name = name.now; items = items.now } in result ≡ capped (total + length (history_text Two history)) }
+{
+    add_items(add_name(total, name).saturating_add(4), items)
 }

@@ -1,6 +1,7 @@
 //! The text of an image of an index, given out in pieces, and its length.
 #![tactic(auto)]
 
+mod length;
 mod lengths;
 mod listed;
 mod order;
@@ -10,4 +11,5 @@ mod text;
 mod values;
 mod widths;
 
+pub use length::image_len;
 pub use text::{ImageText, image_text};

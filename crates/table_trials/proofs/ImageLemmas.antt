@@ -38,18 +38,18 @@ short_more old new name item fits pushed short other = subst (λ (items : List I
         (all_more (FitsItem name) (names_in old name) item (short name) fits)
     by false e = short other
 
-spent_few : (ops : List UndoOp) → length (spent_points ops) ≤ length ops
+pub spent_few : (ops : List UndoOp) → length (spent_points ops) ≤ length ops
 spent_few [] = omega arith
 spent_few (undo_new made ∷ ops) = let rest = spent_few ops in omega (arith, rest)
 spent_few (undo_first made spent coin name before ∷ ops) = let rest = spent_few ops in omega (arith, rest)
 spent_few (undo_update made spent coin name before ∷ ops) = let rest = spent_few ops in omega (arith, rest)
 
-expired_few : (helds : List HeldCoin) → length (points_of helds) ≤ length helds
+pub expired_few : (helds : List HeldCoin) → length (points_of helds) ≤ length helds
 expired_few [] = omega arith
 expired_few (held ∷ helds) = let rest = expired_few helds in omega (arith, rest)
 
 -- the outpoints of the places are all that there are
-placed : (slots : CoinSlots) (point : OutPoint) (coin : Coin) → coins_in slots point ≡ Some coin → list_any (same_point point) (keys_of slots) ≡ true
+pub placed : (slots : CoinSlots) (point : OutPoint) (coin : Coin) → coins_in slots point ≡ Some coin → list_any (same_point point) (keys_of slots) ≡ true
 placed slots point coin held = sym (is_some-lookup (same_point point) slots) ∙ found (lookup (same_point point) slots) held
   where
     found : (place : Option (Option Coin)) → filled_by place ≡ Some coin → is_some place ≡ true

@@ -17,3 +17,5 @@ mod queue;
 mod undo;
 #[cfg(test)]
 mod verdicts;
+#[cfg(test)]
+mod writing;
