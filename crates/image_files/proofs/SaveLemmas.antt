@@ -1,8 +1,8 @@
 -- What a save leaves at each moment.
 use Rattle.std.specs.Prelude.{Result, Ok, Err, OnOk, OnErr}
-use Rattle.std.proofs.Common.{◌≡◌, ◌≢◌, ◌⊎◌, inl, inr, ℕ, ◌+◌, ◌<◌, List, [], refl, sym, ◌∙◌, subst, arith}
+use Rattle.std.proofs.Common.{◌≡◌, ◌≢◌, inl, inr, ℕ, ◌<◌, List, [], sym, ◌∙◌, subst, arith}
 use Rattle.disk_model.specs.FileState.{FileState, IsFileImage}
-use Rattle.disk_model.specs.Moments.{Files, Moments, EachMoment, IsImage}
+use Rattle.disk_model.specs.Moments.{Files, Moments, EachMoment}
 use Rattle.disk_model.specs.Changes.{LeavesOthers}
 use Rattle.disk_model.proofs.ImageLemmas.{IsSettled-image}
 use Rattle.disk_model.proofs.MomentLemmas.{weaken, join, last_moment}

@@ -28,11 +28,11 @@ pub data SavesAt (front : List ℕ) (count : ℕ) (image : List ℕ) (old files 
   drafting : LeavesOthers (drafted_by count) old files → SavesAt front count image old files
   selecting : IsBeingSelected front count image old files → SavesAt front count image old files
 
--- An image was drafted and selected. The area that was selected before stays as it was at each moment.
+-- An image was drafted and selected, so that the new slots are on the disk. The area that was selected before stays as it was at each moment.
 pub record WritesImage (tells : Bool) (old new : Slotted) (image : List ℕ) (before after : DiskSeen) (result : Result ℕ Failed) : Type 0 where
   pub ok : IfOk result (λ number. (number ≡ old.count + 1) × (new ≡ with_one_more old))
   pub err : OnErr result (new ≡ old)
-  pub on_disk : IsTrue tells → (front : List ℕ) → AreOn front old (file_in before selections_file) → OnOk result (AreOn front (with_one_more old) (file_in after selections_file))
+  pub on_disk : IsTrue tells → (front : List ℕ) → AreOn front old (file_in before selections_file) → OnOk result (AreOn front new (file_in after selections_file))
   pub area : IsTrue tells → OnOk result (HasImage image (file_in after (drafted_by old.count)))
   pub any_moment : IsTrue tells → (front : List ℕ) → AreOn front old (file_in before selections_file)
       → EachMoment (SavesAt front old.count image before.moments.now) before.moments after.moments

@@ -9,4 +9,4 @@ use Rattle.image_slots.specs.Calls.{AddsSelection}
 pub record Selects (tells : Bool) (old new : Slotted) (before after : DiskSeen) (result : Result ℕ Failed) : Type 0 where
   pub ok : IfOk result (λ number. (number ≡ old.count + 1) × (new ≡ with_one_more old))
   pub err : OnErr result (new ≡ old)
-  pub adds : AddsSelection tells old before after result
+  pub adds : AddsSelection tells old new before after result

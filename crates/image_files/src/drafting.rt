@@ -18,7 +18,7 @@ fn begin<D: Disk>(disk: &mut D, slots: &mut Slots, size: u64) -> Result<Draft, F
     requires short { size ≤ slots.old.limits.image }
     ensures same { slots.new ≡ slots.old }
     ensures ok { IfOk result (λ draft. draft ≡ record { file = drafted_by slots.old.count; image = size; written = 0 }) }
-    ensures holds { IsTrue D.tells → IfOk result (λ draft. DraftHolds draft [] (bytes_in (D.seen disk.new) (drafted_by slots.old.count))) }
+    ensures holds { IsTrue D.tells → IfOk result (λ draft. DraftHolds draft [] (bytes_in (D.seen disk.new) draft.file)) }
     ensures others { IsTrue D.tells → EachMoment (LeavesOthers (drafted_by slots.old.count) (D.seen disk.old).moments.now) (D.seen disk.old).moments (D.seen disk.new).moments }
     ensures ends { Ends (D.seen disk.old) (D.seen disk.new) result }
 {

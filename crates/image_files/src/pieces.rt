@@ -19,7 +19,7 @@ fn add_piece<D: Disk>(disk: &mut D, draft: &mut Draft, bytes: &[u8]) -> Result<(
     requires holds { IsTrue D.tells → (pieces : List ℕ) × DraftHolds draft.old pieces (bytes_in (D.seen disk.old) draft.old.file) }
     ensures ok { OnOk result (draft.new ≡ record draft.old { written = draft.old.written + length bytes.now }) }
     ensures holds { IsTrue D.tells → (pieces : List ℕ) → DraftHolds draft.old pieces (bytes_in (D.seen disk.old) draft.old.file)
-        → OnOk result (DraftHolds draft.new (pieces ++ bytes.now) (bytes_in (D.seen disk.new) draft.old.file)) }
+        → OnOk result (DraftHolds draft.new (pieces ++ bytes.now) (bytes_in (D.seen disk.new) draft.new.file)) }
     ensures others { IsTrue D.tells → EachMoment (LeavesOthers draft.old.file (D.seen disk.old).moments.now) (D.seen disk.old).moments (D.seen disk.new).moments }
     ensures ends { Ends (D.seen disk.old) (D.seen disk.new) result }
 {
@@ -43,7 +43,7 @@ fn write_piece<'a, D: Disk>(
     requires holds { IsTrue D.tells → (image : List ℕ) × IsDrafted image draft.old text.old (bytes_in (D.seen disk.old) draft.old.file) }
     ensures moves { IfOk result (λ more. MovesOn draft.old text.old draft.new text.new more) }
     ensures holds { IsTrue D.tells → (image : List ℕ) → IsDrafted image draft.old text.old (bytes_in (D.seen disk.old) draft.old.file)
-        → OnOk result (IsDrafted image draft.new text.new (bytes_in (D.seen disk.new) draft.old.file)) }
+        → OnOk result (IsDrafted image draft.new text.new (bytes_in (D.seen disk.new) draft.new.file)) }
     ensures others { IsTrue D.tells → EachMoment (LeavesOthers draft.old.file (D.seen disk.old).moments.now) (D.seen disk.old).moments (D.seen disk.new).moments }
     ensures ends { Ends (D.seen disk.old) (D.seen disk.new) result }
 {
@@ -63,7 +63,7 @@ pub fn write_pieces<'a, D: Disk>(
     requires holds { IsTrue D.tells → (image : List ℕ) × IsDrafted image draft text (bytes_in (D.seen disk.old) draft.file) }
     ensures ok { IfOk result (λ drafted. drafted ≡ record draft { written = draft.image }) }
     ensures holds { IsTrue D.tells → (image : List ℕ) → IsDrafted image draft text.entry (bytes_in (D.seen disk.old) draft.file)
-        → IfOk result (λ drafted. DraftHolds drafted image (bytes_in (D.seen disk.new) draft.file)) }
+        → IfOk result (λ drafted. DraftHolds drafted image (bytes_in (D.seen disk.new) drafted.file)) }
     ensures others { IsTrue D.tells → EachMoment (LeavesOthers draft.file (D.seen disk.old).moments.now) (D.seen disk.old).moments (D.seen disk.new).moments }
     ensures ends { Ends (D.seen disk.old) (D.seen disk.new) result }
 {

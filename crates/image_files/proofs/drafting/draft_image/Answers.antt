@@ -1,10 +1,10 @@
-use Rattle.std.proofs.Common.{◌≡◌, List, ℕ, [], sym, ◌∙◌, ap, subst}
-use Rattle.std.specs.Prelude.{IsTrue, OnOk}
+use Rattle.std.proofs.Common.{ℕ, ◌∙◌, ap, subst}
+use Rattle.std.specs.Prelude.{OnOk}
 use Rattle.disk_model.specs.Moments.{EachMoment}
 use Rattle.disk_model.specs.Changes.{LeavesOthers}
 use Rattle.disk_model.specs.DiskSeen.{bytes_in, file_in}
 use Rattle.image_slots.specs.Selections.{drafted_by}
-use Rattle.image_slots.specs.Drafted.{Drafted, DraftHolds}
+use Rattle.image_slots.specs.Drafted.{Drafted}
 use Rattle.image_files.specs.Saving.{HasImage}
 use Rattle.image_files.proofs.PieceLemmas.{none_written, others_then}
 use Rattle.image_files.proofs.drafting.draft_image.Goals as goal
@@ -13,7 +13,7 @@ pub write_pieces-requires-clause-holds : goal.write_pieces-requires-clause-holds
 write_pieces-requires-clause-holds g c = λ tells.
     let draft = c.in_ok-draft.draft in
     let old = g.D.Disk.seen c.begin.new.disk in
-    let begun = subst (λ (file : ℕ). DraftHolds draft [] (bytes_in old file)) (sym (ap (λ (d : Drafted). d.file) c.in_ok-draft.ensures.ok)) (c.in_ok-draft.ensures.holds tells) in
+    let begun = c.in_ok-draft.ensures.holds tells in
     (c.args.text, none_written c.args.text draft (bytes_in old draft.file) begun)
 
 pub finish-requires-clause-holds : goal.finish-requires-clause-holds
@@ -22,9 +22,9 @@ finish-requires-clause-holds g c = λ tells.
     let drafted = c.in_ok-draft-2.draft in
     let old = g.D.Disk.seen c.begin.new.disk in
     let mid = g.D.Disk.seen c.write_pieces.new.disk in
-    let begun = subst (λ (file : ℕ). DraftHolds draft [] (bytes_in old file)) (sym (ap (λ (d : Drafted). d.file) c.in_ok-draft.ensures.ok)) (c.in_ok-draft.ensures.holds tells) in
+    let begun = c.in_ok-draft.ensures.holds tells in
     let written = c.in_ok-draft-2.ensures.holds tells c.args.text (none_written c.args.text draft (bytes_in old draft.file) begun) in
-    (c.args.text, subst (λ (file : ℕ). DraftHolds drafted c.args.text (bytes_in mid file)) (sym (ap (λ (d : Drafted). d.file) c.in_ok-draft-2.ensures.ok)) written)
+    (c.args.text, written)
 
 pub returns-clause-holds : goal.returns-clause-holds
 returns-clause-holds g c = λ tells.
@@ -35,10 +35,9 @@ returns-clause-holds g c = λ tells.
     let new = g.D.Disk.seen c.finish.new.disk in
     let file_is = ap (λ (d : Drafted). d.file) c.in_ok-draft.ensures.ok in
     let drafted_is = ap (λ (d : Drafted). d.file) c.in_ok-draft-2.ensures.ok in
-    let begun = subst (λ (file : ℕ). DraftHolds draft [] (bytes_in old file)) (sym file_is) (c.in_ok-draft.ensures.holds tells) in
+    let begun = c.in_ok-draft.ensures.holds tells in
     let written = c.in_ok-draft-2.ensures.holds tells c.args.text (none_written c.args.text draft (bytes_in old draft.file) begun) in
-    let whole = subst (λ (file : ℕ). DraftHolds drafted c.args.text (bytes_in mid file)) (sym drafted_is) written in
-    subst (λ (file : ℕ). OnOk c.finish.result (HasImage c.args.text (file_in new file))) (drafted_is ∙ file_is) (c.finish.ensures.holds tells c.args.text whole)
+    subst (λ (file : ℕ). OnOk c.finish.result (HasImage c.args.text (file_in new file))) (drafted_is ∙ file_is) (c.finish.ensures.holds tells c.args.text written)
 
 pub returns-in_err-draft-2-clause-others : goal.returns-in_err-draft-2-clause-others
 returns-in_err-draft-2-clause-others g c = λ tells.

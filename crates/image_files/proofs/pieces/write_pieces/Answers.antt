@@ -1,8 +1,8 @@
-use Rattle.std.proofs.Common.{rules, ℕ, refl, sym, ◌∙◌, subst, arith}
+use Rattle.std.proofs.Common.{rules, ℕ, refl, ◌∙◌, subst, arith}
 use Rattle.disk_model.specs.Moments.{EachMoment, start}
 use Rattle.disk_model.specs.Changes.{LeavesOthers}
 use Rattle.disk_model.specs.DiskSeen.{bytes_in}
-use Rattle.image_files.specs.Pieces.{IsDrafted, IsShorter}
+use Rattle.image_files.specs.Pieces.{IsShorter}
 use Rattle.image_files.proofs.PieceLemmas.{all_written, others_then}
 use Rattle.image_files.proofs.pieces.write_pieces.Goals as goal
 
@@ -17,9 +17,7 @@ pieces-init g c = record {
 }
 
 pub write_piece-requires-clause-holds : goal.write_piece-requires-clause-holds
-write_piece-requires-clause-holds g c = λ tells.
-    let held = c.requires.holds tells in
-    (held.0, subst (λ (file : ℕ). IsDrafted held.0 c.pieces.draft c.pieces.text (bytes_in (g.D.Disk.seen c.pieces.disk) file)) (sym c.pieces.invariant.file) (c.pieces.invariant.holds tells held.0 held.1))
+write_piece-requires-clause-holds g c = λ tells. let held = c.requires.holds tells in (held.0, c.pieces.invariant.holds tells held.0 held.1)
 
 pub returns-in_err-write_piece-clause-others : goal.returns-in_err-write_piece-clause-others
 returns-in_err-write_piece-clause-others g c = λ tells.
@@ -30,13 +28,10 @@ returns-in_err-write_piece-clause-others g c = λ tells.
 
 pub returns-then-not-branch-clause-holds : goal.returns-then-not-branch-clause-holds
 returns-then-not-branch-clause-holds g c = λ tells image is.
-    let now = g.D.Disk.seen c.pieces.disk in
-    let new = g.D.Disk.seen c.write_piece.new.disk in
     let draft = c.write_piece.new.draft in
     let text = c.write_piece.new.text in
-    let so_far = subst (λ (file : ℕ). IsDrafted image c.pieces.draft c.pieces.text (bytes_in now file)) (sym c.pieces.invariant.file) (c.pieces.invariant.holds tells image is) in
-    let step = subst (λ (file : ℕ). IsDrafted image draft text (bytes_in new file)) c.pieces.invariant.file (c.in_ok-write_piece.ensures.holds tells image so_far) in
-    all_written image draft text (bytes_in new c.args.draft.file) step (subst (IsShorter c.pieces.text text) c.if-not-branch.true c.in_ok-write_piece.ensures.moves.shorter)
+    let step = c.in_ok-write_piece.ensures.holds tells image (c.pieces.invariant.holds tells image is) in
+    all_written image draft text (bytes_in (g.D.Disk.seen c.write_piece.new.disk) draft.file) step (subst (IsShorter c.pieces.text text) c.if-not-branch.true c.in_ok-write_piece.ensures.moves.shorter)
 
 pub returns-then-not-branch-clause-others : goal.returns-then-not-branch-clause-others
 returns-then-not-branch-clause-others g c = λ tells.
@@ -54,9 +49,7 @@ pieces-preserved g c =
       file = moves.file ∙ c.pieces.invariant.file;
       image = moves.image ∙ c.pieces.invariant.image;
       room = omega (arith, moves.written, moves.image, c.pieces.invariant.room);
-      holds = λ tells image is.
-          let so_far = subst (λ (file : ℕ). IsDrafted image c.pieces.draft c.pieces.text (bytes_in now file)) (sym c.pieces.invariant.file) (c.pieces.invariant.holds tells image is) in
-          subst (λ (file : ℕ). IsDrafted image c.write_piece.new.draft c.write_piece.new.text (bytes_in new file)) c.pieces.invariant.file (c.in_ok-write_piece.ensures.holds tells image so_far);
+      holds = λ tells image is. c.in_ok-write_piece.ensures.holds tells image (c.pieces.invariant.holds tells image is);
       others = λ tells.
           others_then c.args.draft.file (g.D.Disk.seen c.args.disk.now).moments now.moments new.moments (c.pieces.invariant.others tells)
           (subst (λ (file : ℕ). EachMoment (LeavesOthers file now.moments.now) now.moments new.moments) c.pieces.invariant.file (c.write_piece.ensures.others tells));

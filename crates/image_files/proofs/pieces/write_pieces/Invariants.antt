@@ -15,7 +15,7 @@ invariant-pieces g l =
       file : l.draft.file ≡ l.fn.draft.file;
       image : l.draft.image ≡ l.fn.draft.image;
       room : l.draft.written + length l.text ≡ l.draft.image;
-      holds : IsTrue g.D.Disk.tells → (image : List ℕ) → IsDrafted image l.fn.draft l.fn.text (bytes_in old l.fn.draft.file) → IsDrafted image l.draft l.text (bytes_in now l.fn.draft.file);
+      holds : IsTrue g.D.Disk.tells → (image : List ℕ) → IsDrafted image l.fn.draft l.fn.text (bytes_in old l.fn.draft.file) → IsDrafted image l.draft l.text (bytes_in now l.draft.file);
       others : IsTrue g.D.Disk.tells → EachMoment (LeavesOthers l.fn.draft.file old.moments.now) old.moments now.moments;
       later : NeverFell old.faults now.faults;
     }

@@ -1,6 +1,5 @@
 use Rattle.std.proofs.Common.{rules, List, ℕ, sym, subst}
 use Rattle.std.specs.Prelude.{IsTrue}
-use Rattle.disk_model.specs.DiskSeen.{file_in}
 use Rattle.image_slots.specs.Selections.{selections_file}
 use Rattle.image_slots.specs.Slotted.{Slotted, AreOn}
 use Rattle.image_files.specs.Selecting.{Selects}
