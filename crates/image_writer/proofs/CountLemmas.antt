@@ -1,5 +1,5 @@
 -- The length of an image's text, counted place by place.
-use Rattle.std.proofs.Common.{◌≡◌, ℕ, suc, ◌+◌, ◌-◌, ◌^◌, ◌<◌, ◌≤◌, List, [], ◌∷◌, ◌++◌, length, map, min, take, drop, slice_get, sym, ap, subst, ◌∙◌, arith, length-append, append-nil}
+use Rattle.std.proofs.Common.{◌≡◌, ℕ, suc, ◌+◌, ◌-◌, ◌^◌, ◌<◌, ◌≤◌, List, [], ◌∷◌, ◌++◌, length, map, take, drop, slice_get, sym, ap, subst, ◌∙◌, arith, length-append, append-nil}
 use Rattle.std.specs.Prelude.{Option, Some, None}
 use Rattle.std.specs.Cmp.Lexicographic.{slice_cmp}
 use Rattle.std.specs.Int.{w32, to_le_bytes}
@@ -31,7 +31,7 @@ use Rattle.image_grammar.specs.Text.{counted_text, head_text, history_text, IsSt
 use Rattle.image_grammar.proofs.KeyedLaws.{total-flat_map, same_sum}
 use Rattle.image_grammar.proofs.ListedLaws.{points_apart, names_apart}
 use Rattle.image_grammar.proofs.StateLaws.{coins_keyed, coins_lists, coins_some, names_keyed, names_lists, names_some}
-use Rattle.image_writer.specs.Lengths.{capped}
+use Rattle.image_writer.specs.Lengths.{capped, parts_length}
 use Rattle.image_writer.specs.Ordered.{held_in, history_in, histories_in}
 use Rattle.image_writer.proofs.KeyLemmas.{distinct_apart}
 use Rattle.image_writer.proofs.OrderLemmas.{take-more, take-past, held_in-append, held_distinct, held_maps, histories_maps, names_behind, all_have_items}
@@ -175,8 +175,7 @@ counted_length : {X : Type 0} (text : X → List ℕ) (xs : List X) → length (
 counted_length text xs = omega (arith, length-append (to_le_bytes w32 (length xs)) (flat_map text xs))
 
 pub text_length : (base : Base) (parts : Parts) (text : List ℕ) → AreCounted base parts → IsStateText Two base (newest_first parts.undos.items) (maps_by (tables_of parts)) text
-    → length text
-    ≡ 54 + (length (flat_map (undo_text Two) (map seen_undo parts.undos.items)) + (length (flat_map held_text (held_in parts.coins)) + length (flat_map (history_text Two) (histories_in parts.names))))
+    → length text ≡ 54 + parts_length parts
 text_length base parts text known is =
     let image : Image = is.image in
     let names : List ℕ = counted_text (history_text Two) image.names in
@@ -199,6 +198,6 @@ text_length base parts text known is =
     )
 
 -- three sums, one after the other
-pub capped_sums : (undos coins names first second third whole : ℕ) → first ≡ capped (54 + undos) → second ≡ capped (first + coins) → third ≡ capped (second + names) → whole ≡ 54 + (undos + (coins + names))
-    → third ≡ min whole (2 ^ 64 - 1)
-capped_sums undos coins names first second third whole e e' e'' is = omega (arith, e, e', e'', is)
+pub capped_sums : (total undos coins names first second third : ℕ) → first ≡ capped (total + undos) → second ≡ capped (first + coins) → third ≡ capped (second + names)
+    → third ≡ capped (total + (undos + (coins + names)))
+capped_sums total undos coins names first second third e e' e'' = omega (arith, e, e', e'')

@@ -9,7 +9,7 @@ ghost use Rattle.chain_names.specs.Tables.{AreCoinsFilled};
 ghost use Rattle.undo_records.specs.declared.version.Version.TheVariants.{Two};
 ghost use Rattle.undo_records.specs.Text.{held_text};
 ghost use Rattle.image_grammar.specs.Text.{history_text, IsStateText};
-ghost use Rattle.image_writer.specs.Lengths.{capped};
+ghost use Rattle.image_writer.specs.Lengths.{capped, AddsParts};
 ghost use Rattle.image_writer.specs.Ordered.{held_in, histories_in};
 
 use crate::lengths::{add_held, add_history, add_undos};
@@ -21,19 +21,15 @@ use nmc_base::{Base, Steps};
 use std::marker::Brand;
 use std::sync::ledger::{Blank, Ledger};
 
-/// The length of the coins. Nobody reads the steps that it takes.
-fn add_coins<L: Ledger>(total: u64, coins: &Coins, blank: Blank) -> u64
-    requires filled { AreCoinsFilled coins.now }
-    requires name { blank.name ≡ L.name }
-    requires parts { blank.parts ≡ L.parts }
-    requires some { 0 < blank.parts }
+/// The length of the coins.
+fn add_coins<L: Ledger>(total: u64, coins: &Coins, steps: &mut Steps<L>) -> u64
+    requires { AreCoinsFilled coins.now }
     ensures length { result ≡ capped (total + length (flat_map held_text (held_in coins.now))) }
     ensures distinct { IsDistinct same_point (keys_of coins.now) }
 {
-    let mut steps = Steps::<L>::new(blank);
     let mut sum = total;
     for i in 0..usize::MAX {
-        match coins.item(i, &mut steps) {
+        match coins.item(i, steps) {
             Some((at, coin)) => sum = add_held(sum, *at, coin),
             None => return sum,
         }
@@ -42,24 +38,34 @@ fn add_coins<L: Ledger>(total: u64, coins: &Coins, blank: Blank) -> u64
     u64::MAX
 }
 
-/// The length of the names with their items. Nobody reads the steps that it takes.
-fn add_names<L: Ledger>(total: u64, names: &Table, blank: Blank) -> u64
-    requires name { blank.name ≡ L.name }
-    requires parts { blank.parts ≡ L.parts }
-    requires some { 0 < blank.parts }
+/// The length of the names with their items.
+fn add_names<L: Ledger>(total: u64, names: &Table, steps: &mut Steps<L>) -> u64
     ensures length { result ≡ capped (total + length (flat_map (history_text Two) (histories_in names.now))) }
     ensures distinct { IsDistinct bytes_eq (keys_of names.now) }
 {
-    let mut steps = Steps::<L>::new(blank);
     let mut sum = total;
     for i in 0..usize::MAX {
-        match names.name_at(i, &mut steps) {
-            Some(name) => sum = add_history(sum, name, names.history(name, &mut steps)),
+        match names.name_at(i, steps) {
+            Some(name) => sum = add_history(sum, name, names.history(name, steps)),
             None => return sum,
         }
     }
     // Each name has a byte at least.
     u64::MAX
+}
+
+/// The length of all. Nobody reads the steps that it takes.
+fn add_parts<L: Ledger>(total: u64, parts: &Parts, blank: Blank) -> u64
+    requires filled { AreFilled (tables_of parts.now) }
+    requires name { blank.name ≡ L.name }
+    requires parts { blank.parts ≡ L.parts }
+    requires some { 0 < blank.parts }
+    ensures { AddsParts parts.now total result }
+{
+    let mut steps = Steps::<L>::new(blank);
+    let undos = add_undos(total, parts.undos.as_slice());
+    let coins = add_coins(undos, &parts.coins, &mut steps);
+    add_names(coins, &parts.names, &mut steps)
 }
 
 /// The length of the text of the image of an index, in version 2, or 2^64 - 1 where it is greater. It takes no memory, and goes
@@ -70,7 +76,5 @@ pub fn image_len(base: &Base, parts: &Parts) -> u64
 {
     read_hash(base.hash);
     // The head has 42 bytes, and each of the three counts has 4.
-    let undos = add_undos(54, parts.undos.as_slice());
-    let coins = add_coins::<Brand>(undos, &parts.coins, Blank::new(1));
-    add_names::<Brand>(coins, &parts.names, Blank::new(1))
+    add_parts::<Brand>(54, parts, Blank::new(1))
 }

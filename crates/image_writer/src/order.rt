@@ -1,6 +1,6 @@
 //! The coins and the names of a table, in the order in which an image lists them. Nobody reads the steps that this takes.
 
-ghost use Rattle.std.specs.Prelude.{◌≡◌, ◌<◌, length, map, IfOk};
+ghost use Rattle.std.specs.Prelude.{◌≡◌, ◌<◌, [], length, map, IfOk, OnOk};
 ghost use Rattle.std.specs.List.{IsDistinct};
 ghost use Rattle.std.specs.Map.{keys_of};
 ghost use Rattle.std.specs.Str.{bytes_eq};
@@ -22,16 +22,11 @@ use std::marker::Brand;
 use std::sync::ledger::{Blank, Ledger};
 
 /// How many coins there are.
-fn count_coins<L: Ledger>(coins: &Coins, blank: Blank) -> Result<usize, NoMemory>
-    requires filled { AreCoinsFilled coins.now }
-    requires name { blank.name ≡ L.name }
-    requires parts { blank.parts ≡ L.parts }
-    requires some { 0 < blank.parts }
-    ensures { IfOk result (λ count. count ≡ length coins.now) }
+fn count_coins<L: Ledger>(coins: &Coins, steps: &mut Steps<L>) -> Result<usize, NoMemory>
+    requires { AreCoinsFilled coins.now }
 {
-    let mut steps = Steps::<L>::new(blank);
     for i in 0..usize::MAX {
-        match coins.item(i, &mut steps) {
+        match coins.item(i, steps) {
             Some(_) => {}
             None => return Ok(i),
         }
@@ -40,26 +35,21 @@ fn count_coins<L: Ledger>(coins: &Coins, blank: Blank) -> Result<usize, NoMemory
     Err(NoMemory)
 }
 
-/// The coins, in the order of their places.
+/// Lists the coins, in the order of their places.
 fn collect_coins<'a, L: Ledger>(
-    alloc: Global,
     coins: &'a Coins,
-    blank: Blank,
-) -> Result<Vec<Entry<'a>>, NoMemory>
+    entries: &mut Vec<Entry<'a>>,
+    steps: &mut Steps<L>,
+) -> Result<(), NoMemory>
     requires filled { AreCoinsFilled coins.now }
-    requires name { blank.name ≡ L.name }
-    requires parts { blank.parts ≡ L.parts }
-    requires some { 0 < blank.parts }
-    ensures coins { IfOk result (λ entries. map seen_entry entries.items ≡ held_in coins.now) }
-    ensures distinct { IfOk result (λ entries. IsDistinct same_point (keys_of coins.now)) }
+    requires empty { entries.old.items ≡ [] }
+    ensures coins { OnOk result (map seen_entry entries.new.items ≡ held_in coins.now) }
+    ensures distinct { OnOk result (IsDistinct same_point (keys_of coins.now)) }
 {
-    let count = count_coins::<Brand>(coins, Blank::new(1))?;
-    let mut steps = Steps::<L>::new(blank);
-    let mut entries = Vec::with_capacity(alloc, count)?;
     for i in 0..usize::MAX {
-        match coins.item(i, &mut steps) {
+        match coins.item(i, steps) {
             Some((at, coin)) => entries.push(Entry { at, coin })?,
-            None => return Ok(entries),
+            None => return Ok(()),
         }
     }
     // So many coins aren't in any memory.
@@ -67,25 +57,25 @@ fn collect_coins<'a, L: Ledger>(
 }
 
 /// The coins, in the order of their outpoints. It takes 16 bytes for each.
-fn coins_in_order<'a>(alloc: Global, coins: &'a Coins) -> Result<Vec<Entry<'a>>, NoMemory>
+fn coins_in_order<'a, L: Ledger>(
+    alloc: Global,
+    coins: &'a Coins,
+    steps: &mut Steps<L>,
+) -> Result<Vec<Entry<'a>>, NoMemory>
     requires { AreCoinsFilled coins.now }
     ensures { IfOk result (λ entries. ListsCoins coins.now (map seen_entry entries.items)) }
 {
-    let mut entries = collect_coins::<Brand>(alloc, coins, Blank::new(1))?;
+    let count = count_coins(coins, steps)?;
+    let mut entries = Vec::with_capacity(alloc, count)?;
+    collect_coins(coins, &mut entries, steps)?;
     entries.sort_unstable_by_key(|entry| *entry.at);
     Ok(entries)
 }
 
 /// How many names there are.
-fn count_names<L: Ledger>(names: &Table, blank: Blank) -> Result<usize, NoMemory>
-    requires name { blank.name ≡ L.name }
-    requires parts { blank.parts ≡ L.parts }
-    requires some { 0 < blank.parts }
-    ensures { IfOk result (λ count. count ≡ length names.now) }
-{
-    let mut steps = Steps::<L>::new(blank);
+fn count_names<L: Ledger>(names: &Table, steps: &mut Steps<L>) -> Result<usize, NoMemory> {
     for i in 0..usize::MAX {
-        match names.name_at(i, &mut steps) {
+        match names.name_at(i, steps) {
             Some(_) => {}
             None => return Ok(i),
         }
@@ -94,25 +84,20 @@ fn count_names<L: Ledger>(names: &Table, blank: Blank) -> Result<usize, NoMemory
     Err(NoMemory)
 }
 
-/// The names, in the order of their places.
+/// Lists the names, in the order of their places.
 fn collect_names<'a, L: Ledger>(
-    alloc: Global,
     names: &'a Table,
-    blank: Blank,
-) -> Result<Vec<&'a [u8]>, NoMemory>
-    requires name { blank.name ≡ L.name }
-    requires parts { blank.parts ≡ L.parts }
-    requires some { 0 < blank.parts }
-    ensures names { IfOk result (λ listed. bytes_of listed.items ≡ keys_of names.now) }
-    ensures distinct { IfOk result (λ listed. IsDistinct bytes_eq (keys_of names.now)) }
+    listed: &mut Vec<&'a [u8]>,
+    steps: &mut Steps<L>,
+) -> Result<(), NoMemory>
+    requires { listed.old.items ≡ [] }
+    ensures names { OnOk result (bytes_of listed.new.items ≡ keys_of names.now) }
+    ensures distinct { OnOk result (IsDistinct bytes_eq (keys_of names.now)) }
 {
-    let count = count_names::<Brand>(names, Blank::new(1))?;
-    let mut steps = Steps::<L>::new(blank);
-    let mut listed = Vec::with_capacity(alloc, count)?;
     for i in 0..usize::MAX {
-        match names.name_at(i, &mut steps) {
+        match names.name_at(i, steps) {
             Some(name) => listed.push(name)?,
-            None => return Ok(listed),
+            None => return Ok(()),
         }
     }
     // So many names aren't in any memory.
@@ -120,13 +105,38 @@ fn collect_names<'a, L: Ledger>(
 }
 
 /// The names, in the order of their bytes. It takes 16 bytes for each.
-fn names_in_order<'a>(alloc: Global, names: &'a Table) -> Result<Vec<&'a [u8]>, NoMemory>
+fn names_in_order<'a, L: Ledger>(
+    alloc: Global,
+    names: &'a Table,
+    steps: &mut Steps<L>,
+) -> Result<Vec<&'a [u8]>, NoMemory>
     requires { AreNamesFilled names.now }
     ensures { IfOk result (λ listed. ListsNames names.now (map (history_by names.now) listed.items)) }
 {
-    let mut listed = collect_names::<Brand>(alloc, names, Blank::new(1))?;
+    let count = count_names(names, steps)?;
+    let mut listed = Vec::with_capacity(alloc, count)?;
+    collect_names(names, &mut listed, steps)?;
     listed.sort_unstable();
     Ok(listed)
+}
+
+fn list_counted<'a, L: Ledger>(
+    alloc: Global,
+    parts: &'a Parts,
+    blank: Blank,
+) -> Result<Listed<'a>, NoMemory>
+    requires filled { AreFilled (tables_of parts.now) }
+    requires name { blank.name ≡ L.name }
+    requires parts { blank.parts ≡ L.parts }
+    requires some { 0 < blank.parts }
+    ensures { IfOk result (λ listed. ListsParts parts.now listed) }
+{
+    let mut steps = Steps::<L>::new(blank);
+    Ok(Listed {
+        coins: coins_in_order(alloc, &parts.coins, &mut steps)?,
+        names: names_in_order(alloc, &parts.names, &mut steps)?,
+        table: &parts.names,
+    })
 }
 
 /// The coins and names of these parts, in order.
@@ -134,9 +144,5 @@ pub(crate) fn list_parts<'a>(alloc: Global, parts: &'a Parts) -> Result<Listed<'
     requires { AreFilled (tables_of parts.now) }
     ensures { IfOk result (λ listed. ListsParts parts.now listed) }
 {
-    Ok(Listed {
-        coins: coins_in_order(alloc, &parts.coins)?,
-        names: names_in_order(alloc, &parts.names)?,
-        table: &parts.names,
-    })
+    list_counted::<Brand>(alloc, parts, Blank::new(1))
 }

@@ -1,19 +1,9 @@
-use Rattle.std.proofs.Common.{List, ◌+◌, length, map, ap, ◌∙◌}
-use Rattle.std.specs.List.{flat_map}
-use Rattle.chain_names.specs.Seen.{seen_undo}
-use Rattle.chain_names.specs.declared.undo.Undo.{Undo}
-use Rattle.undo_records.specs.declared.version.Version.TheVariants.{Two}
-use Rattle.undo_records.specs.Text.{held_text, undo_text}
-use Rattle.image_grammar.specs.Text.{history_text}
+use Rattle.std.proofs.Common.{ap, sym, ◌∙◌}
 use Rattle.image_writer.specs.Lengths.{capped}
-use Rattle.image_writer.specs.Ordered.{held_in, histories_in}
-use Rattle.image_writer.proofs.CountLemmas.{text_length, capped_sums}
+use Rattle.image_writer.proofs.CountLemmas.{AreCounted, text_length}
 use Rattle.image_writer.proofs.length.image_len.Goals as goal
 
 pub returns : goal.returns
 returns c text is =
-    let parts = c.args.parts.now in
-    capped_sums (length (flat_map (undo_text Two) (map seen_undo parts.undos.items))) (length (flat_map held_text (held_in parts.coins))) (length (flat_map (history_text Two) (histories_in parts.names)))
-    c.add_undos-undos.result c.add_coins-coins.result c.add_names.result (length text)
-    (c.add_undos-undos.ensures ∙ ap (λ (us : List Undo). capped (54 + length (flat_map (undo_text Two) (map seen_undo us)))) c.as_slice.ensures) c.add_coins-coins.ensures.length c.add_names.ensures.length
-    (text_length c.args.base.now parts text (record { hash = c.read_hash.ensures; filled = c.requires; coins = c.add_coins-coins.ensures.distinct; names = c.add_names.ensures.distinct }) is)
+    let known : AreCounted c.args.base.now c.args.parts.now = record { hash = c.read_hash.ensures; filled = c.requires; coins = c.add_parts.ensures.coins; names = c.add_parts.ensures.names } in
+    c.add_parts.ensures.sum_is ∙ ap capped (sym (text_length c.args.base.now c.args.parts.now text known is))

@@ -5,6 +5,3 @@ use Rattle.image_writer.proofs.order.collect_coins.Given as goal
 
 abbrev pub invariant-loop-i : goal.invariant-loop-i
 invariant-loop-i g l = map seen_entry l.entries.items ≡ held_in (take l.i l.coins)
-
-abbrev pub ghosts-count_coins : goal.ghosts-count_coins
-ghosts-count_coins g a = record { name = a.blank.name; parts = a.blank.parts }

@@ -5,6 +5,3 @@ use Rattle.image_writer.proofs.order.collect_names.Given as goal
 
 abbrev pub invariant-loop-i : goal.invariant-loop-i
 invariant-loop-i g l = bytes_of l.listed.items ≡ take l.i (keys_of l.names)
-
-abbrev pub ghosts-count_names : goal.ghosts-count_names
-ghosts-count_names g a = record { name = a.blank.name; parts = a.blank.parts }
