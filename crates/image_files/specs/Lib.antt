@@ -1,0 +1,4 @@
+pub mod Pieces
+pub mod Saving
+pub mod Selecting
+pub mod Crashes

@@ -1,0 +1,10 @@
+//! An image of an index in an area file of a disk: written and selected.
+#![tactic(auto)]
+
+mod drafting;
+mod law;
+mod pieces;
+mod writing;
+
+pub use law::images_of_a_save;
+pub use writing::write_image;
