@@ -41,7 +41,14 @@ def files_of(folder):
     return [path.read_bytes() if path.is_file() else None for path in paths]
 
 
-def records_of(text, start=8):
+def gates_of(files):
+    """The places of the first gates in the three files: behind the header, and behind the images."""
+    header, *areas = files
+    behind = 47 + header[46] if len(header) > 46 else len(header)
+    return [behind, *(8 + int.from_bytes(text[:8], "little") for text in areas)]
+
+
+def records_of(text, start):
     """The records from a gate on up to the first closed one, and the length of all this; None where there is no closed gate."""
     records, at = [], start
     while at < len(text) and text[at] == OPEN:
@@ -51,8 +58,17 @@ def records_of(text, start=8):
     return (records, at + 1) if at < len(text) else None
 
 
+def saves_of(folder):
+    """How many saves the files tell of."""
+    files = [text or b"" for text in files_of(folder)]
+    selections, _ = records_of(files[0], gates_of(files)[0]) or ([], 0)
+    return len(selections)
+
+
 def commands_of(folder):
-    """The commands that the files keep, as frames; none where the files are damaged."""
-    records, _ = records_of((folder / FILES[1]).read_bytes()) or ([], 0)
+    """The commands that the files keep behind the image of the last save, as frames; none where the files are damaged."""
+    area = 2 if saves_of(folder) % 2 else 1
+    files = [text or b"" for text in files_of(folder)]
+    records, _ = records_of(files[area], gates_of(files)[area]) or ([], 0)
     # The head of a record is the kind of a frame.
     return [item[:1] + (len(item) - 1).to_bytes(4, "little") + item[1:] for item in records]
