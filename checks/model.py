@@ -10,7 +10,7 @@ import typing
 
 from common import BASE_HASH, reply
 
-from blocks import CONNECT, DISCONNECT, FIRST, NAME_VERSION, NEW, UPDATE, block_hash, merkle_root, outpoint
+from blocks import CONNECT, FIRST, NAME_VERSION, NEW, SAVE, UPDATE, block_hash, merkle_root, outpoint
 from digests import double_sha256, hash160
 
 BLOCKS_OF_WAITING = 12
@@ -316,6 +316,10 @@ class Chain:
         self.leaves()
         return self.accepted()
 
+    def answer(self, frame):
+        """The reply to the whole frame of a connect or of a disconnect."""
+        return self.connect(frame[5:]) if frame[:1] == CONNECT else self.disconnect(frame[5:])
+
 
 class Model(Chain):
     """The chain of the blocks that survive, on a base of this height: of each its hash and how long the log was below it, the newest
@@ -365,6 +369,4 @@ class Model(Chain):
 
     def answer(self, frame):
         """The reply to a whole frame that is no query."""
-        if frame[:1] == CONNECT:
-            return self.connect(frame[5:])
-        return self.disconnect(frame[5:]) if frame[:1] == DISCONNECT else self.save()
+        return self.save() if frame[:1] == SAVE else super().answer(frame)
