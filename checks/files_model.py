@@ -106,9 +106,11 @@ class Store:
         store.read_area()
         return store
 
-    @property
-    def area(self):
-        return area_of(self.selections)
+    height = property(lambda self: self.index.height)
+    tip = property(lambda self: self.index.tip)
+    profile = property(lambda self: self.index.profile)
+    # The file that is selected.
+    area = property(lambda self: area_of(self.selections))
 
     def read_area(self):
         """Reads the image of the selected area, and follows the commands behind it."""
