@@ -13,6 +13,7 @@ from model import HIGHEST, MOST_SELECTIONS
 from values_model import Place, host, wire_of
 
 from blocks import CONNECT, DISCONNECT, QUERY, SAVE
+from stores import INIT, what_counts
 
 OPEN, CLOSED = b"\x01", b"\x00"
 MARK = b"NMCIDX1\n"
@@ -189,8 +190,18 @@ class Store:
         return Run(b"".join(told), 0, "")
 
 
+def fronts_of(frames):
+    """The replies to frames over the files of a new store, and what counts of the files at the start and behind each."""
+    store = made(INIT)
+    replies, fronts = [], [what_counts(store.files)]
+    for frame in frames:
+        replies.append(store.answer(frame))
+        fronts.append(what_counts(store.files))
+    return replies, fronts
+
+
 def made(words):
-    """The files that `init` makes of its words, which are right."""
+    """The store that `init` makes of its words, which are right."""
     profile, height, hash, host_text = words[1:]
     return Store(Base(profile, int(height), bytes.fromhex(hash)[::-1]), host_text)
 
