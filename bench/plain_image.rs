@@ -9,13 +9,14 @@ use std::fs::File;
 use std::io::{self, BufReader, Read};
 
 type OutPoint = [u8; 36];
+type Text = Box<[u8]>;
 
 const REGTEST_DEPTH: u32 = 30;
 
 #[allow(dead_code)]
 enum Coin {
     Commitment { height: u32, hash: [u8; 20] },
-    Named { height: u32, name: Vec<u8> },
+    Named { height: u32, name: Text },
 }
 
 #[derive(PartialEq)]
@@ -23,20 +24,20 @@ struct Item {
     height: u32,
     registered: u32,
     at: OutPoint,
-    value: Vec<u8>,
+    value: Text,
 }
 
 struct Change {
     spent: OutPoint,
     coin: Coin,
-    name: Vec<u8>,
+    name: Text,
     before: Option<Item>,
 }
 
 struct Operation {
     made: OutPoint,
     opens: bool,
-    change: Option<Change>,
+    change: Option<Box<Change>>,
 }
 
 #[allow(dead_code)]
@@ -49,7 +50,7 @@ struct Undo {
 struct Index {
     base: u32,
     coins: HashMap<OutPoint, Coin>,
-    names: HashMap<Vec<u8>, Vec<Item>>,
+    names: HashMap<Text, Vec<Item>>,
     queue: HashMap<u32, HashSet<OutPoint>>,
     undos: Vec<Undo>,
 }
@@ -92,8 +93,8 @@ impl<R: Read> Reader<R> {
         Ok(u32::from_le_bytes(self.array()?))
     }
 
-    fn text(&mut self, length: usize) -> Answer<Vec<u8>> {
-        let mut bytes = vec![0; length];
+    fn text(&mut self, length: usize) -> Answer<Text> {
+        let mut bytes = vec![0; length].into_boxed_slice();
         self.from.read_exact(&mut bytes).map_err(|_| "cut")?;
         Ok(bytes)
     }
@@ -108,7 +109,7 @@ impl<R: Read> Reader<R> {
         Ok(values)
     }
 
-    fn name(&mut self) -> Answer<Vec<u8>> {
+    fn name(&mut self) -> Answer<Text> {
         let length = self.byte()?;
         self.text(length.into())
     }
@@ -159,7 +160,7 @@ impl<R: Read> Reader<R> {
             1 => Some(self.item()?),
             _ => return Err("a tag of an item"),
         };
-        Ok(Operation { made, opens: tag == 0x52, change: Some(Change { spent, coin, name, before }) })
+        Ok(Operation { made, opens: tag == 0x52, change: Some(Box::new(Change { spent, coin, name, before })) })
     }
 
     fn undo(&mut self) -> Answer<Undo> {
@@ -179,7 +180,7 @@ impl<R: Read> Reader<R> {
         let undos = self.list(Self::undo)?;
         let mut index = Index { base, coins: HashMap::new(), names: HashMap::new(), queue: HashMap::new(), undos };
         self.coins(|at, coin| index.put(at, coin))?;
-        let mut last: Option<Vec<u8>> = None;
+        let mut last: Option<Text> = None;
         for _ in 0..self.number()? {
             let name = self.name()?;
             if last.as_ref().is_some_and(|before| *before >= name) {
@@ -262,7 +263,8 @@ impl Index {
             return false;
         }
         self.take(&operation.made);
-        let Some(Change { spent, coin, name, before }) = operation.change else { return true };
+        let Some(change) = operation.change else { return true };
+        let Change { spent, coin, name, before } = *change;
         let Some(items) = self.names.get_mut(&name) else { return false };
         let Some(last) = items.pop() else { return false };
         let registered = if operation.opens { Some(height) } else { before.as_ref().map(|item| item.registered) };
