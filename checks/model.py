@@ -2,8 +2,8 @@
 
 It is written from docs/FORMATS.md and docs/RULES.md alone, and shares nothing with the code: a chain is a list of blocks and
 nothing else, its log is searched anew for each question, and a disconnected block is forgotten. It keeps no table and no
-undo record, and takes no block back. A save changes nothing of it but the number of saves. What a save writes, and an index
-that is read from it, is in saves_model.py.
+undo record, and takes no block back. A save changes nothing of it but the number of saves. What a save writes, and the index
+that is read from that, are in images_model.py and files_model.py.
 """
 import struct
 import typing
