@@ -27,7 +27,7 @@ class Choices(typing.NamedTuple):
     base: int = 0
     unknown: int = 0
     again: float = 0.0
-    save_every: int = 1000
+    save_every: int = 0
 
 
 class Follower:
