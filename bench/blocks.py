@@ -6,7 +6,7 @@ from digests import double_sha256
 NEW, FIRST, UPDATE = b"\x51", b"\x52", b"\x53"
 NAME_VERSION = 0x7100
 LEAST_AMOUNT = 1_000_000
-CONNECT, DISCONNECT, QUERY = b"\x01", b"\x02", b"\x03"
+CONNECT, DISCONNECT, QUERY, SAVE = b"\x01", b"\x02", b"\x03", b"\x04"
 # The txid of transactions that no chain has.
 NOWHERE = b"\xee" * 32
 NO_OUTPOINT = bytes(32) + b"\xff" * 4

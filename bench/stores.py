@@ -41,7 +41,14 @@ def files_of(folder):
     return [path.read_bytes() if path.is_file() else None for path in paths]
 
 
-def records_of(text, start=8):
+def gates_of(files):
+    """The places of the first gates in the three files: behind the header, and behind the images."""
+    header, *areas = files
+    behind = 47 + header[46] if len(header) > 46 else len(header)
+    return [behind, *(8 + int.from_bytes(text[:8], "little") for text in areas)]
+
+
+def records_of(text, start):
     """The records from a gate on up to the first closed one, and the length of all this; None where there is no closed gate."""
     records, at = [], start
     while at < len(text) and text[at] == OPEN:
@@ -51,8 +58,28 @@ def records_of(text, start=8):
     return (records, at + 1) if at < len(text) else None
 
 
+def journals_of(files):
+    """The selections of file 0 and the records of the selected area, each with the length up to its first closed gate; and the
+    number of that area. A journal that is damaged has no records."""
+    texts = [bytes(text or b"") for text in files]
+    gates = gates_of(texts)
+    selections = records_of(texts[0], gates[0]) or ([], 0)
+    area = 2 if len(selections[0]) % 2 else 1
+    return selections, records_of(texts[area], gates[area]) or ([], 0), area
+
+
+def what_counts(files):
+    """What counts of the files: file 0 and the selected area, each up to its first closed gate."""
+    (_, length), (_, behind), area = journals_of(files)
+    return bytes(files[0] or b"")[:length], bytes(files[area] or b"")[:behind]
+
+
+def saves_of(folder):
+    """How many saves the files tell of."""
+    return len(journals_of(files_of(folder))[0][0])
+
+
 def commands_of(folder):
-    """The commands that the files keep, as frames; none where the files are damaged."""
-    records, _ = records_of((folder / FILES[1]).read_bytes()) or ([], 0)
+    """The commands that the files keep behind the image of the last save, as frames; none where the files are damaged."""
     # The head of a record is the kind of a frame.
-    return [item[:1] + (len(item) - 1).to_bytes(4, "little") + item[1:] for item in records]
+    return [it[:1] + (len(it) - 1).to_bytes(4, "little") + it[1:] for it in journals_of(files_of(folder))[1][0]]

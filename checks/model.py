@@ -1,19 +1,21 @@
-"""The replies that the rules define, for any frames: a model of `replay`, plain and slow.
+"""The replies that the rules define, for any commands: a model of `replay`, plain and slow.
 
 It is written from docs/FORMATS.md and docs/RULES.md alone, and shares nothing with the code: a chain is a list of blocks and
 nothing else, its log is searched anew for each question, and a disconnected block is forgotten. It keeps no table and no
-undo record, and takes no block back.
+undo record, and takes no block back. A save changes nothing of it but the number of saves. What a save writes, and the index
+that is read from that, are in images_model.py and files_model.py.
 """
 import struct
 import typing
 
 from common import BASE_HASH, reply
 
-from blocks import CONNECT, FIRST, NAME_VERSION, NEW, UPDATE, block_hash, merkle_root, outpoint
+from blocks import CONNECT, FIRST, NAME_VERSION, NEW, SAVE, UPDATE, block_hash, merkle_root, outpoint
 from digests import double_sha256, hash160
 
 BLOCKS_OF_WAITING = 12
 HIGHEST = 2_000_000_000
+MOST_SELECTIONS = 2**32 - 1
 LEAST_OF_FORM = {0xFD: (2, 0xFD), 0xFE: (4, 0x10000), 0xFF: (8, 0x100000000)}
 OPERATIONS = {NEW: 1, FIRST: 3, UPDATE: 2}
 DROPS = (0x75, 0x6D, 0x61)
@@ -164,33 +166,47 @@ def operation_of(script):
     return [script[:1], *pushes]
 
 
-def coin(profile, log, at, height):
-    """The event that made the live coin at an outpoint; None where there is none."""
-    for event in reversed(log):
-        if event.at == at:
-            made = event.operation is not None
-            return event if made and (event.operation[0] == NEW or not profile.expired(event.height, height)) else None
-    return None
+class Coin(typing.NamedTuple):
+    """What stands at an outpoint: a commitment with its hash, or the coin of a name; and the height of its block."""
+
+    is_commitment: bool
+    height: int
+    text: bytes
 
 
-def entry(log, name):
-    """The last event that gave the name a value."""
-    for event in reversed(log):
-        if event.operation and event.operation[0] != NEW and event.operation[1] == name:
-            return event
-    return None
+class Log:
+    """What the events of a chain tell, searched anew for each question."""
+
+    def __init__(self, profile, events=()):
+        self.profile, self.events = profile, list(events)
+
+    def coin(self, at, height):
+        """The live coin at an outpoint; None where there is none."""
+        for event in reversed(self.events):
+            if event.at == at:
+                if event.operation is None or event.operation[0] != NEW and self.profile.expired(event.height, height):
+                    return None
+                return Coin(event.operation[0] == NEW, event.height, event.operation[1])
+        return None
+
+    def entry(self, name):
+        """The height of the last event that gave the name a value; None where there is none."""
+        for event in reversed(self.events):
+            if event.operation and event.operation[0] != NEW and event.operation[1] == name:
+                return event.height
+        return None
+
+    def behind(self, transaction, height):
+        """The log with what the transaction adds to it."""
+        spent = [Event(at, None, height) for at in transaction.inputs]
+        operations = enumerate(operation_of(script) for _, script in transaction.outputs)
+        made = [Event(outpoint(transaction.txid, i), op, height) for i, op in operations if op]
+        return Log(self.profile, self.events + spent + made)
 
 
-def events_of(transaction, height):
-    """What the transaction adds to the log."""
-    spent = [Event(at, None, height) for at in transaction.inputs]
-    operations = enumerate(operation_of(script) for _, script in transaction.outputs)
-    return spent + [Event(outpoint(transaction.txid, i), op, height) for i, op in operations if op]
-
-
-def tests_of(profile, log, transaction, height):
-    """The refusals in their order, each with whether it holds."""
-    coins = [found for found in (coin(profile, log, at, height) for at in transaction.inputs) if found]
+def tests_of(profile, known, transaction, height):
+    """The refusals in their order, each with whether it holds; `known` tells the coins and entries behind what came before."""
+    coins = [found for found in (known.coin(at, height) for at in transaction.inputs) if found]
     names = [(i, amount, op) for i, (amount, op) in enumerate((a, operation_of(s)) for a, s in transaction.outputs) if op]
     versioned = transaction.version == NAME_VERSION
     yield 10, len(coins) >= 2
@@ -210,30 +226,30 @@ def tests_of(profile, log, transaction, height):
         yield 18, not coins
         yield 19, len(name) > 255
         yield 20, len(value) > 1023
-        spent = coins[0].operation
+        spent = coins[0]
         if kind == UPDATE:
-            yield 21, spent[0] == NEW
-            yield 22, spent[1] != name
+            yield 21, spent.is_commitment
+            yield 22, spent.text != name
         else:
-            taken = entry(log, name)
-            yield 23, spent[0] != NEW
-            yield 24, coins[0].height + BLOCKS_OF_WAITING > height
+            taken = known.entry(name)
+            yield 23, not spent.is_commitment
+            yield 24, spent.height + BLOCKS_OF_WAITING > height
             yield 25, len(parts[1]) > 20
-            yield 26, hash160(parts[1] + name) != spent[1]
-            yield 27, taken and not profile.expired(taken.height, height)
-    yield 28, coin(profile, log, outpoint(transaction.txid, index), height)
+            yield 26, hash160(parts[1] + name) != spent.text
+            yield 27, taken is not None and not profile.expired(taken, height)
+    yield 28, known.coin(outpoint(transaction.txid, index), height)
 
 
-def refusal_by_rules(profile, log, transactions, height):
-    """The code of the first rule that a transaction behind the coinbase breaks, with its index; and the longer log."""
+def refusal_by_rules(profile, known, transactions, height):
+    """The code of the first rule that a transaction behind the coinbase breaks, with its index; and what is known behind them all."""
     for index, transaction in enumerate(transactions):
         if index == 0:
             continue
-        for code, holds in tests_of(profile, log, transaction, height):
+        for code, holds in tests_of(profile, known, transaction, height):
             if holds:
-                return (code, index), log
-        log = log + events_of(transaction, height)
-    return None, log
+                return (code, index), None
+        known = known.behind(transaction, height)
+    return None, known
 
 
 def digits(text):
@@ -249,30 +265,12 @@ class Value(typing.NamedTuple):
     value: bytes
 
 
-class Model:
-    """The chain of the blocks that survive, on a base of this height: of each its hash and how long the log was below it, the newest
-    last; and their log."""
+class Chain:
+    """What is asked of a chain by commands, and reported of it, whatever it keeps.
 
-    def __init__(self, base=0, profile="regtest"):
-        self.base, self.profile, self.blocks, self.log = base, PROFILES[profile], [], []
-
-    @property
-    def height(self):
-        return self.base + len(self.blocks)
-
-    @property
-    def tip(self):
-        return self.blocks[-1][0] if self.blocks else BASE_HASH
-
-    def given(self):
-        """Of each name in order: the values that it was given, the oldest first."""
-        given = {}
-        for event in self.log:
-            if event.operation and event.operation[0] != NEW:
-                values = given.setdefault(event.operation[1], [])
-                goes_on = event.operation[0] == UPDATE and values
-                values.append(Value(event.height, values[-1].registered if goes_on else event.height, event.operation[-1]))
-        return dict(sorted(given.items()))
+    It has a profile, a height, a tip, and whether it has a block (`has_blocks`); `known` tells its coins and entries, `joins` and
+    `leaves` change it, and `given` has the values of each name.
+    """
 
     def served(self, name):
         """The value that is served for the name; None where there is none."""
@@ -283,10 +281,10 @@ class Model:
         """The lines of `dump`."""
         lines = [f"tip {self.height} {self.tip[::-1].hex()}"]
         for name, values in self.given().items():
-            height, _, value = values[-1]
-            state = "lapsed" if self.served(name) is None else "served"
+            height, _, value = values[-1][:3]
+            state = "lapsed" if self.profile.expired(height, self.height) else "served"
             lines.append(f"name {digits(name)} {height} {state} {digits(value)}")
-            lines += [f"  at {height} since {registered} {digits(value)}" for height, registered, value in values]
+            lines += [f"  at {height} since {registered} {digits(value)}" for height, registered, value, *_ in values]
         return "".join(line + "\n" for line in lines).encode()
 
     def accepted(self):
@@ -304,22 +302,71 @@ class Model:
         root = merkle_root([transaction.txid for transaction in transactions])
         if block[36:68] != root:
             return reply(3, root)
-        refused, log = refusal_by_rules(self.profile, self.log, transactions, self.height + 1)
+        refused, known = refusal_by_rules(self.profile, self.known(), transactions, self.height + 1)
         if refused:
             return reply(refused[0], struct.pack("<I", refused[1]))
-        self.blocks.append((block_hash(block), len(self.log)))
-        self.log = log
+        self.joins(block_hash(block), known)
         return self.accepted()
 
     def disconnect(self, named):
-        if not self.blocks:
+        if not self.has_blocks:
             return reply(7)
         if named != self.tip:
             return reply(6, self.tip)
-        _, length = self.blocks.pop()
-        self.log = self.log[:length]
+        self.leaves()
         return self.accepted()
 
     def answer(self, frame):
-        """The reply to a whole frame."""
+        """The reply to the whole frame of a connect or of a disconnect."""
         return self.connect(frame[5:]) if frame[:1] == CONNECT else self.disconnect(frame[5:])
+
+
+class Model(Chain):
+    """The chain of the blocks that survive, on a base of this height: of each its hash and how long the log was below it, the newest
+    last; their log; and how many saves there were."""
+
+    def __init__(self, base=0, profile="regtest", hash=BASE_HASH):
+        self.base, self.profile, self.hash, self.blocks, self.log, self.selections = base, PROFILES[profile], hash, [], [], 0
+
+    @property
+    def height(self):
+        return self.base + len(self.blocks)
+
+    @property
+    def tip(self):
+        return self.blocks[-1][0] if self.blocks else self.hash
+
+    @property
+    def has_blocks(self):
+        return bool(self.blocks)
+
+    def known(self):
+        return Log(self.profile, self.log)
+
+    def joins(self, hash, known):
+        self.blocks.append((hash, len(self.log)))
+        self.log = known.events
+
+    def leaves(self):
+        _, length = self.blocks.pop()
+        self.log = self.log[:length]
+
+    def given(self):
+        """Of each name in order: the values that it was given, the oldest first."""
+        given = {}
+        for event in self.log:
+            if event.operation and event.operation[0] != NEW:
+                values = given.setdefault(event.operation[1], [])
+                goes_on = event.operation[0] == UPDATE and values
+                values.append(Value(event.height, values[-1].registered if goes_on else event.height, event.operation[-1]))
+        return dict(sorted(given.items()))
+
+    def save(self):
+        if self.selections == MOST_SELECTIONS:
+            return reply(29)
+        self.selections += 1
+        return reply(0, struct.pack("<Q", self.selections))
+
+    def answer(self, frame):
+        """The reply to a whole frame that is no query."""
+        return self.save() if frame[:1] == SAVE else super().answer(frame)

@@ -138,17 +138,18 @@ def zone_after(model):
 
 
 class Story:
-    """Commands, each with its reply and with the zone behind it; the first zone is that of the base."""
+    """Commands and saves, each with its reply, and with the zone and the tip behind it; the first ones are those of the base."""
 
     def __init__(self):
         self.model, self.frames, self.replies = Model(), [], []
-        self.zones = [zone_after(self.model)]
+        self.zones, self.tips = [zone_after(self.model)], [self.model.tip]
 
     def comes(self, item):
         """A frame, whose reply is the model's."""
         self.frames.append(item)
         self.replies.append(self.model.answer(item))
         self.zones.append(zone_after(self.model))
+        self.tips.append(self.model.tip)
 
     def all_come(self, text):
         for item in pieces(text):

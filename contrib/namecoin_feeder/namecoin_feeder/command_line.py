@@ -113,6 +113,8 @@ def add_ways(group):
     group.add_argument("--base", metavar="HEIGHT", default=0, type=count, help=text)
     text = "take so many blocks off that the node doesn't know, though no fork is known then (%(default)s)"
     group.add_argument("--unknown", default=0, help=text, **blocks)
+    text = "ask the server for a save behind so many blocks, and once when it first stands at the tip; 0: never (%(default)s)"
+    group.add_argument("--save-every", default=0, help=text, **blocks)
     text = "end where nothing went well for so long; 0: try for ever (%(default)s)"
     group.add_argument("--patience", default=0, help=text, **times)
     text = "behind a refused block, or what else would end it, try again so much later; 0: end (%(default)s)"
@@ -155,7 +157,8 @@ def run(given, progress):
     server = Server(given.server, given.timeout)
     pauses = Pauses(min(SHORTEST_PAUSE, given.longest_pause), given.longest_pause, given.patience, progress.say)
     again = 0 if blocks.is_fixed else given.again
-    choices = Choices(given.once or blocks.is_fixed, given.every, given.deepest, given.base, given.unknown, again)
+    once = given.once or blocks.is_fixed
+    choices = Choices(once, given.every, given.deepest, given.base, given.unknown, again, given.save_every)
     follower = Follower(blocks, server, pauses, progress, choices)
     port = Port(given.metrics, follower.measures) if given.metrics else None
     try:

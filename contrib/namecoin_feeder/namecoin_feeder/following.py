@@ -9,6 +9,7 @@ from .measures import Measures
 from .pauses import Calm, Waits
 from .progress import spoken
 from .replies import ACCEPTED, NOT_ON_TIP, reason
+from .saves import Saves
 from .troubles import Moved, NodeTrouble, Status, Stop, Trouble
 
 # So often in a row the best chain may move before a block is taken; then there is a pause.
@@ -17,7 +18,8 @@ MOST_MOVES = 5
 
 class Choices(typing.NamedTuple):
     """How to follow: once or on and on; seconds between two looks; blocks to go back at most; the height of the server's base;
-    how many blocks may be taken off that the node doesn't know; and seconds until the next try behind a stop, 0 being an end."""
+    how many blocks may be taken off that the node doesn't know; seconds until the next try behind a stop, 0 being an end; and
+    how many blocks there are from one save to the next, 0 being none."""
 
     once: bool = False
     every: float = 1.0
@@ -25,6 +27,7 @@ class Choices(typing.NamedTuple):
     base: int = 0
     unknown: int = 0
     again: float = 0.0
+    save_every: int = 0
 
 
 class Follower:
@@ -33,6 +36,7 @@ class Follower:
         self.clock, self.sleep = clock, sleep
         self.waits, self.calm = Waits(progress.say, clock), Calm(pauses.shortest, pauses.longest, clock)
         self.measures = Measures(clock)
+        self.saves = Saves(choices.save_every, progress.say, self.measures, clock)
         # Moves of the best chain since a block was taken; and blocks taken off in this run that the source doesn't know.
         self.moves, self.unknown = 0, 0
         # The height of the server's tip and of the source's, as the source counts.
@@ -105,6 +109,8 @@ class Follower:
         self.went_well()
         self.measures.is_waiting = False
         self.height = self.measures.server_height = best.height
+        self.saves.is_level()
+        self.save()
         self.progress.is_level(best.height)
         if not self.choices.once:
             self.sleep(self.choices.every)
@@ -112,6 +118,14 @@ class Follower:
     def went_well(self):
         self.moves = 0
         self.pauses.passed()
+
+    # Saves
+
+    def save(self):
+        """Has the server save its index, where that is due and each block has its reply."""
+        if self.saves.is_due():
+            self.saves.ask(self.server, self.height)
+            self.progress.at(self.height, max(self.height, self.top))
 
     # Forward
 
@@ -123,6 +137,9 @@ class Follower:
                 for run in runs:
                     tip = self.send(run, tip)
                     self.settle(len(run))
+                    if self.saves.is_due():
+                        self.settle(0)
+                        self.save()
             except (NodeTrouble, Moved, Stop):
                 self.settle(0)
                 raise
@@ -150,6 +167,7 @@ class Follower:
                     self.refused(block, reply)
                 self.height += 1
                 self.measures.is_connected(self.height)
+                self.saves.connected(block)
         finally:
             if self.height > before:
                 self.went_well()
@@ -222,4 +240,5 @@ class Follower:
             aside = f"which isn't on the best chain of {self.source.name}"
             raise Stop(Status.OTHER_CHAIN, f"the server stands on its base, block {shown(hash)}, {aside}")
         self.measures.disconnected += 1
+        self.saves.disconnected()
         self.progress.say(f"block {shown(hash)}{what} is taken off")

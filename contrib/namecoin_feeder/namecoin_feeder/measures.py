@@ -16,13 +16,14 @@ TYPE = "text/plain; version=0.0.4; charset=utf-8"
 
 
 class Measures:
-    """The figures of a run. Heights are those of the node's chain, and none where they aren't known yet."""
+    """The figures of a run. Heights are those of the node's chain. What isn't known yet is None."""
 
     def __init__(self, clock=time.monotonic):
         self.clock, self.begun = clock, clock()
         self.server_height = self.node_height = None
         self.connected = self.disconnected = self.reorganisations = self.refusals = self.troubles = 0
         self.is_waiting, self.last = False, self.begun
+        self.saves, self.save_seconds = 0, None
         # Blocks by the second in which they were connected.
         self.seconds, self.lock = collections.deque(maxlen=SPAN + 1), threading.Lock()
 
@@ -35,6 +36,10 @@ class Measures:
                 self.seconds[-1][1] += 1
             else:
                 self.seconds.append([int(self.last), 1])
+
+    def is_saved(self, seconds):
+        """The server has made a save, which took so long."""
+        self.saves, self.save_seconds = self.saves + 1, f"{seconds:.3f}"
 
     def speed(self):
         """Blocks a second, of the last minute or since the start."""
@@ -55,10 +60,12 @@ class Measures:
         yield "blocks_connected_total", "Blocks that the server took", "counter", self.connected
         yield "blocks_disconnected_total", "Blocks that were taken off", "counter", self.disconnected
         yield "troubles_total", "Troubles of the node, the server and the line", "counter", self.troubles
+        yield "saves_total", "Saves that the server made for the feeder", "counter", self.saves
+        yield "last_save_seconds", "How long the last save took, in which the server answers nothing", "gauge", self.save_seconds
         yield "waiting", "1 while nothing is taken off, since the node may be behind", "gauge", int(self.is_waiting)
 
     def text(self):
-        """The text form of Prometheus, version 0.0.4. A height that isn't known yet has no line."""
+        """The text form of Prometheus, version 0.0.4. What isn't known yet has no line."""
         lines = ["# HELP namecoin_feeder_info The feeder's version", "# TYPE namecoin_feeder_info gauge"]
         lines.append(f'namecoin_feeder_info{{version="{__version__}"}} 1')
         for name, what, kind, value in self.rows():

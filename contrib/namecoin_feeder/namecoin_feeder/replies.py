@@ -2,7 +2,7 @@
 import typing
 
 ACCEPTED, NO_BLOCK, NOT_ON_TIP, OTHER_ROOT, HEIGHT_LIMIT, NO_ROOM, NOT_TIP, AT_BASE = range(8)
-DISK_FAILED, NO_MEMORY = 0xFD, 0xFE
+MOST_SAVES, LONG_IMAGE, DISK_FAILED, NO_MEMORY = 29, 30, 0xFD, 0xFE
 
 # Refusals of a block by what it is, or by what the server has room for.
 BLOCK_REFUSALS = {
@@ -10,6 +10,12 @@ BLOCK_REFUSALS = {
     OTHER_ROOT: ("MerkleMismatch", "the header's Merkle root isn't that of the transactions"),
     HEIGHT_LIMIT: ("HeightLimit", "the tip has the greatest height"),
     NO_ROOM: ("JournalFull", "the server's files have no room for it"),
+}
+
+# Refusals of a save.
+SAVE_REFUSALS = {
+    MOST_SAVES: ("CheckpointLimit", "4,294,967,295 saves were made, and the files have no room for one more"),
+    LONG_IMAGE: ("ImageLimit", "the text of the index has more than 137,438,953,472 bytes"),
 }
 
 # Refusals by a rule on names: of a transaction.
@@ -42,7 +48,7 @@ class Reply(typing.NamedTuple):
 
     @property
     def number(self):
-        """The payload of four bytes: an offset, a transaction's index, or the height before the hash."""
+        """The payload's number of four bytes: an offset, a transaction's index, the height before the hash, or how many saves."""
         return int.from_bytes(self.payload[:4], "little")
 
     @property

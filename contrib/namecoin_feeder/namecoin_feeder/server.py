@@ -5,11 +5,13 @@ import socket
 import struct
 
 from .blocks import NO_HASH, shown
-from .replies import ACCEPTED, AT_BASE, DISK_FAILED, HEIGHT_LIMIT, NO_MEMORY, NOT_ON_TIP, NOT_TIP, OTHER_ROOT, Reply
-from .troubles import ServerTrouble, Status, Stop
+from .replies import ACCEPTED, AT_BASE, DISK_FAILED, HEIGHT_LIMIT, NO_MEMORY, NOT_ON_TIP, NOT_TIP, OTHER_ROOT, SAVE_REFUSALS, Reply
+from .troubles import FeedEnded, ServerTrouble, Status, Stop
 
-CONNECT, DISCONNECT = b"\x01", b"\x02"
+CONNECT, DISCONNECT, SAVE = b"\x01", b"\x02", b"\x04"
 MOST_PAYLOAD = 65_535
+# The reply to a save comes once the index is on the disk: of a server that has gone, the connection's end comes sooner.
+SAVE_SECONDS = 3600.0
 ROOM = 65_536
 
 # A block that no server takes: its previous hash and its Merkle root are 32 zero bytes. It is refused with the hash of the
@@ -107,6 +109,19 @@ class Server:
             raise self.unexpected(reply)
         return reply.code == ACCEPTED
 
+    def save(self):
+        """Asks for a save, all blocks being answered. Its reply: how many saves there were, a refusal of one, or that memory is wanting."""
+        self.write(frame(SAVE, b""))
+        self.socket.settimeout(max(self.seconds, SAVE_SECONDS))
+        reply = self.reply()
+        self.socket.settimeout(self.seconds)
+        if reply.code == DISK_FAILED:
+            self.drop()
+            raise ServerTrouble("the server's disk failed at a save (code FD): is there room for its index once more?")
+        if reply.code == ACCEPTED and len(reply.payload) != 8 or reply.code not in (ACCEPTED, NO_MEMORY, *SAVE_REFUSALS):
+            raise self.unexpected(reply)
+        return reply
+
     def accepts(self, reply):
         if len(reply.payload) != 4 + len(NO_HASH):
             raise self.unexpected(reply)
@@ -126,12 +141,16 @@ class Server:
             raise self.lost(fault) from None
 
     def read(self):
-        """The next reply. The two that tell of the server's own want are troubles."""
+        """The next reply to a block. The two that tell of the server's own want are troubles."""
+        return self.wanted(self.reply())
+
+    def reply(self):
+        """The next reply, whatever it is."""
         head = self.take(5)
         length = int.from_bytes(head[1:], "little")
         if length > MOST_PAYLOAD:
             raise self.unexpected(Reply(head[0], b""))
-        return self.wanted(Reply(head[0], self.take(length)))
+        return Reply(head[0], self.take(length))
 
     def take(self, length):
         try:
@@ -154,7 +173,8 @@ class Server:
     def lost(self, fault):
         """The trouble that the connection is lost."""
         self.drop()
-        return ServerTrouble(f"the server at {self.name} " + (f"is lost: {told(fault)}" if fault else "closed the feed"))
+        kind = ServerTrouble if isinstance(fault, socket.timeout) else FeedEnded
+        return kind(f"the server at {self.name} " + (f"is lost: {told(fault)}" if fault else "closed the feed"))
 
     def unexpected(self, reply):
         self.drop()

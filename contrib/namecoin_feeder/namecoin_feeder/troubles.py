@@ -31,6 +31,10 @@ class ServerTrouble(Trouble):
     status = Status.SERVER
 
 
+class FeedEnded(ServerTrouble):
+    """The server's end of the connection is gone."""
+
+
 class Moved(Exception):
     """The best chain of the node isn't the one that was asked for any more."""
 

@@ -1,6 +1,7 @@
 """A feed on a port of this machine, in the place of `serve`: it hands frames to a replay of the built program, or to a model.
 
-One connection at a time is taken; each frame is answered before the next; a bad frame closes the connection.
+One connection at a time is taken; each frame is answered before the next; a bad frame closes the connection. Which kinds are read
+is said by the stand-in, so it may be one that knows no saves.
 """
 import contextlib
 import socket
@@ -10,25 +11,32 @@ import threading
 
 from . import TOP  # noqa: F401  (puts the model on the path)
 
-from blocks import CONNECT, DISCONNECT, QUERY
+from blocks import CONNECT, DISCONNECT, QUERY, SAVE, block_hash
 from common import free_port, reply
+from images_model import Reader
 from model import Model
-from stores import PROGRAM, commands_of
+from stores import PROGRAM, files_of, gates_of, journals_of
 
 DISK_FAILED, SECONDS = b"\xfd", 30
-KINDS = {CONNECT: (0, 8_388_608), DISCONNECT: (32, 32), QUERY: (0, 65_535)}
+KINDS = {CONNECT: (0, 8_388_608), DISCONNECT: (32, 32), QUERY: (0, 65_535), SAVE: (0, 0)}
+
+
+def surviving(folder):
+    """The hashes of the blocks that survive by the files: those of the image, and what the commands behind it do to them."""
+    files = files_of(folder)
+    _, (commands, _), area = journals_of(files)
+    image = (files[area] or b"")[8 : gates_of([text or b"" for text in files])[area]]
+    chain = [undo.block for undo in Reader(image).index().undos] if image else []
+    for command in commands:
+        chain = [*chain, block_hash(command[1:])] if command[:1] == CONNECT else chain[:-1]
+    return chain
 
 
 class ModelChain(Model):
     """The model over the base with another hash. It is never closed, so it outlives each server."""
 
     def __init__(self, hash):
-        super().__init__()
-        self.hash = hash
-
-    @property
-    def tip(self):
-        return self.blocks[-1][0] if self.blocks else self.hash
+        super().__init__(hash=hash)
 
     def open(self):
         pass
@@ -65,16 +73,7 @@ class Replay:
         return head + self.run.stdout.read(int.from_bytes(head[1:], "little"))
 
     def chain(self):
-        """The hashes of the blocks that survive the commands in the files."""
-        from blocks import block_hash
-
-        chain = []
-        for command in commands_of(self.folder):
-            if command[:1] == CONNECT:
-                chain.append(block_hash(command[5:]))
-            else:
-                chain.pop()
-        return chain
+        return surviving(self.folder)
 
 
 class StandIn:
@@ -83,6 +82,8 @@ class StandIn:
     def __init__(self, chain):
         self.chain, self.port, self.before = chain, free_port(socket.SOCK_STREAM), None
         self.frames, self.codes, self.tip, self.connections = 0, [], chain_tip(chain), 0
+        # The kinds that are read, and the codes of the replies to saves, which aren't among the others.
+        self.kinds, self.saves = dict(KINDS), []
         self.listener = self.line = self.thread = None
         self.start()
 
@@ -131,7 +132,7 @@ class StandIn:
         """Answers frames until the connection ends, or a bad one comes."""
         while len(head := stream.read(5)) == 5:
             length = struct.unpack("<I", head[1:])[0]
-            least, most = KINDS.get(head[:1], (1, 0))
+            least, most = self.kinds.get(head[:1], (1, 0))
             if not least <= length <= most:
                 return
             payload = stream.read(length)
@@ -156,8 +157,8 @@ class StandIn:
         if told is None and self.listener is not None:
             told = self.chain.answer(frame)
         if told:
-            self.codes.append(told[0])
-            if told[0] == 0 and frame[:1] != QUERY:
+            (self.saves if frame[:1] == SAVE else self.codes).append(told[0])
+            if told[0] == 0 and frame[:1] in (CONNECT, DISCONNECT):
                 self.tip = told[9:41]
         return told or None
 
@@ -171,4 +172,4 @@ def is_built():
     return PROGRAM.exists()
 
 
-__all__ = ["ModelChain", "Replay", "StandIn", "is_built", "reply"]
+__all__ = ["KINDS", "ModelChain", "Replay", "StandIn", "is_built", "reply", "surviving"]

@@ -44,7 +44,7 @@ class OfARun(Case):
         run = self.begun("--again", "0.3")
         tip = self.chains.grow(self.chains.first, 40)
         self.reaches(tip)
-        self.tells(server_height=40, node_height=40, blocks_connected_total=40, reorganisations_total=0, waiting=0)
+        self.tells(server_height=40, node_height=40, blocks_connected_total=40, reorganisations_total=0, waiting=0, saves_total=1)
         told = figures(self.port)
         self.assertGreater(told["blocks_per_second"], 0)
         self.assertLess(told["last_block_age_seconds"], 20)
@@ -90,8 +90,12 @@ class OfAPort(unittest.TestCase):
         for line in text.splitlines():
             self.assertRegex(line, f"^{LINE.pattern}$")
         self.assertNotIn("_height", text.replace("# HELP", ""))
+        self.assertNotIn("last_save_seconds", text)
         self.measures.is_connected(7)
-        self.assertIn("\nnamecoin_feeder_server_height 7\n", asked(self.number)[1])
+        self.measures.is_saved(1.25)
+        text = asked(self.number)[1]
+        for line in ("server_height 7", "saves_total 1", "last_save_seconds 1.250"):
+            self.assertIn(f"\nnamecoin_feeder_{line}\n", text)
 
     def test_other_places(self):
         self.assertEqual(asked(self.number, "/")[1].count("troubles_total"), 3)

@@ -1,0 +1,40 @@
+"""Runs of the built program over files that are given, several at once, each compared with what the model of files says."""
+import os
+import typing
+from concurrent.futures import ThreadPoolExecutor
+
+from common import empty_folder, run_in
+from files_model import run_of
+
+from stores import FILES, files_of
+
+AT_ONCE = len(os.sched_getaffinity(0))
+DUMP, REPLAY = ["dump"], ["replay"]
+
+
+class Row(typing.NamedTuple):
+    """What it is, the files, and the words with their input: a report, where nothing else is said."""
+
+    what: str
+    files: list
+    words: list = DUMP
+    given: bytes = b""
+
+
+def opened(row):
+    """What the program says, and the files behind it."""
+    with empty_folder() as folder:
+        for name, text in zip(FILES, row.files):
+            (folder / name).write_bytes(text)
+        return run_in(folder, row.words, row.given), files_of(folder)
+
+
+def compare(tally, rows):
+    """Runs the rows. What the model says of each, with the files behind it."""
+    rows = list(rows)
+    wanted = [run_of(row.words, row.given, row.files) for row in rows]
+    with ThreadPoolExecutor(AT_ONCE) as pool:
+        for row, told, (run, files) in zip(rows, pool.map(opened, rows), wanted):
+            tally.same(row.what, told[0], run)
+            tally.same(f"{row.what}: the files", told[1], files)
+    return wanted
