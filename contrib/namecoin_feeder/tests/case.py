@@ -28,6 +28,9 @@ def question(name):
 
 
 class Case(unittest.TestCase):
+    # Whether a replay of the program is the server: the model is where that isn't built.
+    has_program = staticmethod(is_built)
+
     def setUp(self):
         room = tempfile.TemporaryDirectory(prefix="jaqhumpi-", dir=MEMORY if os.access(MEMORY, os.W_OK) else None)
         self.addCleanup(room.cleanup)
@@ -39,7 +42,7 @@ class Case(unittest.TestCase):
         self.addCleanup(self.server.stop)
 
     def made_chain(self, name):
-        if not is_built():
+        if not self.has_program():
             return ModelChain(self.chains.first)
         folder = self.room / name
         folder.mkdir()
@@ -98,7 +101,7 @@ class Case(unittest.TestCase):
         """The server has the node's best chain, and its index is that of a plain replay of this chain."""
         self.server.stop()
         self.assertEqual(self.server.chain.chain(), self.chains.path(self.node.tip))
-        if is_built():
+        if self.has_program():
             plain = self.made_chain("plain")
             self.assertEqual(run_in(plain.folder, ["replay"], self.chains.frames(self.node.tip)).status, 0)
             self.assertEqual(self.report(self.server.chain.folder), self.report(plain.folder))
