@@ -282,8 +282,8 @@ pub(crate) fn by_object<N: Names>(
     requires sound { IsSound (N.served names.now) room.old }
     ensures asked { IfOk result (λ a. (o : Members) → IsAt (objects_in room.old) at o → seen_asked a ≡ by_value (N.served names.now) zone.now (seen_below name.now) kind (Some o)) }
     ensures sound { OnOk result (IsSound (N.served names.now) room.new) }
-    ensures bound { values_read room.new ≤ 2560 }
-    ensures refused { IfErr result (λ e. e ≡ Values → values_read room.new ≡ 2560) }
+    ensures bound { values_read room.new ≤ 2048 }
+    ensures refused { IfErr result (λ e. e ≡ Values → values_read room.new ≡ 2048) }
 {
     let top = name.top();
     match go_down(alloc, names, name, &top, at, room)? {

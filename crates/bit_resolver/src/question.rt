@@ -35,8 +35,8 @@ fn value<N: Names>(
     requires sound { IsSound (N.served names.now) room.old }
     ensures found { IfOk result (λ o. Finds (objects_in room.new) o (value_of (N.served names.now) x.now)) }
     ensures sound { OnOk result (IsSound (N.served names.now) room.new) }
-    ensures bound { values_read room.new ≤ 2560 }
-    ensures refused { IfErr result (λ e. e ≡ Values → values_read room.new ≡ 2560) }
+    ensures bound { values_read room.new ≤ 2048 }
+    ensures refused { IfErr result (λ e. e ≡ Values → values_read room.new ≡ 2048) }
 {
     if !is_domain_label(x) {
         return Ok(None);
@@ -59,8 +59,8 @@ fn ask<N: Names>(
     requires sound { IsSound (N.served names.now) room.old }
     ensures asked { IfOk result (λ a. seen_asked a ≡ asked_at (N.served names.now) zone.now kind (seen_place place.now)) }
     ensures sound { OnOk result (IsSound (N.served names.now) room.new) }
-    ensures bound { values_read room.new ≤ 2560 }
-    ensures refused { IfErr result (λ e. e ≡ Values → values_read room.new ≡ 2560) }
+    ensures bound { values_read room.new ≤ 2048 }
+    ensures refused { IfErr result (λ e. e ≡ Values → values_read room.new ≡ 2048) }
 {
     match place {
         Place::Outside => Ok(Asked::Done(answered(alloc, Resources::new(alloc)))),
@@ -115,8 +115,8 @@ fn chase<N: Names>(
     requires place { IsPlace (seen_place first) }
     requires sound { IsSound (N.served names.now) room.old }
     ensures answer { IfOk result (λ s. seen_sections s ≡ chase_of (N.served names.now) zone.now kind GREATEST (seen_place first)) }
-    ensures bound { values_read room.new ≤ 2560 }
-    ensures refused { IfErr result (λ e. e ≡ Values → values_read room.new ≡ 2560) }
+    ensures bound { values_read room.new ≤ 2048 }
+    ensures refused { IfErr result (λ e. e ≡ Values → values_read room.new ≡ 2048) }
 {
     let mut before = Resources::new(alloc);
     let mut place = first;
@@ -157,8 +157,8 @@ fn answer_place<N: Names>(
     requires place { IsPlace (seen_place place) }
     requires sound { IsSound (N.served names.now) room.old }
     ensures answer { IfOk result (λ s. seen_sections s ≡ answer_at (N.served names.now) zone.now kind class (seen_place place)) }
-    ensures bound { values_read room.new ≤ 2560 }
-    ensures refused { IfErr result (λ e. e ≡ Values → values_read room.new ≡ 2560) }
+    ensures bound { values_read room.new ≤ 2048 }
+    ensures refused { IfErr result (λ e. e ≡ Values → values_read room.new ≡ 2048) }
 {
     if is_refused(kind, class, &place) {
         return Ok(Sections {
@@ -183,8 +183,8 @@ fn answer_question<N: Names>(
     requires name { IsName asked.now.name.now }
     requires sound { IsSound (N.served names.now) room.old }
     ensures answer { IfOk result (λ s. seen_sections s ≡ answer_to (N.served names.now) zone.now (query_of asked.now)) }
-    ensures bound { values_read room.new ≤ 2560 }
-    ensures refused { IfErr result (λ e. e ≡ Values → values_read room.new ≡ 2560) }
+    ensures bound { values_read room.new ≤ 2048 }
+    ensures refused { IfErr result (λ e. e ≡ Values → values_read room.new ≡ 2048) }
 {
     let place = find_place(alloc, asked.name)?;
     let sections = answer_place(alloc, names, zone, asked.kind, asked.class, place, room)?;
@@ -206,9 +206,9 @@ pub fn resolve<N: Names>(
     ensures answer { IfOk result (λ s. seen_sections s ≡ answer_to (N.served names.now) zone.now (query_of asked.now)) }
     // Of each answer: why each record stands where it does, and that it has at most eight CNAME records.
     ensures lawful { IfOk result (λ s. IsLawful asked.now.kind GREATEST (seen_sections s)) }
-    // At most 2,560 values are read for it, and an answer that would need more is refused for that cause alone.
-    ensures bound { values.new ≤ 2560 }
-    ensures refused { IfErr result (λ e. e ≡ Values → values.new ≡ 2560) }
+    // At most 2,048 values are read for it, and an answer that would need more is refused for that cause alone.
+    ensures bound { values.new ≤ 2048 }
+    ensures refused { IfErr result (λ e. e ≡ Values → values.new ≡ 2048) }
 {
     let mut room = Room::new(alloc);
     let found = answer_question(alloc, names, zone, asked, &mut room);

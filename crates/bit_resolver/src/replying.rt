@@ -36,7 +36,7 @@ fn reply_to_question<N: Names>(
     requires name { IsName asked.now.name.now }
     ensures text { IsAnswered (N.served names.now) zone.now limit (query_of asked.now) (take result buffer.new) }
     ensures within { result ≤ limit }
-    ensures bound { values.new ≤ 2560 }
+    ensures bound { values.new ≤ 2048 }
 {
     match resolve(alloc, names, zone, asked, values) {
         Ok(sections) => put_answer(&sections, asked, limit, buffer),
@@ -45,7 +45,7 @@ fn reply_to_question<N: Names>(
 }
 
 /// Writes the reply to a message at the front of the buffer: at most so many bytes, 512 to 65,535 (RFC 1035, 4.2.1 and 4.2.2).
-/// `values` becomes how many values were read for it: an answer that would need more than 2,560 is SERVFAIL.
+/// `values` becomes how many values were read for it: an answer that would need more than 2,048 is SERVFAIL.
 pub fn answer<N: Names>(
     alloc: Global,
     names: &N,
@@ -61,8 +61,8 @@ pub fn answer<N: Names>(
     // It is the definition's, byte for byte, or SERVFAIL for want of memory.
     ensures reply { MayReply (N.served names.now) zone.now limit message.now (told result buffer.new) }
     ensures within { IsWithin limit result }
-    // At most 2,560 values are read for it.
-    ensures bound { values.new ≤ 2560 }
+    // At most 2,048 values are read for it.
+    ensures bound { values.new ≤ 2048 }
 {
     *values = 0;
     match read_query(message) {

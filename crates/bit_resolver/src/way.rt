@@ -108,8 +108,8 @@ fn child_at<N: Names>(
     requires sound { IsSound (N.served names.now) room.old }
     ensures found { IfOk result (λ k. (ns : List Members) → IsNode room.old of ns → IsNode room.new k (child_of (N.served names.now) ns (get_or name.now.path.items left []))) }
     ensures sound { OnOk result (IsSound (N.served names.now) room.new) }
-    ensures bound { values_read room.new ≤ 2560 }
-    ensures refused { IfErr result (λ e. e ≡ Values → values_read room.new ≡ 2560) }
+    ensures bound { values_read room.new ≤ 2048 }
+    ensures refused { IfErr result (λ e. e ≡ Values → values_read room.new ≡ 2048) }
 {
     let at = room.child(alloc, names, of, name.path[left].as_slice())?;
     Ok(at)
@@ -130,8 +130,8 @@ pub(crate) fn go_down<'a, N: Names>(
     ensures ends { IfOk result (λ w. (o : Members) → IsAt (objects_in room.old) at o → Ends (N.served names.now) room.new (seen_below name.now) o w) }
     ensures sound { OnOk result (IsSound (N.served names.now) room.new) }
     ensures top { IfOk result (λ w. IsTop (seen_below name.now) w) }
-    ensures bound { values_read room.new ≤ 2560 }
-    ensures refused { IfErr result (λ e. e ≡ Values → values_read room.new ≡ 2560) }
+    ensures bound { values_read room.new ≤ 2048 }
+    ensures refused { IfErr result (λ e. e ≡ Values → values_read room.new ≡ 2048) }
 {
     let mut of = room.top(alloc, names, at)?;
     let mut left = name.path.len();

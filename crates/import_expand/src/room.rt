@@ -87,9 +87,9 @@ impl Room {
         requires sound { IsSound (N.served names.now) self.old }
         ensures found { IfOk result (λ r. Finds (objects_in self.new) r (option_map object_of (N.served names.now name.now))) }
         ensures later { OnOk result (Later (N.served names.now) self.old self.new) }
-        // At most 2,560 values are read for a message, and one is refused for that cause alone.
-        ensures bound { values_read self.new ≤ 2560 }
-        ensures refused { IfErr result (λ e. e ≡ Values → values_read self.new ≡ 2560) }
+        // At most 2,048 values are read for a message, and one is refused for that cause alone.
+        ensures bound { values_read self.new ≤ 2048 }
+        ensures refused { IfErr result (λ e. e ≡ Values → values_read self.new ≡ 2048) }
     {
         let found = self.book.named(alloc, names, name)?;
         Ok(found)
@@ -193,8 +193,8 @@ impl Room {
         requires sound { IsSound (N.served names.now) self.old }
         ensures found { IfOk result (λ k. (o : Members) → IsAt (objects_in self.old) of o → IsNode self.new k (sources_of (N.served names.now) 0 o)) }
         ensures later { OnOk result (Later (N.served names.now) self.old self.new) }
-        ensures bound { values_read self.new ≤ 2560 }
-        ensures refused { IfErr result (λ e. e ≡ Values → values_read self.new ≡ 2560) }
+        ensures bound { values_read self.new ≤ 2048 }
+        ensures refused { IfErr result (λ e. e ≡ Values → values_read self.new ≡ 2048) }
     {
         match self.known_top(of) {
             Some(known) => Ok(known),
@@ -296,8 +296,8 @@ impl Room {
         requires sound { IsSound (N.served names.now) self.old }
         ensures found { IfOk result (λ k. (ns : List Members) → IsNode self.old of ns → IsNode self.new k (child_of (N.served names.now) ns label.now)) }
         ensures later { OnOk result (Later (N.served names.now) self.old self.new) }
-        ensures bound { values_read self.new ≤ 2560 }
-        ensures refused { IfErr result (λ e. e ≡ Values → values_read self.new ≡ 2560) }
+        ensures bound { values_read self.new ≤ 2048 }
+        ensures refused { IfErr result (λ e. e ≡ Values → values_read self.new ≡ 2048) }
     {
         match self.known_child(of, label) {
             Some(known) => Ok(known),
@@ -331,8 +331,8 @@ impl Room {
         requires lacks { LacksEntry self.old of label.now }
         ensures found { IfOk result (λ k. (ns : List Members) → IsNode self.old of ns → IsNode self.new k (child_of (N.served names.now) ns label.now)) }
         ensures later { OnOk result (Later (N.served names.now) self.old self.new) }
-        ensures bound { values_read self.new ≤ 2560 }
-        ensures refused { IfErr result (λ e. e ≡ Values → values_read self.new ≡ 2560) }
+        ensures bound { values_read self.new ≤ 2048 }
+        ensures refused { IfErr result (λ e. e ≡ Values → values_read self.new ≡ 2048) }
     {
         let at = self.child_under(alloc, names, of, b"*")?;
         self.keep_child(alloc, of, label, at)?;
@@ -351,8 +351,8 @@ impl Room {
         requires sound { IsSound (N.served names.now) self.old }
         ensures found { IfOk result (λ k. (ns : List Members) → IsNode self.old of ns → IsNode self.new k (child_of (N.served names.now) ns label.now)) }
         ensures later { OnOk result (Later (N.served names.now) self.old self.new) }
-        ensures bound { values_read self.new ≤ 2560 }
-        ensures refused { IfErr result (λ e. e ≡ Values → values_read self.new ≡ 2560) }
+        ensures bound { values_read self.new ≤ 2048 }
+        ensures refused { IfErr result (λ e. e ≡ Values → values_read self.new ≡ 2048) }
     {
         match self.known_child(of, label) {
             Some(known) => return Ok(known),

@@ -10,11 +10,11 @@ use crate::limits::MOST_VALUES;
 use ifa_value::{IfaObject, read_value};
 use std::alloc::Global;
 
-/// How many values were read: at most 2,560.
+/// How many values were read: at most 2,048.
 #[derive(Drop)]
 pub(crate) struct ValueCount {
     pub(crate) count: u16,
-    ghost few: { count ≤ 2560 },
+    ghost few: { count ≤ 2048 },
 }
 
 impl ValueCount {
@@ -27,10 +27,10 @@ impl ValueCount {
     /// Reads a value, and counts it.
     pub(crate) fn read(&mut self, alloc: Global, value: &[u8]) -> Result<IfaObject, Exhausted>
         ensures object { IfOk result (λ object. members object ≡ object_of value.now) }
-        ensures counted { self.old.count < 2560 → self.new.count ≡ self.old.count + 1 }
-        ensures few { IfOk result (λ _. self.old.count < 2560) }
-        // One value more is refused where 2,560 were read, and only there.
-        ensures refused { IfErr result (λ e. e ≡ Values → (self.old.count ≡ 2560) × (self.new.count ≡ 2560)) }
+        ensures counted { self.old.count < 2048 → self.new.count ≡ self.old.count + 1 }
+        ensures few { IfOk result (λ _. self.old.count < 2048) }
+        // One value more is refused where 2,048 were read, and only there.
+        ensures refused { IfErr result (λ e. e ≡ Values → (self.old.count ≡ 2048) × (self.new.count ≡ 2048)) }
     {
         if self.count == MOST_VALUES {
             return Err(Exhausted::Values);
