@@ -194,7 +194,7 @@ fn children_of_many(rt: HostRuntime) -> Result<(), Fail> {
     Ok(())
 }
 
-/// The names that 2,561 values are asked of: the last is refused, and so is no other.
+/// The names that 2,049 values are asked of: the last is refused, and so is no other.
 #[test]
 fn values_are_counted(rt: HostRuntime) -> Result<(), Fail> {
     let all = names(b"{}", b"{}");
