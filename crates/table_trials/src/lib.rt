@@ -1,4 +1,4 @@
-//! Trials of the tables of names and of what they are made of: coins, histories, the queue of what expires, verdicts, undo records, images that are written, read in pieces and sound, registration heights.
+//! Trials of the tables of names and of what they are made of: coins, histories, the queue of what expires, verdicts, undo records, images that are written and sound, registration heights.
 #![tactic(auto)]
 
 #[cfg(test)]
@@ -11,8 +11,6 @@ mod heights;
 mod histories;
 #[cfg(test)]
 mod images;
-#[cfg(test)]
-mod loading;
 #[cfg(test)]
 mod outputs;
 #[cfg(test)]
