@@ -1,2 +1,1 @@
 mod ImageLemmas
-pub mod WritingLemmas

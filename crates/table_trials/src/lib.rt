@@ -1,4 +1,4 @@
-//! Trials of the tables of names and of what they are made of: coins, histories, the queue of what expires, verdicts, undo records, images that are written and sound, registration heights.
+//! Trials of the tables of names and of what they are made of: coins, histories, the queue of what expires, verdicts, undo records, images that are sound, registration heights.
 #![tactic(auto)]
 
 #[cfg(test)]
@@ -19,5 +19,3 @@ mod queue;
 mod undo;
 #[cfg(test)]
 mod verdicts;
-#[cfg(test)]
-mod writing;
