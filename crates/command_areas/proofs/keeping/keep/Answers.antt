@@ -5,9 +5,9 @@ use Rattle.disk_model.specs.Changes.{LeavesOthers}
 use Rattle.disk_model.proofs.MomentLemmas.{weaken}
 use Rattle.gate_journal.specs.Calls.{Appends}
 use Rattle.gate_journal.specs.Stand.{Stand}
-use Rattle.name_store.specs.Keeping.{KeepsOrAdds}
-use Rattle.name_store.proofs.KeepLemmas.{journal_at, added, either}
-use Rattle.name_store.proofs.keeping.keep.Goals as goal
+use Rattle.command_areas.specs.Keeping.{KeepsOrAdds}
+use Rattle.command_areas.proofs.KeepLemmas.{journal_at, added, either}
+use Rattle.command_areas.proofs.keeping.keep.Goals as goal
 
 pub returns-in-Ok : goal.returns-in-Ok
 returns-in-Ok g c =

@@ -1,8 +1,8 @@
 -- The commands of an area: behind its front the records, each that of a command that the index takes at its turn. Lists of commands
 -- have the newest first, as those of a run state.
 use Rattle.std.specs.Prelude.{ℕ, ◌<◌, List, [], ◌++◌, length}
-use Rattle.gate_journal.specs.Gate.{IsRecordAt}
-use Rattle.gate_journal.specs.Records.{HasRecordsTo, records_text, image_front}
+use Rattle.gate_journal.specs.Gate.{IsRecordAt, IsClosed}
+use Rattle.gate_journal.specs.Records.{HasRecordsTo, records_text}
 use Rattle.chain_state.specs.Chain.{Indexed}
 use Rattle.chain_commands.specs.Event.{Command}
 use Rattle.index_commands.specs.Records.{record_of, records_of}
@@ -22,14 +22,15 @@ pub record HasCommands (front : List ℕ) (limit : ℕ) (file : List ℕ) (comma
   pub records : HasRecordsTo (gate_behind front commands) front (records_of commands) file
   pub within : gate_behind front commands < limit
 
+-- there is a gate at this place, and it is closed
+pub record IsShut (file : List ℕ) (gate : ℕ) : Type 0 where
+  pub inside : gate < length file
+  pub closed : IsClosed file gate
+
 -- where the commands of an area begin: the text before its first gate, and the index from which they lead
 pub record Origin : Type 0 where
   pub front : List ℕ
   pub index : Indexed
-
--- behind an empty image
-abbrev pub without_image : Indexed → Origin
-without_image first = record { front = image_front []; index = first }
 
 -- the area has these commands so far, and they lead from the first index to this one
 pub record AreRead (first : Origin) (limit : ℕ) (file : List ℕ) (commands : List Command) (index : Indexed) : Type 0 where

@@ -13,7 +13,7 @@ use Rattle.chain_commands.specs.Event.{Command, Connect, Disconnect}
 use Rattle.chain_commands.specs.RunState.{grown_by, record_length}
 use Rattle.index_commands.specs.Records.{record_of, records_of, HasSize}
 use Rattle.index_commands.proofs.SizeLemmas.{record_told}
-use Rattle.name_store.specs.Commands.{area_text, gate_behind, HasCommands}
+use Rattle.command_areas.specs.Commands.{area_text, gate_behind, HasCommands}
 
 -- ---- sizes
 

@@ -4,7 +4,7 @@ ghost use Rattle.nmc_base.specs.declared.limits.TheConstants.{LONGEST_BLOCK};
 ghost use Rattle.disk_model.specs.FileState.{IsSettled};
 ghost use Rattle.disk_model.specs.DiskSeen.{file_in, bytes_in};
 ghost use Rattle.chain_commands.specs.RunState.{longest_area};
-ghost use Rattle.name_store.specs.Keeping.{HoldsRecords, Keeps};
+ghost use Rattle.command_areas.specs.Keeping.{HoldsRecords, Keeps};
 
 use crate::limits::LONGEST_AREA;
 use disk_model::{Disk, Failed};

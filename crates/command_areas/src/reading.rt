@@ -4,12 +4,11 @@ ghost use Rattle.disk_model.specs.Moments.{EachMoment};
 ghost use Rattle.disk_model.specs.Changes.{Unchanged};
 ghost use Rattle.disk_model.specs.DiskSeen.{EndsWith, file_in, bytes_in};
 ghost use Rattle.gate_journal.specs.Stand.{IsReadable};
-ghost use Rattle.name_store.specs.Reading.{StepsOn, ReadsAll, IsInArea, MovesOn, reading_of};
+ghost use Rattle.command_areas.specs.Reading.{StepsOn, ReadsAll, IsInArea, MovesOn, reading_of};
 
-use crate::faults::OpenFault;
 use chain_state::Chain;
 use disk_model::Disk;
-use gate_journal::Journal;
+use gate_journal::{Journal, JournalFault};
 use index_commands::{Unfollowed, follow};
 use nmc_base::{Bytes, Steps};
 use std::alloc::Global;
@@ -43,15 +42,15 @@ fn step<D: Disk, L: Ledger>(
     disk: &mut D,
     file: u8,
     steps: &mut Steps<L>,
-) -> Result<Stepped, OpenFault>
+) -> Result<Stepped, JournalFault>
     requires area { IsInArea file reading.journal }
     requires readable { IsTrue D.tells → IsReadable reading.journal (file_in (D.seen disk.old) file) }
-    ensures steps_on { StepsOn D.tells reading file (bytes_in (D.seen disk.old) file) result }
+    ensures steps_on { StepsOn D.tells reading (bytes_in (D.seen disk.old) file) result }
     ensures moves { IfOk result (MovesOn file reading.journal) }
     ensures readable { IsTrue D.tells → IfOk result (λ stepped. IsReadable (reading_of stepped).journal (file_in (D.seen disk.new) file)) }
     ensures time { IsTrue D.tells → EachMoment (Unchanged (D.seen disk.old).moments.now) (D.seen disk.old).moments (D.seen disk.new).moments }
     ensures reads { (D.seen disk.new).changes ≡ (D.seen disk.old).changes }
-    ensures ends { EndsWith OpenFault.DiskFault (D.seen disk.old) (D.seen disk.new) result }
+    ensures ends { EndsWith JournalFault.DiskFault (D.seen disk.old) (D.seen disk.new) result }
 {
     let Reading {
         mut journal,
@@ -74,8 +73,8 @@ fn step<D: Disk, L: Ledger>(
                     chain,
                     held,
                 })),
-                Err(Unfollowed::Refused) => Err(OpenFault::Damaged { file, at }),
-                Err(Unfollowed::NoMemory) => Err(OpenFault::NoMemory),
+                Err(Unfollowed::Refused) => Err(JournalFault::Damaged { at }),
+                Err(Unfollowed::NoMemory) => Err(JournalFault::NoMemory),
             }
         }
         Err(fault) => {
@@ -84,7 +83,7 @@ fn step<D: Disk, L: Ledger>(
                 chain,
                 held,
             });
-            Err(OpenFault::of(file, fault))
+            Err(fault)
         }
     }
 }
@@ -96,14 +95,14 @@ pub fn read_all<D: Disk, L: Ledger>(
     disk: &mut D,
     file: u8,
     steps: &mut Steps<L>,
-) -> Result<Reading, OpenFault>
+) -> Result<Reading, JournalFault>
     requires area { IsInArea file reading.journal }
     requires readable { IsTrue D.tells → IsReadable reading.journal (file_in (D.seen disk.old) file) }
-    ensures follows { ReadsAll D.tells reading file (bytes_in (D.seen disk.old) file) result }
+    ensures follows { ReadsAll D.tells reading (bytes_in (D.seen disk.old) file) result }
     ensures in_area { IfOk result (λ reading. IsInArea file reading.journal) }
     ensures time { IsTrue D.tells → EachMoment (Unchanged (D.seen disk.old).moments.now) (D.seen disk.old).moments (D.seen disk.new).moments }
     ensures reads { (D.seen disk.new).changes ≡ (D.seen disk.old).changes }
-    ensures ends { EndsWith OpenFault.DiskFault (D.seen disk.old) (D.seen disk.new) result }
+    ensures ends { EndsWith JournalFault.DiskFault (D.seen disk.old) (D.seen disk.new) result }
 {
     let mut reading = reading;
     'records: loop {

@@ -4,10 +4,10 @@ use Rattle.disk_model.specs.Moments.{start}
 use Rattle.disk_model.specs.DiskSeen.{bytes_in, file_in}
 use Rattle.gate_journal.specs.Stand.{IsReadable}
 use Rattle.gate_journal.proofs.ReadLemmas.{unchanged_then}
-use Rattle.name_store.specs.declared.reading.Stepped.{Stepped}
-use Rattle.name_store.specs.Reading.{StepsOn, MovesOn, reading_of}
-use Rattle.name_store.proofs.ReadingLemmas.{followed_same, followed_all_same, fault_same, same_bytes, never_fell, failed_since, same_fault}
-use Rattle.name_store.proofs.reading.read_all.Goals as goal
+use Rattle.command_areas.specs.declared.reading.Stepped.{Stepped}
+use Rattle.command_areas.specs.Reading.{StepsOn, MovesOn, reading_of}
+use Rattle.command_areas.proofs.ReadingLemmas.{followed_same, followed_all_same, fault_same, same_bytes, never_fell, failed_since, same_fault}
+use Rattle.command_areas.proofs.reading.read_all.Goals as goal
 
 pub records-init : goal.records-init
 records-init g c = record {
@@ -27,7 +27,7 @@ records-preserved g c =
     let new = g.D.Disk.seen c.step.new.disk in
     let file = c.args.file in
     let same = same_bytes tells old mid file c.records.invariant.time in
-    let on = subst (λ (s : Stepped). StepsOn tells c.records.reading file (bytes_in mid file) (Ok s)) c.in-Ok-More.field-0-is c.in-Ok-More.ensures.steps_on in
+    let on = subst (λ (s : Stepped). StepsOn tells c.records.reading (bytes_in mid file) (Ok s)) c.in-Ok-More.field-0-is c.in-Ok-More.ensures.steps_on in
     let moves = subst (λ (s : Stepped). MovesOn c.args.file c.records.reading.journal s) c.in-Ok-More.field-0-is c.in-Ok-More.ensures.moves in
     record {
       followed = λ first some.
@@ -52,7 +52,7 @@ returns-in-Ok-All g c =
     let mid = g.D.Disk.seen c.records.disk in
     let file = c.args.file in
     let same = same_bytes tells old mid file c.records.invariant.time in
-    let on = subst (λ (s : Stepped). StepsOn tells c.records.reading file (bytes_in mid file) (Ok s)) c.in-Ok-All.field-0-is c.in-Ok-All.ensures.steps_on in
+    let on = subst (λ (s : Stepped). StepsOn tells c.records.reading (bytes_in mid file) (Ok s)) c.in-Ok-All.field-0-is c.in-Ok-All.ensures.steps_on in
     let moves = subst (λ (s : Stepped). MovesOn c.args.file c.records.reading.journal s) c.in-Ok-All.field-0-is c.in-Ok-All.ensures.moves in
     record {
       follows = λ first some.
@@ -73,7 +73,7 @@ returns-in-Err g c =
     let same = same_bytes tells old mid file c.records.invariant.time in
     record {
       follows = λ first some.
-          fault_same tells first (bytes_in mid file) (bytes_in old file) (λ told. sym (same told)) file c.in-Err.fault
+          fault_same tells first (bytes_in mid file) (bytes_in old file) (λ told. sym (same told)) c.in-Err.fault
           (c.in-Err.ensures.steps_on first (followed_same tells first (bytes_in old file) (bytes_in mid file) same c.records.reading.chain c.records.reading.journal.length (c.records.invariant.followed first some)));
       in_area = tt;
       time = λ told. unchanged_then (c.records.invariant.time told) (c.in-Err.ensures.time told);

@@ -6,9 +6,9 @@ use Rattle.disk_model.specs.Moments.{EachMoment}
 use Rattle.disk_model.specs.Changes.{Unchanged}
 use Rattle.disk_model.specs.DiskSeen.{file_in, bytes_in}
 use Rattle.gate_journal.specs.Stand.{IsReadable}
-use Rattle.name_store.specs.Commands.{Origin}
-use Rattle.name_store.specs.Reading.{HasFollowed, IsInArea}
-use Rattle.name_store.proofs.reading.read_all.Given as goal
+use Rattle.command_areas.specs.Commands.{Origin}
+use Rattle.command_areas.specs.Reading.{HasFollowed, IsInArea}
+use Rattle.command_areas.proofs.reading.read_all.Given as goal
 
 abbrev pub invariant-records : goal.invariant-records
 invariant-records g l =

@@ -6,8 +6,6 @@ use Rattle.disk_model.specs.Moments.{Files, EachMoment}
 use Rattle.disk_model.specs.Changes.{Unchanged}
 use Rattle.disk_model.specs.DiskSeen.{DiskSeen, HasFailed, bytes_in}
 use Rattle.disk_model.proofs.MomentLemmas.{last_moment}
-use Rattle.name_store.specs.declared.faults.OpenFault.{OpenFault}
-use Rattle.name_store.specs.declared.faults.OpenFault.TheVariants as faults
 use Rattle.fault_counts.specs.Faults.{Faults, NeverFell, Rose}
 use Rattle.chain_state.specs.Chain.{Indexed}
 use Rattle.gate_journal.specs.Gate.{IsRecordAt, IsClosed}
@@ -22,12 +20,10 @@ use Rattle.index_commands.specs.Following.{Follows, FollowsNot, FollowsRecord}
 use Rattle.index_commands.specs.declared.following.Unfollowed.TheVariants as unfollowed
 use Rattle.index_commands.proofs.SizeLemmas.{led_sizes, takes_size}
 use Rattle.index_commands.proofs.TakenLemmas.{same_self}
-use Rattle.name_store.specs.Commands.{gate_behind, Origin, HasCommands}
-use Rattle.name_store.specs.Damage.{HasBadRecord}
-use Rattle.name_store.specs.Header.{IsShut}
-use Rattle.name_store.specs.Faults.{of_journal}
-use Rattle.name_store.specs.Reading.{StepAnswer, AllAnswer, IsBehind, IsInArea, HasFollowed, HasFollowedAll}
-use Rattle.name_store.proofs.AreaLemmas.{record_size, area_size, open_at, none_read, read_more}
+use Rattle.command_areas.specs.Commands.{gate_behind, Origin, HasCommands, IsShut}
+use Rattle.command_areas.specs.Damage.{HasBadRecord}
+use Rattle.command_areas.specs.Reading.{StepAnswer, AllAnswer, IsBehind, IsInArea, HasFollowed, HasFollowedAll}
+use Rattle.command_areas.proofs.AreaLemmas.{record_size, area_size, open_at, none_read, read_more}
 
 -- ---- from one gate on
 
@@ -112,13 +108,13 @@ module _ (tells : Bool) (seen : ℕ → List ℕ) (first : Origin) (file : ℕ) 
     gate_there true e answer = cc
 
     -- a fault of the journal
-    pub fault_there : (fault : JournalFault) → (IsTrue tells → NextAnswer (seen s.journal.file) s.journal new into (Err fault)) → StepAnswer tells first file (seen file) (Err (of_journal file fault))
+    pub fault_there : (fault : JournalFault) → (IsTrue tells → NextAnswer (seen s.journal.file) s.journal new into (Err fault)) → StepAnswer tells first (seen file) (Err fault)
     fault_there journal.DiskFault answer = tt
     fault_there journal.NoMemory answer = tt
     fault_there (journal.Damaged at) answer = λ told.
         let damaged : (at ≡ s.journal.length - 1) × IsDamagedAt (seen file) (s.journal.length - 1) longest_area =
         in_the_area (λ area limit. (at ≡ s.journal.length - 1) × IsDamagedAt area (s.journal.length - 1) limit) (answer told) in
-        (refl, subst (HasBadRecord first longest_area (seen file)) (sym damaged.0) (bad_start tells first (seen file) s.index s.journal.length s.some told damaged.1))
+        subst (HasBadRecord first longest_area (seen file)) (sym damaged.0) (bad_start tells first (seen file) s.index s.journal.length s.some told damaged.1)
 
     module _ (more : Bool) (e : more ≡ true) (answer : IsTrue tells → NextAnswer (seen s.journal.file) s.journal new into (Ok more)) where
       -- of a step that followed a command
@@ -128,11 +124,9 @@ module _ (tells : Bool) (seen : ℕ → List ℕ) (first : Origin) (file : ℕ) 
           followed_more tells first (seen file) s.index s.journal.length s.some into index new.length follows (moved e).0 (λ told. record_there more e (answer told))
 
       -- of one that came to a record that isn't followed
-      pub stepped_bad : FollowsRecord s.index into (Err unfollowed.Refused) → (at : ℕ) → at ≡ s.journal.length - 1 → IsTrue tells → (file ≡ file) × HasBadRecord first longest_area (seen file) at
-      stepped_bad follows at at_is told = (
-        refl,
-        subst (HasBadRecord first longest_area (seen file)) (sym at_is) (bad_command tells first (seen file) s.index s.journal.length s.some told into (record_there more e (answer told)) follows),
-      )
+      pub stepped_bad : FollowsRecord s.index into (Err unfollowed.Refused) → (at : ℕ) → at ≡ s.journal.length - 1 → IsTrue tells → HasBadRecord first longest_area (seen file) at
+      stepped_bad follows at at_is told = subst (HasBadRecord first longest_area (seen file)) (sym at_is)
+          (bad_command tells first (seen file) s.index s.journal.length s.some told into (record_there more e (answer told)) follows)
 
 -- ---- of the same bytes, where the disk tells them
 
@@ -151,11 +145,10 @@ module _ (tells : Bool) (first : Origin) (a b : List ℕ) (same : IsTrue tells �
     shut = λ told. subst (λ (l : List ℕ). IsShut l (reached - 1)) (same told) (all.shut told);
   }
 
-  pub fault_same : (file : ℕ) (fault : OpenFault) → StepAnswer tells first file a (Err fault) → AllAnswer tells first file b (Err fault)
-  fault_same file faults.Uninitialised is = is
-  fault_same file (faults.Damaged number at) is = λ told. subst (λ (l : List ℕ). (number ≡ file) × HasBadRecord first longest_area l at) (same told) (is told)
-  fault_same file faults.DiskFault is = tt
-  fault_same file faults.NoMemory is = tt
+  pub fault_same : (fault : JournalFault) → StepAnswer tells first a (Err fault) → AllAnswer tells first b (Err fault)
+  fault_same (journal.Damaged at) is = λ told. subst (λ (l : List ℕ). HasBadRecord first longest_area l at) (same told) (is told)
+  fault_same journal.DiskFault is = tt
+  fault_same journal.NoMemory is = tt
 
 -- a file of a disk whose files are as they were
 pub same_bytes : (tells : Bool) (old new : DiskSeen) (file : ℕ) → (IsTrue tells → EachMoment (Unchanged old.moments.now) old.moments new.moments) → IsTrue tells → bytes_in old file ≡ bytes_in new file
@@ -175,8 +168,7 @@ pub failed_since : {old mid new : DiskSeen} → NeverFell old.faults mid.faults 
 failed_since first failed = record { last = failed.last; rose = rose_since first failed.rose }
 
 -- a fault of the disk, whatever stands at Ok
-pub same_fault : {T U : Type 0} (fault : OpenFault) → IsErrOf {T = T} (Err fault) faults.DiskFault → IsErrOf {T = U} (Err fault) faults.DiskFault
-same_fault faults.Uninitialised is = search rules
-same_fault (faults.Damaged number at) is = search rules
-same_fault faults.DiskFault is = search rules
-same_fault faults.NoMemory is = search rules
+pub same_fault : {T U : Type 0} (fault : JournalFault) → IsErrOf {T = T} (Err fault) journal.DiskFault → IsErrOf {T = U} (Err fault) journal.DiskFault
+same_fault (journal.Damaged at) is = search rules
+same_fault journal.DiskFault is = search rules
+same_fault journal.NoMemory is = search rules

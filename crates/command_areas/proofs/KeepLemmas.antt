@@ -8,7 +8,7 @@ use Rattle.gate_journal.specs.Stand.{Stand, text_before, IsAtGate}
 use Rattle.gate_journal.specs.Writes.{IsBeforeOrAfter}
 use Rattle.gate_journal.proofs.GateLemmas.{gate_behind}
 use Rattle.gate_journal.proofs.RecordLemmas.{with_or_without, records_before, front-push, pushed_fit}
-use Rattle.name_store.specs.Keeping.{HoldsRecords, KeepsOrAdds}
+use Rattle.command_areas.specs.Keeping.{HoldsRecords, KeepsOrAdds}
 
 -- the journal of an area in a file
 abbrev pub journal_at : (file area : ℕ) → Stand

@@ -1,7 +1,7 @@
 use Rattle.disk_model.specs.DiskSeen.{bytes_in}
-use Rattle.name_store.specs.Commands.{Origin}
-use Rattle.name_store.proofs.ReadingLemmas.{followed_none}
-use Rattle.name_store.proofs.opening.follow_area.Goals as goal
+use Rattle.command_areas.specs.Commands.{Origin}
+use Rattle.command_areas.proofs.ReadingLemmas.{followed_none}
+use Rattle.command_areas.proofs.following.follow_area.Goals as goal
 
 pub returns-clause-follows : goal.returns-clause-follows
 returns-clause-follows g c = λ front behind.

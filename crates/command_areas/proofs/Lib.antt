@@ -1,0 +1,4 @@
+pub mod AreaLemmas
+pub mod ReadingLemmas
+pub mod KeepLemmas
+pub mod RecordLaws
