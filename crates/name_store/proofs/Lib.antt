@@ -1,8 +1,6 @@
 pub mod HeaderLemmas
-pub mod AreaLemmas
-pub mod ReadingLemmas
 pub mod OpenLemmas
-pub mod KeepLemmas
+pub mod SavedLemmas
 pub mod StateLemmas
 pub mod StoreLemmas
 pub mod OutcomeLemmas
