@@ -23,7 +23,7 @@ one_first Holds order same r s first second =
 pub code_of : (a b : Reply) → a ≡ b → a.code ≡ b.code
 code_of a b e = ap (λ (r : Reply). r.code) e
 
-lacking_code : no_memory_reply.code ≡ 0 → ⊥
+pub lacking_code : no_memory_reply.code ≡ 0 → ⊥
 lacking_code e = omega (arith, e)
 
 -- what is done is told with code 0, and leaves one state

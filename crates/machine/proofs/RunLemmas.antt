@@ -1,6 +1,6 @@
 -- Runs go on by one step, and what they leave is the surviving chain of the accepted commands.
 use Rattle.std.proofs.Common.{◌≡◌, ◌==◌, if◌then◌else◌, true, false, eqb, ℕ, zero, suc, ◌+◌, ◌<◌, List, [], ◌∷◌, ◌++◌, refl, sym, ap, subst, ◌∙◌, arith}
-use Rattle.std.proofs.lemmas.Bool.{ne_eqb}
+use Rattle.std.proofs.lemmas.Bool.{eq-eqb, ne_eqb}
 use Rattle.block_grammar.specs.Block.{block_hash}
 use Rattle.chain_commands.specs.Chain.{Chain, with_block}
 use Rattle.chain_commands.specs.Event.{Command, Connect, Disconnect, Event, Do, Ask, Save}
@@ -13,9 +13,9 @@ use Rattle.chain_commands.specs.Disconnecting.{BackRefusal, AtBase, NotTip, Hold
 use Rattle.undo_records.specs.declared.version.Version.TheVariants.{Two}
 use Rattle.chain_commands.specs.Saving.{IsTextOf, HoldsSave, save_order, saves, saved_by, IsSaved, LeavesSaved, HasSaved}
 use Rattle.machine.specs.Step.{Step, Run}
-use Rattle.machine.specs.Leaving.{accepted_saves, IsBehind}
+use Rattle.machine.specs.Leaving.{Leaves, accepted_saves, IsBehind}
 use Rattle.chain_commands.specs.Surviving.{is_done, stays, SurvivesCommand, Surviving, accepted_of}
-use Rattle.chain_commands.proofs.RefusalLemmas.{DoesOne, decided, command_does, survives_once, fewer_none}
+use Rattle.chain_commands.proofs.RefusalLemmas.{DoesOne, code_of, lacking_code, decided, command_does, survives_once, fewer_none}
 use Rattle.chain_commands.proofs.CommandLemmas.{without_journal, placed, coded, without_journal_back, placed_back, coded_back}
 use Rattle.chain_commands.proofs.SavingLemmas.{chain_of_all, coded_save, save_does, save_leaves_chain, command_keeps, save_keeps}
 
@@ -60,58 +60,73 @@ one_surviving old new other (command ∷ commands) (mid, one, more) (end, two, o
 -- ---- what a step leaves
 
 -- something is done, with code 0, or the state stays, with another code
-data Leaves (Done : Type 0) (old : RunState) (reply : Reply) (new : RunState) : Type 0 where
-  does : eqb reply.code 0 ≡ true → Done → Leaves Done old reply new
-  remains : eqb reply.code 0 ≡ false → new ≡ old → Leaves Done old reply new
+data Comes (Done : Type 0) (old : RunState) (reply : Reply) (new : RunState) : Type 0 where
+  does : reply.code ≡ 0 → Done → Comes Done old reply new
+  remains : (reply.code ≡ 0 → ⊥) → new ≡ old → Comes Done old reply new
 
-leaves_weaker : (A B : Type 0) (old : RunState) (reply : Reply) (new : RunState) → (A → B) → Leaves A old reply new → Leaves B old reply new
-leaves_weaker A B old reply new f (does code done) = does code (f done)
-leaves_weaker A B old reply new f (remains code same) = remains code same
+comes_weaker : (A B : Type 0) (old : RunState) (reply : Reply) (new : RunState) → (A → B) → Comes A old reply new → Comes B old reply new
+comes_weaker A B old reply new f (does zero done) = does zero (f done)
+comes_weaker A B old reply new f (remains other same) = remains other same
 
-other_code : (a b : Reply) → a ≡ b → (b.code ≡ 0 → ⊥) → eqb a.code 0 ≡ false
-other_code a b e other = ap (λ (r : Reply). eqb r.code 0) e ∙ ne_eqb b.code 0 other
-
-answers_leave : {R : Type 0} (refusals : Refusals R) (Holds : R → Type 0) (Does : Reply → RunState → Type 0) (old : RunState) → DoesOne Does → ((r : R) → (refusals.reply_of r).code ≡ 0 → ⊥)
-    → (reply : Reply) (new : RunState) → Answers refusals Holds Does old reply new → Leaves (HasNoneBelow Holds refusals.order refusals.places × Does reply new) old reply new
-answers_leave refusals Holds Does old d coded reply new (accepts none done) = does (ap (λ (n : ℕ). eqb n 0) (d.code_is reply new done)) (none, done)
-answers_leave refusals Holds Does old d coded reply new (declines refusal first new-is reply-is) = remains (other_code _ _ reply-is (coded refusal)) new-is
-answers_leave refusals Holds Does old d coded reply new (lacks_memory none new-is reply-is) = remains (ap (λ (r : Reply). eqb r.code 0) reply-is) new-is
+answers_come : {R : Type 0} (refusals : Refusals R) (Holds : R → Type 0) (Does : Reply → RunState → Type 0) (old : RunState) → DoesOne Does → ((r : R) → (refusals.reply_of r).code ≡ 0 → ⊥)
+    → (reply : Reply) (new : RunState) → Answers refusals Holds Does old reply new → Comes (HasNoneBelow Holds refusals.order refusals.places × Does reply new) old reply new
+answers_come refusals Holds Does old d coded reply new (accepts none done) = does (d.code_is reply new done) (none, done)
+answers_come refusals Holds Does old d coded reply new (declines refusal first new-is told) = remains (λ zero. coded refusal (sym (code_of _ _ told) ∙ zero)) new-is
+answers_come refusals Holds Does old d coded reply new (lacks_memory none new-is told) = remains (λ zero. lacking_code (sym (code_of _ _ told) ∙ zero)) new-is
 
 -- the command joins the state
 record Joins (old : RunState) (command : Command) (new : RunState) : Type 0 where
   state_is : new ≡ accepted old command
   survives : SurvivesCommand (chain_of old) command (chain_of new)
 
-connect_leaves : (old new : RunState) (block : List ℕ) (reply : Reply) → Step old (Do (Connect block)) reply new → Leaves (Joins old (Connect block) new) old reply new
-connect_leaves old new block reply step =
+connect_comes : (old new : RunState) (block : List ℕ) (reply : Reply) → Step old (Do (Connect block)) reply new → Comes (Joins old (Connect block) new) old reply new
+connect_comes old new block reply step =
     let full = IsFull old (Connect block) in
     let with_journal = Holds full (chain_of old) block in
-    leaves_weaker (HasNoneBelow with_journal order_of 6 × LeavesDone old (Connect block) reply new) _ old reply new
+    comes_weaker (HasNoneBelow with_journal order_of 6 × LeavesDone old (Connect block) reply new) _ old reply new
     (λ done. record {
       state_is = done.1.state_is;
       survives = is_done (fewer_none (Holds ⊥ (chain_of old) block) with_journal order_of 6 (without_journal full (chain_of old) block) done.0) (ap chain_of done.1.state_is);
     })
-    (answers_leave connects with_journal (LeavesDone old (Connect block)) old (command_does old (Connect block)) coded reply new step)
+    (answers_come connects with_journal (LeavesDone old (Connect block)) old (command_does old (Connect block)) coded reply new step)
 
-disconnect_leaves : (old new : RunState) (hash : List ℕ) (reply : Reply) → Step old (Do (Disconnect hash)) reply new → Leaves (Joins old (Disconnect hash) new) old reply new
-disconnect_leaves old new hash reply step =
+disconnect_comes : (old new : RunState) (hash : List ℕ) (reply : Reply) → Step old (Do (Disconnect hash)) reply new → Comes (Joins old (Disconnect hash) new) old reply new
+disconnect_comes old new hash reply step =
     let full = IsFull old (Disconnect hash) in
     let with_journal = HoldsBack full (chain_of old) hash in
-    leaves_weaker (HasNoneBelow with_journal back_order 3 × LeavesDone old (Disconnect hash) reply new) _ old reply new
+    comes_weaker (HasNoneBelow with_journal back_order 3 × LeavesDone old (Disconnect hash) reply new) _ old reply new
     (λ done. record {
       state_is = done.1.state_is;
       survives = is_done (fewer_none (HoldsBack ⊥ (chain_of old) hash) with_journal back_order 3 (without_journal_back full (chain_of old) hash) done.0) (ap chain_of done.1.state_is);
     })
-    (answers_leave disconnects with_journal (LeavesDone old (Disconnect hash)) old (command_does old (Disconnect hash)) coded_back reply new step)
+    (answers_come disconnects with_journal (LeavesDone old (Disconnect hash)) old (command_does old (Disconnect hash)) coded_back reply new step)
 
-command_leaves : (old new : RunState) (command : Command) (reply : Reply) → Step old (Do command) reply new → Leaves (Joins old command new) old reply new
-command_leaves old new (Connect block) reply step = connect_leaves old new block reply step
-command_leaves old new (Disconnect hash) reply step = disconnect_leaves old new hash reply step
+command_comes : (old new : RunState) (command : Command) (reply : Reply) → Step old (Do command) reply new → Comes (Joins old command new) old reply new
+command_comes old new (Connect block) reply step = connect_comes old new block reply step
+command_comes old new (Disconnect hash) reply step = disconnect_comes old new hash reply step
 
-save_leaves : (old new : RunState) (reply : Reply) → Step old Save reply new → Leaves (IsSaved old new) old reply new
-save_leaves old new reply step =
-    leaves_weaker (HasNoneBelow (HoldsSave old) save_order 2 × LeavesSaved old reply new) (IsSaved old new) old reply new (λ done. done.1.is_saved)
-    (answers_leave saves (HoldsSave old) (LeavesSaved old) old (save_does old) coded_save reply new step)
+save_comes : (old new : RunState) (reply : Reply) → Step old Save reply new → Comes (IsSaved old new) old reply new
+save_comes old new reply step =
+    comes_weaker (HasNoneBelow (HoldsSave old) save_order 2 × LeavesSaved old reply new) (IsSaved old new) old reply new (λ done. done.1.is_saved)
+    (answers_come saves (HoldsSave old) (LeavesSaved old) old (save_does old) coded_save reply new step)
+
+-- so of each event
+code_zero : {A B : Type 0} {old : RunState} {reply : Reply} {new : RunState} (D : RunState → Type 0) → Comes A old reply new → (A → D new) → reply.code ≡ 0 → D new
+code_zero D (does zero done) f is = f done
+code_zero D (remains other same) f is = absurd (other is)
+
+code_other : {A : Type 0} {old : RunState} {reply : Reply} {new : RunState} → Comes A old reply new → (reply.code ≡ 0 → ⊥) → new ≡ old
+code_other (does zero done) other = absurd (other zero)
+code_other (remains not same) other = same
+
+pub step_leaves : (old new : RunState) (event : Event) (reply : Reply) → Step old event reply new → Leaves old event reply new
+step_leaves old new (Do command) reply step =
+    let comes = command_comes old new command reply step in
+    record { done = code_zero (λ (r : RunState). r ≡ accepted old command) comes (λ joins. joins.state_is); undone = code_other comes }
+step_leaves old new (Ask message) reply step = record { done = λ zero. step.unchanged; undone = λ other. step.unchanged }
+step_leaves old new Save reply step =
+    let comes = save_comes old new reply step in
+    record { done = code_zero (IsSaved old) comes (λ saved. saved); undone = code_other comes }
 
 -- ---- what a run leaves
 
@@ -134,10 +149,10 @@ joined_behind old new command later saves more = record {
   text_is = more.text_is;
 }
 
-behind_command : (old mid new : RunState) (command : Command) (reply : Reply) (later : List Command) (saves : ℕ) → Leaves (Joins old command mid) old reply mid
+behind_command : (old mid new : RunState) (command : Command) (reply : Reply) (later : List Command) (saves : ℕ) → Comes (Joins old command mid) old reply mid
     → IsBehind mid later saves new → IsBehind old (accepted_first command reply later) saves new
-behind_command old mid new command reply later saves (does code joins) more = rw code (joined_behind old new command later saves (subst (λ (r : RunState). IsBehind r later saves new) joins.state_is more))
-behind_command old mid new command reply later saves (remains code mid-is) more = rw code (subst (λ (r : RunState). IsBehind r later saves new) mid-is more)
+behind_command old mid new command reply later saves (does zero joins) more = rw (eq-eqb reply.code 0 zero) (joined_behind old new command later saves (subst (λ (r : RunState). IsBehind r later saves new) joins.state_is more))
+behind_command old mid new command reply later saves (remains other mid-is) more = rw (ne_eqb reply.code 0 other) (subst (λ (r : RunState). IsBehind r later saves new) mid-is more)
 
 -- commands join what is since
 since_behind : (a b : RunState) (commands saved also : List Command) → a.since ++ saved ≡ b.since ++ also → (all_accepted a commands).since ++ saved ≡ (all_accepted b commands).since ++ also
@@ -167,10 +182,10 @@ saved_behind old new text later saves is_text more = record {
   text_is = λ some. text_now old new text later saves (subst (λ (chain : Chain). IsTextOf Two chain text) (chain_of_all old) is_text) more;
 }
 
-behind_save : (old mid new : RunState) (reply : Reply) (later : List Command) (saves : ℕ) → Leaves (IsSaved old mid) old reply mid → IsBehind mid later saves new → IsBehind old later (saved_first reply saves) new
-behind_save old mid new reply later saves (does code saved) more =
-    rw code (saved_behind old new saved.text later saves saved.is_text (subst (λ (r : RunState). IsBehind r later saves new) saved.state_is more))
-behind_save old mid new reply later saves (remains code mid-is) more = rw code (subst (λ (r : RunState). IsBehind r later saves new) mid-is more)
+behind_save : (old mid new : RunState) (reply : Reply) (later : List Command) (saves : ℕ) → Comes (IsSaved old mid) old reply mid → IsBehind mid later saves new → IsBehind old later (saved_first reply saves) new
+behind_save old mid new reply later saves (does zero saved) more =
+    rw (eq-eqb reply.code 0 zero) (saved_behind old new saved.text later saves saved.is_text (subst (λ (r : RunState). IsBehind r later saves new) saved.state_is more))
+behind_save old mid new reply later saves (remains other mid-is) more = rw (ne_eqb reply.code 0 other) (subst (λ (r : RunState). IsBehind r later saves new) mid-is more)
 
 nothing_behind : (old new : RunState) → new ≡ old → IsBehind old [] 0 new
 nothing_behind old new same = subst (IsBehind old [] 0) (sym same) (record {
@@ -188,23 +203,23 @@ run_state old new [] [] run = nothing_behind old new run
 run_state old new [] (r ∷ replies) run = absurd run
 run_state old new (e ∷ events) [] run = absurd run
 run_state old new (Do command ∷ events) (r ∷ replies) (mid, step, more) =
-    behind_command old mid new command r (accepted_of events replies) (accepted_saves events replies) (command_leaves old mid command r step) (run_state mid new events replies more)
+    behind_command old mid new command r (accepted_of events replies) (accepted_saves events replies) (command_comes old mid command r step) (run_state mid new events replies more)
 run_state old new (Ask message ∷ events) (r ∷ replies) (mid, step, more) =
     subst (λ (run : RunState). IsBehind run (accepted_of events replies) (accepted_saves events replies) new) step.unchanged (run_state mid new events replies more)
 run_state old new (Save ∷ events) (r ∷ replies) (mid, step, more) =
-    behind_save old mid new r (accepted_of events replies) (accepted_saves events replies) (save_leaves old mid r step) (run_state mid new events replies more)
+    behind_save old mid new r (accepted_of events replies) (accepted_saves events replies) (save_comes old mid r step) (run_state mid new events replies more)
 
-chain_after : (old mid new : RunState) (command : Command) (reply : Reply) (later : List Command) → Leaves (Joins old command mid) old reply mid
+chain_after : (old mid new : RunState) (command : Command) (reply : Reply) (later : List Command) → Comes (Joins old command mid) old reply mid
     → Surviving (chain_of mid) later (chain_of new) → Surviving (chain_of old) (accepted_first command reply later) (chain_of new)
-chain_after old mid new command reply later (does code joins) more = rw code (chain_of mid, joins.survives, more)
-chain_after old mid new command reply later (remains code mid-is) more = rw code (subst (λ (r : RunState). Surviving (chain_of r) later (chain_of new)) mid-is more)
+chain_after old mid new command reply later (does zero joins) more = rw (eq-eqb reply.code 0 zero) (chain_of mid, joins.survives, more)
+chain_after old mid new command reply later (remains other mid-is) more = rw (ne_eqb reply.code 0 other) (subst (λ (r : RunState). Surviving (chain_of r) later (chain_of new)) mid-is more)
 
 pub run_survives : (old new : RunState) (events : List Event) (replies : List Reply) → Run old events replies new → Surviving (chain_of old) (accepted_of events replies) (chain_of new)
 run_survives old new [] [] run = ap chain_of run
 run_survives old new [] (r ∷ replies) run = absurd run
 run_survives old new (e ∷ events) [] run = absurd run
 run_survives old new (Do command ∷ events) (r ∷ replies) (mid, step, more) =
-    chain_after old mid new command r (accepted_of events replies) (command_leaves old mid command r step) (run_survives mid new events replies more)
+    chain_after old mid new command r (accepted_of events replies) (command_comes old mid command r step) (run_survives mid new events replies more)
 run_survives old new (Ask message ∷ events) (r ∷ replies) (mid, step, more) =
     subst (λ (run : RunState). Surviving (chain_of run) (accepted_of events replies) (chain_of new)) step.unchanged (run_survives mid new events replies more)
 run_survives old new (Save ∷ events) (r ∷ replies) (mid, step, more) =
@@ -213,11 +228,11 @@ run_survives old new (Save ∷ events) (r ∷ replies) (mid, step, more) =
 -- ---- what is saved stays
 
 step_keeps : (old new : RunState) (event : Event) (reply : Reply) → Step old event reply new → HasSaved old → HasSaved new
-step_keeps old new (Do command) reply step has = by (command_leaves old new command reply step)
+step_keeps old new (Do command) reply step has = by (command_comes old new command reply step)
   where
-    by : Leaves (Joins old command new) old reply new → HasSaved new
-    by (does code joins) = subst HasSaved (sym joins.state_is) (command_keeps old command has)
-    by (remains code same) = subst HasSaved (sym same) has
+    by : Comes (Joins old command new) old reply new → HasSaved new
+    by (does zero joins) = subst HasSaved (sym joins.state_is) (command_keeps old command has)
+    by (remains other same) = subst HasSaved (sym same) has
 step_keeps old new (Ask message) reply step has = subst HasSaved (sym step.unchanged) has
 step_keeps old new Save reply step has = save_keeps old new reply step has
 

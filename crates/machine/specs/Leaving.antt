@@ -1,10 +1,25 @@
--- What a run leaves of the state.
-use Rattle.std.specs.Prelude.{◌≡◌, ℕ, suc, ◌+◌, ◌<◌, List, [], ◌∷◌, ◌++◌, ◌==◌, if◌then◌else◌}
+-- What a step leaves of the state, and what a run leaves of it.
+use Rattle.std.specs.Prelude.{◌≡◌, ◌≢◌, ℕ, suc, ◌+◌, ◌<◌, List, [], ◌∷◌, ◌++◌, ◌==◌, if◌then◌else◌}
 use Rattle.undo_records.specs.declared.version.Version.TheVariants.{Two}
 use Rattle.chain_commands.specs.Event.{Command, Event, Do, Ask, Save}
-use Rattle.chain_commands.specs.RunState.{RunState, saved_chain, all_accepted}
-use Rattle.chain_commands.specs.Saving.{IsTextOf}
+use Rattle.chain_commands.specs.RunState.{RunState, saved_chain, accepted, all_accepted}
+use Rattle.chain_commands.specs.Saving.{IsTextOf, IsSaved}
 use Rattle.feed_frames.specs.Replies.{Reply}
+
+-- ---- a step
+
+-- what an event leaves that is done
+abbrev pub IsDoneBy : RunState → Event → RunState → Type 0
+IsDoneBy old (Do command) new = new ≡ accepted old command
+IsDoneBy old (Ask message) new = new ≡ old
+IsDoneBy old Save new = IsSaved old new
+
+-- it is done where its reply has code 0, and else the state stays
+pub record Leaves (old : RunState) (event : Event) (reply : Reply) (new : RunState) : Type 0 where
+  pub done : reply.code ≡ 0 → IsDoneBy old event new
+  pub undone : reply.code ≢ 0 → new ≡ old
+
+-- ---- a run
 
 -- how many saves have a reply of code 0
 abbrev pub accepted_saves : List Event → List Reply → ℕ

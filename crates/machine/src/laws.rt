@@ -9,13 +9,18 @@ ghost use Rattle.chain_commands.specs.RunState.{RunState, chain_of};
 ghost use Rattle.chain_commands.specs.Connecting.{IsValid};
 ghost use Rattle.chain_commands.specs.Saving.{HasSaved};
 ghost use Rattle.chain_commands.specs.Surviving.{Surviving, accepted_of};
-ghost use Rattle.machine.specs.Leaving.{IsBehind, accepted_saves};
+ghost use Rattle.machine.specs.Leaving.{IsBehind, Leaves, accepted_saves};
 ghost use Rattle.machine.specs.Step.{Step, Run};
 
 /// The state, the event and the code of the reply decide the next state.
 pub fn decided_step()
     ensures { (old new other : RunState) (event : Event) (reply answer : Reply)
         → Step old event reply new → Step old event answer other → reply.code ≡ answer.code → new ≡ other }
+{}
+
+/// What has a reply of code 0 is done, and nothing else changes the state.
+pub fn done_or_left()
+    ensures { (old new : RunState) (event : Event) (reply : Reply) → Step old event reply new → Leaves old event reply new }
 {}
 
 /// Commands leave one surviving chain.
