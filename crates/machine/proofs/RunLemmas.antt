@@ -1,5 +1,5 @@
 -- Runs go on by one step, and what they leave is the surviving chain of the accepted commands.
-use Rattle.std.proofs.Common.{◌≡◌, ◌==◌, if◌then◌else◌, true, false, eqb, ℕ, zero, suc, ◌+◌, ◌<◌, List, [], ◌∷◌, ◌++◌, refl, sym, ap, subst, ◌∙◌, arith}
+use Rattle.std.proofs.Common.{◌≡◌, ◌==◌, if◌then◌else◌, ℕ, zero, suc, List, [], ◌∷◌, ◌++◌, refl, sym, ap, subst, ◌∙◌, arith}
 use Rattle.std.proofs.lemmas.Bool.{eq-eqb, ne_eqb}
 use Rattle.block_grammar.specs.Block.{block_hash}
 use Rattle.chain_commands.specs.Chain.{Chain, with_block}
@@ -65,14 +65,14 @@ data Comes (Done : Type 0) (old : RunState) (reply : Reply) (new : RunState) : T
   remains : (reply.code ≡ 0 → ⊥) → new ≡ old → Comes Done old reply new
 
 comes_weaker : (A B : Type 0) (old : RunState) (reply : Reply) (new : RunState) → (A → B) → Comes A old reply new → Comes B old reply new
-comes_weaker A B old reply new f (does zero done) = does zero (f done)
+comes_weaker A B old reply new f (does is_zero done) = does is_zero (f done)
 comes_weaker A B old reply new f (remains other same) = remains other same
 
 answers_come : {R : Type 0} (refusals : Refusals R) (Holds : R → Type 0) (Does : Reply → RunState → Type 0) (old : RunState) → DoesOne Does → ((r : R) → (refusals.reply_of r).code ≡ 0 → ⊥)
     → (reply : Reply) (new : RunState) → Answers refusals Holds Does old reply new → Comes (HasNoneBelow Holds refusals.order refusals.places × Does reply new) old reply new
 answers_come refusals Holds Does old d coded reply new (accepts none done) = does (d.code_is reply new done) (none, done)
-answers_come refusals Holds Does old d coded reply new (declines refusal first new-is told) = remains (λ zero. coded refusal (sym (code_of _ _ told) ∙ zero)) new-is
-answers_come refusals Holds Does old d coded reply new (lacks_memory none new-is told) = remains (λ zero. lacking_code (sym (code_of _ _ told) ∙ zero)) new-is
+answers_come refusals Holds Does old d coded reply new (declines refusal first new-is told) = remains (λ is_zero. coded refusal (sym (code_of _ _ told) ∙ is_zero)) new-is
+answers_come refusals Holds Does old d coded reply new (lacks_memory none new-is told) = remains (λ is_zero. lacking_code (sym (code_of _ _ told) ∙ is_zero)) new-is
 
 -- the command joins the state
 record Joins (old : RunState) (command : Command) (new : RunState) : Type 0 where
@@ -111,19 +111,19 @@ save_comes old new reply step =
     (answers_come saves (HoldsSave old) (LeavesSaved old) old (save_does old) coded_save reply new step)
 
 -- so of each event
-code_zero : {A B : Type 0} {old : RunState} {reply : Reply} {new : RunState} (D : RunState → Type 0) → Comes A old reply new → (A → D new) → reply.code ≡ 0 → D new
-code_zero D (does zero done) f is = f done
+code_zero : {A : Type 0} {old : RunState} {reply : Reply} {new : RunState} (D : RunState → Type 0) → Comes A old reply new → (A → D new) → reply.code ≡ 0 → D new
+code_zero D (does is_zero done) f is = f done
 code_zero D (remains other same) f is = absurd (other is)
 
 code_other : {A : Type 0} {old : RunState} {reply : Reply} {new : RunState} → Comes A old reply new → (reply.code ≡ 0 → ⊥) → new ≡ old
-code_other (does zero done) other = absurd (other zero)
+code_other (does is_zero done) other = absurd (other is_zero)
 code_other (remains not same) other = same
 
 pub step_leaves : (old new : RunState) (event : Event) (reply : Reply) → Step old event reply new → Leaves old event reply new
 step_leaves old new (Do command) reply step =
     let comes = command_comes old new command reply step in
     record { done = code_zero (λ (r : RunState). r ≡ accepted old command) comes (λ joins. joins.state_is); undone = code_other comes }
-step_leaves old new (Ask message) reply step = record { done = λ zero. step.unchanged; undone = λ other. step.unchanged }
+step_leaves old new (Ask message) reply step = record { done = λ is_zero. step.unchanged; undone = λ other. step.unchanged }
 step_leaves old new Save reply step =
     let comes = save_comes old new reply step in
     record { done = code_zero (IsSaved old) comes (λ saved. saved); undone = code_other comes }
@@ -138,8 +138,8 @@ accepted_first command reply later = if reply.code == 0 then command ∷ later e
 abbrev saved_first : Reply → ℕ → ℕ
 saved_first reply later = if reply.code == 0 then suc later else later
 
-joined_behind : (old new : RunState) (command : Command) (later : List Command) (saves : ℕ) → IsBehind (accepted old command) later saves new → IsBehind old (command ∷ later) saves new
-joined_behind old new command later saves more = record {
+joined_behind : (old new : RunState) (command : Command) (later : List Command) (count : ℕ) → IsBehind (accepted old command) later count new → IsBehind old (command ∷ later) count new
+joined_behind old new command later count more = record {
   base_is = more.base_is;
   host_is = more.host_is;
   start_is = more.start_is;
@@ -149,10 +149,10 @@ joined_behind old new command later saves more = record {
   text_is = more.text_is;
 }
 
-behind_command : (old mid new : RunState) (command : Command) (reply : Reply) (later : List Command) (saves : ℕ) → Comes (Joins old command mid) old reply mid
-    → IsBehind mid later saves new → IsBehind old (accepted_first command reply later) saves new
-behind_command old mid new command reply later saves (does zero joins) more = rw (eq-eqb reply.code 0 zero) (joined_behind old new command later saves (subst (λ (r : RunState). IsBehind r later saves new) joins.state_is more))
-behind_command old mid new command reply later saves (remains other mid-is) more = rw (ne_eqb reply.code 0 other) (subst (λ (r : RunState). IsBehind r later saves new) mid-is more)
+behind_command : (old mid new : RunState) (command : Command) (reply : Reply) (later : List Command) (count : ℕ) → Comes (Joins old command mid) old reply mid
+    → IsBehind mid later count new → IsBehind old (accepted_first command reply later) count new
+behind_command old mid new command reply later count (does is_zero joins) more = rw (eq-eqb reply.code 0 is_zero) (joined_behind old new command later count (subst (λ (r : RunState). IsBehind r later count new) joins.state_is more))
+behind_command old mid new command reply later count (remains other mid-is) more = rw (ne_eqb reply.code 0 other) (subst (λ (r : RunState). IsBehind r later count new) mid-is more)
 
 -- commands join what is since
 since_behind : (a b : RunState) (commands saved also : List Command) → a.since ++ saved ≡ b.since ++ also → (all_accepted a commands).since ++ saved ≡ (all_accepted b commands).since ++ also
@@ -167,25 +167,25 @@ text_behind run (command ∷ commands) is_text = text_behind (accepted run comma
 abbrev HasText : RunState → Type 0
 HasText run = IsTextOf Two (saved_chain run) run.text
 
-text_now : (old new : RunState) (text : List ℕ) (later : List Command) (saves : ℕ) → HasText (saved_by old text) → IsBehind (saved_by old text) later saves new → HasText new
+text_now : (old new : RunState) (text : List ℕ) (later : List Command) (count : ℕ) → HasText (saved_by old text) → IsBehind (saved_by old text) later count new → HasText new
 text_now old new text later zero is_text more = subst HasText (sym (more.unsaved refl)) (text_behind (saved_by old text) later is_text)
-text_now old new text later (suc saves) is_text more = more.text_is (omega arith)
+text_now old new text later (suc count) is_text more = more.text_is (omega arith)
 
-saved_behind : (old new : RunState) (text : List ℕ) (later : List Command) (saves : ℕ) → IsTextOf Two (chain_of old) text → IsBehind (saved_by old text) later saves new → IsBehind old later (suc saves) new
-saved_behind old new text later saves is_text more = record {
+saved_behind : (old new : RunState) (text : List ℕ) (later : List Command) (count : ℕ) → IsTextOf Two (chain_of old) text → IsBehind (saved_by old text) later count new → IsBehind old later (suc count) new
+saved_behind old new text later count is_text more = record {
   base_is = more.base_is;
   host_is = more.host_is;
   start_is = more.start_is;
   commands_are = more.commands_are ∙ since_behind (saved_by old text) old later (old.since ++ old.saved) old.saved refl;
   selections_are = omega (arith, more.selections_are);
   unsaved = λ none. absurd (omega (arith, none));
-  text_is = λ some. text_now old new text later saves (subst (λ (chain : Chain). IsTextOf Two chain text) (chain_of_all old) is_text) more;
+  text_is = λ some. text_now old new text later count (subst (λ (chain : Chain). IsTextOf Two chain text) (chain_of_all old) is_text) more;
 }
 
-behind_save : (old mid new : RunState) (reply : Reply) (later : List Command) (saves : ℕ) → Comes (IsSaved old mid) old reply mid → IsBehind mid later saves new → IsBehind old later (saved_first reply saves) new
-behind_save old mid new reply later saves (does zero saved) more =
-    rw (eq-eqb reply.code 0 zero) (saved_behind old new saved.text later saves saved.is_text (subst (λ (r : RunState). IsBehind r later saves new) saved.state_is more))
-behind_save old mid new reply later saves (remains other mid-is) more = rw (ne_eqb reply.code 0 other) (subst (λ (r : RunState). IsBehind r later saves new) mid-is more)
+behind_save : (old mid new : RunState) (reply : Reply) (later : List Command) (count : ℕ) → Comes (IsSaved old mid) old reply mid → IsBehind mid later count new → IsBehind old later (saved_first reply count) new
+behind_save old mid new reply later count (does is_zero saved) more =
+    rw (eq-eqb reply.code 0 is_zero) (saved_behind old new saved.text later count saved.is_text (subst (λ (r : RunState). IsBehind r later count new) saved.state_is more))
+behind_save old mid new reply later count (remains other mid-is) more = rw (ne_eqb reply.code 0 other) (subst (λ (r : RunState). IsBehind r later count new) mid-is more)
 
 nothing_behind : (old new : RunState) → new ≡ old → IsBehind old [] 0 new
 nothing_behind old new same = subst (IsBehind old [] 0) (sym same) (record {
@@ -211,7 +211,7 @@ run_state old new (Save ∷ events) (r ∷ replies) (mid, step, more) =
 
 chain_after : (old mid new : RunState) (command : Command) (reply : Reply) (later : List Command) → Comes (Joins old command mid) old reply mid
     → Surviving (chain_of mid) later (chain_of new) → Surviving (chain_of old) (accepted_first command reply later) (chain_of new)
-chain_after old mid new command reply later (does zero joins) more = rw (eq-eqb reply.code 0 zero) (chain_of mid, joins.survives, more)
+chain_after old mid new command reply later (does is_zero joins) more = rw (eq-eqb reply.code 0 is_zero) (chain_of mid, joins.survives, more)
 chain_after old mid new command reply later (remains other mid-is) more = rw (ne_eqb reply.code 0 other) (subst (λ (r : RunState). Surviving (chain_of r) later (chain_of new)) mid-is more)
 
 pub run_survives : (old new : RunState) (events : List Event) (replies : List Reply) → Run old events replies new → Surviving (chain_of old) (accepted_of events replies) (chain_of new)
@@ -231,7 +231,7 @@ step_keeps : (old new : RunState) (event : Event) (reply : Reply) → Step old e
 step_keeps old new (Do command) reply step has = by (command_comes old new command reply step)
   where
     by : Comes (Joins old command new) old reply new → HasSaved new
-    by (does zero joins) = subst HasSaved (sym joins.state_is) (command_keeps old command has)
+    by (does is_zero joins) = subst HasSaved (sym joins.state_is) (command_keeps old command has)
     by (remains other same) = subst HasSaved (sym same) has
 step_keeps old new (Ask message) reply step has = subst HasSaved (sym step.unchanged) has
 step_keeps old new Save reply step has = save_keeps old new reply step has

@@ -30,8 +30,8 @@ accepted_saves (Ask message ∷ events) (reply ∷ replies) = accepted_saves eve
 accepted_saves (Save ∷ events) (reply ∷ replies) =
     if reply.code == 0 then suc (accepted_saves events replies) else accepted_saves events replies
 
--- The base, its host and the start list stay, and the commands are the old ones and these, whether saved or since. Where nothing was
--- saved, the state is the old one with these commands; else the text is that of what is saved.
+-- The base, its host and the start list stay, and the commands are the old ones and these, whether saved or since. Where no save was
+-- accepted, the state is the old one with these commands; else the text is that of what is saved.
 pub record IsBehind (old : RunState) (commands : List Command) (saves : ℕ) (new : RunState) : Type 0 where
   pub base_is : new.base ≡ old.base
   pub host_is : new.host ≡ old.host
