@@ -10,3 +10,4 @@ pub mod SpellingLemmas
 pub mod RunLemmas
 pub mod DamageLaws
 pub mod FollowLaws
+pub mod SaveLemmas

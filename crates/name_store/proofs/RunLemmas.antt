@@ -140,16 +140,20 @@ module _ (base : Base) (host file : List ℕ) (is : BeginsSo base host file) (be
 
 -- ---- run states
 
+-- a file that has so many selections behind a header begins with it
+pub begins_front : (base : Base) (host file : List ℕ) (count : ℕ) → HasSelections (header_text base host) count file → BeginsSo base host file
+begins_front base host file count has = record {
+  begins = begins_with (header_text base host) (records_text (selections count)) file has.closed;
+  inside = omega (arith, has.closed.inside, length-append (header_text base host) (records_text (selections count)));
+}
+
 -- files that stand for a run state have its header and its selections
 module _ (files : Bytes) (run : RunState) (stands : Stands files run) where
   abbrev state : IsRunState run
   state = stands.is_state
 
   begins_so : BeginsSo run.base run.host (files 0)
-  begins_so = record {
-    begins = begins_with (header_text run.base run.host) (records_text (selections run.selections)) (files 0) stands.selections.closed;
-    inside = omega (arith, stands.selections.closed.inside, length-append (header_text run.base run.host) (records_text (selections run.selections)));
-  }
+  begins_so = begins_front run.base run.host (files 0) run.selections stands.selections
 
   pub standing_header : HasHeader (files 0)
   standing_header = header_told run.base run.host (files 0) begins_so state.begun

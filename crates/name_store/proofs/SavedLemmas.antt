@@ -17,7 +17,7 @@ use Rattle.chain_state.proofs.SoundLemmas.{valid_sound}
 use Rattle.chain_state.proofs.StandingLemmas.{base_stands}
 use Rattle.chain_commands.specs.Chain.{Chain}
 use Rattle.chain_commands.specs.Event.{Command, Connect, Disconnect}
-use Rattle.chain_commands.specs.RunState.{RunState, on_base, after_command, after_commands, saved_chain}
+use Rattle.chain_commands.specs.RunState.{RunState, on_base, after_command, after_commands, saved_chain, chain_of}
 use Rattle.index_commands.specs.Standing.{StandsFor}
 use Rattle.image_files.specs.Fronts.{HasFront, image_at}
 use Rattle.image_files.specs.Indexes.{BeginsWith, HasBadImage, no_front, damaged, other_base}
@@ -91,19 +91,24 @@ empty_undamaged base file at front none (no_front is not) = not front
 empty_undamaged base file at front none (damaged has some bad) = some none
 empty_undamaged base file at front none (other_base has some other) = some none
 
--- ---- of a run state
+-- ---- the base of a chain
 
 after_base : (chain : Chain) (command : Command) → (after_command chain command).base ≡ chain.base
 after_base chain (Connect block) = refl
 after_base chain (Disconnect hash) = refl
 
-module _ (run : RunState) (is : IsRunState run) where
-  saved_base : (commands : List Command) → (after_commands (on_base run.base run.start) commands).base ≡ run.base
-  saved_base [] = refl
-  saved_base (command ∷ commands) = after_base (after_commands (on_base run.base run.start) commands) command ∙ saved_base commands
+commands_base : (first : Chain) (commands : List Command) → (after_commands first commands).base ≡ first.base
+commands_base first [] = refl
+commands_base first (command ∷ commands) = after_base (after_commands first commands) command ∙ commands_base first commands
 
-  pub base_of : (saved_chain run).base ≡ run.base
-  base_of = saved_base run.saved
+pub chain_base : (run : RunState) → (chain_of run).base ≡ run.base
+chain_base run = commands_base (saved_chain run) run.since ∙ commands_base (on_base run.base run.start) run.saved
+
+-- ---- of a run state
+
+module _ (run : RunState) (is : IsRunState run) where
+  base_of : (saved_chain run).base ≡ run.base
+  base_of = commands_base (on_base run.base run.start) run.saved
 
   none_saved : run.saved ≡ [] → saved_chain run ≡ on_base run.base []
   none_saved none = λ i. after_commands (on_base run.base (is.start_is i)) (none i)

@@ -5,7 +5,7 @@ use Rattle.chain_commands.specs.RunState.{RunState}
 use Rattle.chain_commands.specs.Saving as machine
 use Rattle.chain_commands.specs.Saving.{IsSaved, HoldsSave, saves, longest_image, most_selections}
 use Rattle.image_slots.specs.Slotted.{with_one_more}
-use Rattle.image_files.specs.SavingIndex.{IsTextOfIndex}
+use Rattle.image_files.specs.SavingIndex.{IsTextOfIndex, HasLongText}
 use Rattle.name_store.specs.declared.store.Outcome.{Outcome}
 use Rattle.name_store.specs.declared.store.Outcome.TheVariants.{Done, Refused, NoMemory, Faulted}
 use Rattle.name_store.specs.declared.saving.SaveRefusal.{SaveRefusal}
@@ -45,16 +45,10 @@ pub record IsSavedStore (old new : Stored) (number : ℕ) : Type 0 where
   pub area : new.area ≡ 9 + length text
   pub number_is : number ≡ old.slots.count + 1
 
--- the index has a text that is longer than an image may be
-pub record HasLongText (old : Stored) : Type 0 where
-  pub text : List ℕ
-  pub is_text : IsTextOfIndex old.index text
-  pub long : longest_image < length text
-
 abbrev pub SavesOn : Stored → Outcome ℕ SaveRefusal → Type 0
 SavesOn old (Done store number) = (old.slots.count < most_selections) × IsSavedStore old store number
 SavesOn old (Refused store CheckpointLimit) = (store ≡ old) × (old.slots.count ≡ most_selections)
-SavesOn old (Refused store ImageLimit) = (store ≡ old) × (old.slots.count < most_selections) × HasLongText old
+SavesOn old (Refused store ImageLimit) = (store ≡ old) × (old.slots.count < most_selections) × HasLongText longest_image old.index
 SavesOn old (NoMemory store) = (store ≡ old) × (old.slots.count < most_selections)
 SavesOn old Faulted = old.slots.count < most_selections
 

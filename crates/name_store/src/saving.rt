@@ -37,19 +37,28 @@ impl Store {
         ensures leaves { LeavesDisk D.tells (SparesSelected self) (D.seen disk.old) (D.seen disk.new) result }
         ensures kept { KeepsOn D.tells self IsSaved (D.seen disk.old) (D.seen disk.new) result }
     {
-        let mut store = self;
-        match save_index(alloc, disk, &mut store.slots, &store.chain) {
+        let Store {
+            chain,
+            host,
+            mut slots,
+            area,
+        } = self;
+        match save_index(alloc, disk, &mut slots, &chain) {
             Ok(saved) => {
-                store.area = 9 + saved.image;
+                let store = Store::of(chain, host, slots, 9 + saved.image);
                 Outcome::Done(store, u64::from(saved.number))
             }
             Err(SaveFault::CheckpointLimit) => {
+                let store = Store::of(chain, host, slots, area);
                 Outcome::Refused(store, SaveRefusal::CheckpointLimit)
             }
-            Err(SaveFault::ImageLimit) => Outcome::Refused(store, SaveRefusal::ImageLimit),
-            Err(SaveFault::NoMemory) => Outcome::NoMemory(store),
+            Err(SaveFault::ImageLimit) => {
+                let store = Store::of(chain, host, slots, area);
+                Outcome::Refused(store, SaveRefusal::ImageLimit)
+            }
+            Err(SaveFault::NoMemory) => Outcome::NoMemory(Store::of(chain, host, slots, area)),
             Err(SaveFault::DiskFault) => {
-                let_go(store);
+                let_go(Store::of(chain, host, slots, area));
                 Outcome::Faulted
             }
         }

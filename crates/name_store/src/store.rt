@@ -135,13 +135,25 @@ impl Store {
         let staged = match stage_bytes(alloc, chain, bytes, area, LONGEST_AREA, steps) {
             StageOutcome::Staged(staged) => staged,
             StageOutcome::Refused(chain, refusal) => {
-                return Outcome::Refused(Store::of(chain, host, slots, area), refusal);
+                let store = Store {
+                    chain,
+                    host,
+                    slots,
+                    area,
+                };
+                return Outcome::Refused(store, refusal);
             }
             StageOutcome::NoMemory(chain) => {
-                return Outcome::NoMemory(Store::of(chain, host, slots, area));
+                return Outcome::NoMemory(Store {
+                    chain,
+                    host,
+                    slots,
+                    area,
+                });
             }
         };
-        match keep(disk, slots.selected(), area, CONNECT, bytes) {
+        let file = slots.selected();
+        match keep(disk, file, area, CONNECT, bytes) {
             Ok(area) => Store::done(staged.commit(steps), host, slots, area),
             Err(_) => {
                 let_go(staged);
@@ -177,13 +189,25 @@ impl Store {
         let staged = match stage_hash(alloc, chain, hash, area, LONGEST_AREA, steps) {
             BackOutcome::StagedBack(staged) => staged,
             BackOutcome::Refused(chain, refusal) => {
-                return Outcome::Refused(Store::of(chain, host, slots, area), refusal);
+                let store = Store {
+                    chain,
+                    host,
+                    slots,
+                    area,
+                };
+                return Outcome::Refused(store, refusal);
             }
             BackOutcome::NoMemory(chain) => {
-                return Outcome::NoMemory(Store::of(chain, host, slots, area));
+                return Outcome::NoMemory(Store {
+                    chain,
+                    host,
+                    slots,
+                    area,
+                });
             }
         };
-        match keep(disk, slots.selected(), area, DISCONNECT, &hash.0) {
+        let file = slots.selected();
+        match keep(disk, file, area, DISCONNECT, &hash.0) {
             Ok(area) => Store::done(staged.commit(steps), host, slots, area),
             Err(_) => {
                 let_go_back(staged);
