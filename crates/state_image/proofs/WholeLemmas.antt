@@ -91,5 +91,5 @@ module _ (text : List ℕ) (r : Reading) (whole : IsReadWhole text r) (base : Ba
     pub whole_fault : (fault : ImageFault) → Judges r.version base parts new (Err fault) → IsImageAnswer text (Err fault)
     whole_fault (Damaged at) is =
         let form : image_from text ≡ Ok ((standing r).gathered, []) = image_read text r.version (standing r).gathered [] whole.read in
-        record { none = no_sound is.0 is.1.0; at_is = is.1.1 ∙ ap (place_by text) (sym form) }
+        record { none = no_sound is.0 is.1; at_is = is.2 ∙ ap (place_by text) (sym form) }
     whole_fault NoMemory is = tt
