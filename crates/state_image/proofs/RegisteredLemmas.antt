@@ -1,13 +1,12 @@
 -- What parts are once they have the registration heights that their text leaves out.
 use Rattle.std.proofs.Common.{◌≡◌, ℕ, List, [], ◌∷◌, map, refl, sym, ap, subst, ◌∙◌, arith}
 use Rattle.std.specs.Prelude.{reverse}
-use Rattle.std.specs.List.{AllByRecursion}
 use Rattle.nmc_base.specs.declared.chain_ends.Base.{Base}
 use Rattle.chain_names.specs.Coins.{Maps}
 use Rattle.chain_names.specs.Tables.{coins_in, names_in, queued_in, queue_of, AreCoinsFilled, IsQueueFilled}
 use Rattle.chain_names.specs.Undo.{UndoRecord}
 use Rattle.name_tables.specs.Parts.{newest_first, tables_of}
-use Rattle.name_tables.specs.Tables.{maps_by, AreFilled}
+use Rattle.name_tables.specs.Tables.{AreFilled}
 use Rattle.name_tables.specs.declared.parts.Parts.{Parts}
 use Rattle.sound_states.specs.Walk.{HasFewCoins}
 use Rattle.undo_records.specs.declared.version.Version.{Version}

@@ -3,19 +3,19 @@ use Rattle.std.proofs.Common.{◌≡◌, ℕ, ◌≤◌, ◌^◌, List, [], leng
 use Rattle.std.specs.Prelude.{Result, Ok, Err}
 use Rattle.nmc_base.specs.declared.chain_ends.Base.{Base}
 use Rattle.chain_names.specs.Tables.{coins_in, queued_in, queue_of}
-use Rattle.name_tables.specs.Parts.{newest_first, tables_of}
+use Rattle.name_tables.specs.Parts.{newest_first}
 use Rattle.name_tables.specs.Tables.{maps_by, AreFilled}
 use Rattle.name_tables.specs.declared.tables.Tables.{Tables}
 use Rattle.name_tables.specs.declared.parts.Parts.{Parts}
 use Rattle.undo_records.specs.declared.version.Version.{Version}
-use Rattle.image_grammar.specs.Answers.{Holds, IsTextOf}
+use Rattle.image_grammar.specs.Answers.{IsTextOf}
 use Rattle.image_grammar.specs.Image.{Image, image_told}
 use Rattle.image_grammar.specs.Stages.{image_from}
 use Rattle.image_grammar.specs.Text.{image_text}
 use Rattle.image_grammar.proofs.FewLaws.{few_coins}
 use Rattle.image_grammar.proofs.OneLaws.{image_one, version_one}
 use Rattle.image_grammar.proofs.ReadLaws.{image_takes}
-use Rattle.state_image.specs.Answers.{IsSoundText, IsImageOfParts, IsSoundOn, IsLoaded, IsDamaged, place_by, IsImageAnswer}
+use Rattle.state_image.specs.Answers.{IsSoundText, IsImageOfParts, IsSoundOn, IsLoaded, place_by, IsImageAnswer}
 use Rattle.state_image.specs.Forming.{AreFormed, IsReadWhole, AreOf, Judges, TellsFault}
 use Rattle.state_image.specs.Registering.{AreRegistered}
 use Rattle.state_image.specs.Standing.{standing}

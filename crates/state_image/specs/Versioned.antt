@@ -1,5 +1,4 @@
 -- Reading an image with the version of its text.
-use Rattle.std.specs.Prelude.{ℕ}
 use Rattle.block_grammar.specs.Combinators.{◌>>=◌, map_from}
 use Rattle.undo_records.specs.declared.version.Version.{Version}
 use Rattle.undo_records.specs.Reading.{Reads}
