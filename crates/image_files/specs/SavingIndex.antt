@@ -1,5 +1,5 @@
 -- A save of an index: the text that is written, and why there is none.
-use Rattle.std.specs.Prelude.{◌≡◌, ℕ, ◌<◌, ◌≤◌, Bool, List, length, Result, Ok, Err, OnErr}
+use Rattle.std.specs.Prelude.{◌≡◌, ℕ, ◌<◌, Bool, List, length, Result, Ok, Err, OnErr}
 use Rattle.disk_model.specs.DiskSeen.{DiskSeen, EndsWith}
 use Rattle.disk_model.specs.declared.disk.Failed.{Failed}
 use Rattle.undo_records.specs.declared.version.Version.TheVariants.{Two}

@@ -1,7 +1,6 @@
 //! How a save of an index ends.
 ghost use Rattle.std.specs.Prelude.{◌≡◌};
 
-use disk_model::Failed;
 use nmc_base::NoMemory as NoRoom;
 
 /// An index was saved.
@@ -28,17 +27,6 @@ pub enum SaveFault {
 
     /// There was no memory for the order of coins and names. The disk was not asked.
     NoMemory,
-}
-
-impl From<Failed> for SaveFault {
-    ghost use Rattle.std.specs.Prelude.{◌≡◌};
-    ghost use Rattle.image_files.specs.declared.saved.SaveFault.TheVariants.{DiskFault};
-
-    ghost from_gives = { λ _ e. e ≡ DiskFault };
-
-    fn from(_: Failed) -> Self {
-        SaveFault::DiskFault
-    }
 }
 
 impl From<NoRoom> for SaveFault {

@@ -8,7 +8,7 @@ ghost use Rattle.image_files.specs.SavingIndex.{IsTextOfIndex, SavesIndex};
 use crate::saved::{SaveFault, Saved};
 use crate::writing::write_image;
 use chain_state::Chain;
-use disk_model::Disk;
+use disk_model::{Disk, Failed};
 use image_slots::Slots;
 use image_writer::{ImageText, image_len, image_text};
 use nmc_base::NoMemory;
@@ -54,6 +54,8 @@ pub fn save_index<D: Disk>(
     if image > limits.image {
         return Err(SaveFault::ImageLimit);
     }
-    let number = write_image(disk, slots, text, image)?;
-    Ok(Saved { number, image })
+    match write_image(disk, slots, text, image) {
+        Ok(number) => Ok(Saved { number, image }),
+        Err(Failed) => Err(SaveFault::DiskFault),
+    }
 }
