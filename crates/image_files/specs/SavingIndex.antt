@@ -25,21 +25,34 @@ pub record HasLongText (most : ℕ) (index : Indexed) : Type 0 where
   pub is_text : IsTextOfIndex index text
   pub long : most < length text
 
--- A text of the index, for which there was room, was written as an image.
-pub record WritesIndex (tells : Bool) (index : Indexed) (old new : Slotted) (before after : DiskSeen) (result : Result ℕ Failed) : Type 0 where
-  pub text : List ℕ
+-- there is room for this text of the index, of so many bytes
+pub record HasRoomFor (index : Indexed) (slots : Slotted) (text : List ℕ) (image : ℕ) : Type 0 where
   pub is_text : IsTextOfIndex index text
-  pub room : HasRoom old.limits old.count (length text)
+  pub room : HasRoom slots.limits slots.count image
+  pub image_is : image ≡ length text
+
+-- Why no text of the index is written: the limit of selections comes before want of memory, and that of images behind it.
+abbrev pub RefusesIndex : Indexed → Slotted → SaveFault → Type 0
+RefusesIndex index slots CheckpointLimit = slots.count ≡ slots.limits.selections
+RefusesIndex index slots NoMemory = slots.count < slots.limits.selections
+RefusesIndex index slots ImageLimit = (slots.count < slots.limits.selections) × HasLongText slots.limits.image index
+RefusesIndex index slots DiskFault = ⊥
+
+abbrev pub TextAnswer : Indexed → Slotted → Result (List ℕ × ℕ) SaveFault → Type 0
+TextAnswer index slots (Ok (text, image)) = HasRoomFor index slots text image
+TextAnswer index slots (Err fault) = RefusesIndex index slots fault
+
+-- A text of the index, of so many bytes, was written as an image.
+pub record WritesIndex (tells : Bool) (index : Indexed) (old new : Slotted) (image : ℕ) (before after : DiskSeen) (result : Result ℕ Failed) : Type 0 where
+  pub text : List ℕ
+  pub room : HasRoomFor index old text image
   pub writes : WritesImage tells old new text before after result
 
--- The answers exclude one another but for want of memory, which may stand in the place of those below it: the limit of selections comes
--- before it, and that of images behind.
+-- The answers exclude one another but for want of memory, which may stand in the place of those behind it.
 abbrev pub SaveAnswer : Bool → Indexed → Slotted → Slotted → DiskSeen → DiskSeen → Result Saved SaveFault → Type 0
-SaveAnswer tells index old new before after (Ok saved) = (written : WritesIndex tells index old new before after (Ok saved.number)) × (saved.image ≡ length written.text)
-SaveAnswer tells index old new before after (Err CheckpointLimit) = old.count ≡ old.limits.selections
-SaveAnswer tells index old new before after (Err NoMemory) = old.count < old.limits.selections
-SaveAnswer tells index old new before after (Err ImageLimit) = (old.count < old.limits.selections) × HasLongText old.limits.image index
-SaveAnswer tells index old new before after (Err DiskFault) = WritesIndex tells index old new before after (Err (record {}))
+SaveAnswer tells index old new before after (Ok saved) = WritesIndex tells index old new saved.image before after (Ok saved.number)
+SaveAnswer tells index old new before after (Err DiskFault) = (image : ℕ) × WritesIndex tells index old new image before after (Err (record {}))
+SaveAnswer tells index old new before after (Err fault) = RefusesIndex index old fault
 
 -- The index was saved, or the slots stay as they were.
 pub record SavesIndex (tells : Bool) (index : Indexed) (old new : Slotted) (before after : DiskSeen) (result : Result Saved SaveFault) : Type 0 where

@@ -3,7 +3,7 @@ ghost use Rattle.std.specs.Prelude.{◌≡◌, ℕ, ◌-◌, ◌^◌, List, leng
 ghost use Rattle.disk_model.specs.DiskSeen.{file_in};
 ghost use Rattle.image_slots.specs.Selections.{selections_file};
 ghost use Rattle.image_slots.specs.Slotted.{AreOn};
-ghost use Rattle.image_files.specs.SavingIndex.{IsTextOfIndex, SavesIndex};
+ghost use Rattle.image_files.specs.SavingIndex.{IsTextOfIndex, TextAnswer, SavesIndex};
 
 use crate::saved::{SaveFault, Saved};
 use crate::writing::write_image;
@@ -28,6 +28,26 @@ fn index_len(index: &Chain) -> u64
     image_len(index.base(), index.parts())
 }
 
+/// The text of the index and its length, where there is room for such an image.
+fn text_to_save<'a>(
+    alloc: Global,
+    slots: &Slots,
+    index: &'a Chain,
+) -> Result<(ImageText<'a>, u64), SaveFault>
+    ensures { TextAnswer index.now slots.now result }
+{
+    let limits = slots.limits();
+    if slots.count() >= limits.selections {
+        return Err(SaveFault::CheckpointLimit);
+    }
+    let text = index_text(alloc, index)?;
+    let image = index_len(index);
+    if image > limits.image {
+        return Err(SaveFault::ImageLimit);
+    }
+    Ok((text, image))
+}
+
 /// Saves an index: writes its image to the area that is not selected, syncs that and selects it.
 ///
 /// A crash at any moment leaves the old selection and its area, or the new one with the whole image in its area. Memory is taken for
@@ -45,15 +65,7 @@ pub fn save_index<D: Disk>(
     ensures too_long { IsErrOf result SaveFault.ImageLimit → disk.new ≡ disk.old }
     ensures no_memory { IsErrOf result SaveFault.NoMemory → disk.new ≡ disk.old }
 {
-    let limits = slots.limits();
-    if slots.count() >= limits.selections {
-        return Err(SaveFault::CheckpointLimit);
-    }
-    let text = index_text(alloc, index)?;
-    let image = index_len(index);
-    if image > limits.image {
-        return Err(SaveFault::ImageLimit);
-    }
+    let (text, image) = text_to_save(alloc, slots, index)?;
     match write_image(disk, slots, text, image) {
         Ok(number) => Ok(Saved { number, image }),
         Err(Failed) => Err(SaveFault::DiskFault),
