@@ -1,2 +1,7 @@
 pub mod PieceLemmas
 pub mod SaveLemmas
+pub mod FrontLemmas
+pub mod FeedLemmas
+pub mod IndexLemmas
+pub mod StateLaws
+pub mod AreaLaws
