@@ -1,8 +1,7 @@
 -- The front of a file, by the eight bytes that were read of it.
-use Rattle.std.proofs.Common.{◌≡◌, ℕ, zero, ◌+◌, ◌<◌, ◌≤◌, List, [], ◌++◌, length, take, drop, get_or, sym, ◌∙◌, ap, subst, arith, length-take, length-drop}
+use Rattle.std.proofs.Common.{◌≡◌, ℕ, ◌+◌, ◌≤◌, List, ◌++◌, length, take, drop, sym, ◌∙◌, ap, subst, arith, length-take, length-drop}
 use Rattle.std.specs.Int.{w64, to_le_bytes, from_le_bytes}
 use Rattle.std.proofs.lemmas.List.{take_all}
-use Rattle.std.proofs.lemmas.Nat.{le_bytes_8}
 use Rattle.disk_model.specs.Reads.{IsRead}
 use Rattle.gate_journal.specs.Records.{image_front}
 use Rattle.gate_journal.proofs.ReadLemmas.{take_more_of}
@@ -17,13 +16,13 @@ module _ (file into : List ℕ) (n : ℕ) (read : IsRead file 0 8 n into) (whole
   length_read : 8 ≤ length file → image ≡ image_length_at file
   length_read long = image_is ∙ ap (λ (l : List ℕ). from_le_bytes w64 l) (bytes_read long)
 
-  pub front_read : LiesInside image (length file) → ((i : ℕ) → get_or into i 0 < 256) → HasLength file image
-  front_read lies fit =
+  pub front_read : LiesInside image (length file) → to_le_bytes w64 image ≡ into → HasLength file image
+  front_read lies bytes =
       let long : 8 ≤ length file = omega (arith, lies.long) in
       record {
         front = subst (λ (k : ℕ). LiesInside k (length file)) (length_read long) lies;
         length_is = length_read long;
-        bytes = le_bytes_8 into image whole fit image_is ∙ bytes_read long;
+        bytes = bytes ∙ bytes_read long;
       }
 
   pub no_front_read : ¬ (LiesInside image (length file)) → ¬ (HasFront file)

@@ -1,5 +1,6 @@
 pub mod PieceLemmas
 pub mod SaveLemmas
+pub mod OnlyLemmas
 pub mod FrontLemmas
 pub mod FeedLemmas
 pub mod IndexLemmas
