@@ -17,7 +17,7 @@ use Rattle.state_image.specs.Answers.{IsSoundText}
 use Rattle.chain_state.specs.Chain.{Indexed, IsAtBase, SameIndex, newest_hash}
 use Rattle.image_files.specs.Fronts.{LiesInside, HasFront, image_length_at, image_at}
 use Rattle.image_files.specs.Indexes.{IsIndexBy, IsIndexOf, BeginsWith, HasBadImage, no_front, damaged, other_base}
-use Rattle.image_files.specs.Saved.{IsSavedText}
+use Rattle.image_files.specs.SavedTexts.{IsSavedText}
 use Rattle.image_files.proofs.StateLaws.{SameState, one_state, saved_sound}
 
 -- ---- one place of damage

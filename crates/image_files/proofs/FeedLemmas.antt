@@ -8,7 +8,6 @@ use Rattle.undo_records.specs.declared.fault.FaultKind.TheVariants.{Cut, BadTag,
 use Rattle.image_grammar.specs.Resuming.{Answer}
 use Rattle.image_grammar.specs.Stages.{Gathered}
 use Rattle.state_image.specs.Answers.{IsImageAnswer, IsDamaged, place_by}
-use Rattle.state_image.specs.Accepting.{taken_from}
 use Rattle.state_image.specs.Loading.{Loading, HasRead, Takes}
 use Rattle.state_image.specs.declared.fault.ImageFault.{ImageFault}
 use Rattle.state_image.specs.declared.fault.ImageFault.TheVariants as image
@@ -21,14 +20,14 @@ use Rattle.image_files.specs.Reading.{HasFed, Feeds, FedAnswer}
 
 -- ---- places
 
-place_low : (text : List ℕ) (answer : Answer Gathered) → place_by text answer ≤ length text
-place_low text (Ok x) = omega arith
-place_low text (Err (Cut, rest)) = omega arith
-place_low text (Err (BadTag, rest)) = omega arith
-place_low text (Err (Unsorted, rest)) = omega arith
+place_low : (text : List ℕ) (at : ℕ) (answer : Answer Gathered) → at ≡ place_by text answer → at ≤ length text
+place_low text at (Ok x) is = omega arith
+place_low text at (Err (Cut, rest)) is = omega arith
+place_low text at (Err (BadTag, rest)) is = omega arith
+place_low text at (Err (Unsorted, rest)) is = omega arith
 
 pub end_place : (text : List ℕ) (fault : ImageFault) → length text ≤ 2 ^ 37 → IsImageAnswer text (Err fault) → HasPlace fault
-end_place text (image.Damaged at) low damaged = omega (arith, low, damaged.at_is, place_low text (taken_from text))
+end_place text (image.Damaged at) low damaged = omega (arith, low, place_low text at _ damaged.at_is)
 end_place text image.NoMemory low none = tt
 
 pub piece_place : (text : List ℕ) (l : Loading) (fault : ImageFault) → length text ≤ 2 ^ 37 → Takes text l (Err fault) → HasPlace fault

@@ -3,6 +3,6 @@ pub mod SaveLemmas
 pub mod OnlyLemmas
 pub mod FrontLemmas
 pub mod FeedLemmas
-pub mod IndexLemmas
+pub mod LoadedLemmas
 pub mod StateLaws
 pub mod AreaLaws

@@ -14,7 +14,6 @@ use Rattle.undo_records.specs.Versions.{told}
 use Rattle.image_grammar.specs.Image.{Image, History, item_told, history_told, image_told, maps_listed, IsImageOf}
 use Rattle.image_grammar.specs.Text.{image_text}
 use Rattle.image_grammar.proofs.OneLaws.{version_one, image_one}
-use Rattle.image_grammar.proofs.WrittenLaws.{written-sound}
 use Rattle.registrations.specs.Images.{AreToldAlike}
 use Rattle.registrations.proofs.ImageLemmas.{told_alike}
 use Rattle.registrations.proofs.OnlyLemmas.{same_sound}
@@ -22,7 +21,7 @@ use Rattle.registrations.proofs.SoundLemmas.{sound_following}
 use Rattle.chain_state.specs.Chain.{Indexed, newest_hash}
 use Rattle.state_image.specs.Answers.{IsSoundImage, IsSoundText}
 use Rattle.image_files.specs.Indexes.{IsIndexBy}
-use Rattle.image_files.specs.Saved.{IsSavedText, IsIndexOfState}
+use Rattle.image_files.specs.SavedTexts.{IsSavedText, IsIndexOfState}
 
 -- the same base, records and state
 pub record SameState (image other : Image) : Type 0 where
@@ -107,7 +106,7 @@ module _ (version : Version) (base : Base) (undos : List UndoRecord) (maps : Map
   pub saved_sound : IsSoundText text version image
   saved_sound = record {
     accepted = saved.accepted;
-    has_text = written-sound version base saved.tip undos maps text saved.is_text saved.widths saved.sound saved.short;
+    has_text = saved.has_text;
     text_is = saved.is_text.text_is;
     sound = sound_image;
   }

@@ -6,4 +6,4 @@ pub mod Faults
 pub mod Fronts
 pub mod Indexes
 pub mod Reading
-pub mod Saved
+pub mod SavedTexts

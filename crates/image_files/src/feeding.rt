@@ -46,7 +46,8 @@ fn feed_piece<D: Disk>(
     requires has_fed { HasFed D.tells (bytes_in (D.seen disk.old) file) loader.old }
     ensures { FeedsPiece D.tells file left loader.old loader.new (D.seen disk.old) (D.seen disk.new) result }
 {
-    let count = left.min(disk.read(file, LENGTH_SIZE + fed, buffer)? as u64);
+    let read = disk.read(file, LENGTH_SIZE + fed, buffer)?;
+    let count = left.min(read as u64);
     // The file was longer when its length was asked for.
     if count == 0 {
         return Err(ReadFault::Damaged { at: 0 });

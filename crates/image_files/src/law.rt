@@ -15,7 +15,7 @@ ghost use Rattle.state_image.specs.Answers.{IsSoundText};
 ghost use Rattle.chain_state.specs.Chain.{Indexed, SameIndex};
 ghost use Rattle.image_files.specs.Fronts.{HasFront, image_at};
 ghost use Rattle.image_files.specs.Indexes.{IsIndexBy, BeginsWith, HasBadImage};
-ghost use Rattle.image_files.specs.Saved.{IsSavedText, IsIndexOfState};
+ghost use Rattle.image_files.specs.SavedTexts.{IsSavedText, IsIndexOfState};
 
 /// The law of saves. A crash at a moment of a save leaves the old selections and the old area that they select, or one selection more
 /// and the whole image in the area that it names.

@@ -1,5 +1,5 @@
 -- A saved text, and the index of its state.
-use Rattle.std.specs.Prelude.{◌≡◌, ℕ, ◌+◌, ◌≤◌, ◌^◌, List, length}
+use Rattle.std.specs.Prelude.{◌≡◌, ℕ, ◌+◌, List, length}
 use Rattle.nmc_base.specs.declared.chain_ends.Base.{Base}
 use Rattle.chain_names.specs.Coins.{Maps}
 use Rattle.chain_names.specs.Sound.{IsSound}
@@ -7,20 +7,19 @@ use Rattle.chain_names.specs.Tables.{coins_in, queued_in, queue_of}
 use Rattle.chain_names.specs.Undo.{UndoRecord}
 use Rattle.name_tables.specs.Tables.{maps_by, AreFilled}
 use Rattle.undo_records.specs.declared.version.Version.{Version}
+use Rattle.image_grammar.specs.Image.{HasText}
 use Rattle.image_grammar.specs.Text.{IsStateText}
-use Rattle.image_grammar.specs.Widths.{HaveWidths}
 use Rattle.state_image.specs.Accepting.{Accepts}
 use Rattle.chain_state.specs.Chain.{Indexed, newest_hash}
 
--- The state is sound with the records that undo the blocks on this base, the newest first. This is its text in a version that is
--- taken, no longer than an image may be.
+-- The state is sound with the records that undo the blocks on this base, the newest first. This is its text, in a version that is
+-- taken: that of an image that is read again.
 pub record IsSavedText (version : Version) (base : Base) (undos : List UndoRecord) (maps : Maps) (text : List ℕ) : Type 0 where
   pub is_text : IsStateText version base undos maps text
   pub accepted : Accepts version
-  pub widths : HaveWidths base undos maps
+  pub has_text : HasText is_text.image
   pub tip : ℕ
   pub sound : IsSound base.profile base.height tip maps undos
-  pub short : length text ≤ 2 ^ 37
 
 -- the index of a state with these records
 pub record IsIndexOfState (base : Base) (undos : List UndoRecord) (maps : Maps) (index : Indexed) : Type 0 where
