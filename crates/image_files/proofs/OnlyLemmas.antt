@@ -1,6 +1,6 @@
 -- Calls that only read the disk, one after the other.
-use Rattle.std.proofs.Common.{◌≡◌, ◌≢◌, inl, inr, ℕ, ◌+◌, Bool, List, refl, sym, ◌∙◌, ap, arith}
-use Rattle.std.specs.Prelude.{Result, Ok, Err, IsTrue, IsFalse}
+use Rattle.std.proofs.Common.{◌≡◌, ◌≢◌, inl, inr, ℕ, ◌+◌, Bool, List, refl, sym, ◌∙◌, ap, subst, arith}
+use Rattle.std.specs.Prelude.{Result, Ok, Err, IsTrue, IsFalse, IsErrAnd}
 use Rattle.fault_counts.specs.Faults.{Faults, NeverFell, Rose}
 use Rattle.disk_model.specs.Moments.{Files, EachMoment, start}
 use Rattle.disk_model.specs.Changes.{Unchanged}
@@ -11,6 +11,7 @@ use Rattle.gate_journal.proofs.ReadLemmas.{unchanged_then}
 use Rattle.image_files.specs.declared.fault.ReadFault.{ReadFault}
 use Rattle.image_files.specs.declared.fault.ReadFault.TheVariants.{Damaged, DiskFault, NoMemory}
 use Rattle.image_files.specs.Reading.{OnlyReads}
+use Rattle.image_files.proofs.SaveLemmas.{on_ok}
 
 -- no write and no cut was asked for, and no file has changed
 pub record Quiet (tells : Bool) (old new : DiskSeen) : Type 0 where
@@ -75,7 +76,17 @@ module _ {T : Type 0} (tells : Bool) (old new : DiskSeen) (quiet : Quiet tells o
   only_other fault other =
       record { unchanged = quiet.unchanged; ends = record { later = quiet.later; worked = tt; failed = λ is. absurd (other cc) }; reads = quiet.reads }
 
+  -- the last call worked, and whatever fault came is none of the disk
+  pub only_since : (result : Result T ReadFault) → IsFalse new.failed → (result ≡ Err DiskFault → ⊥) → OnlyReads tells old new result
+  only_since result worked not =
+      record { unchanged = quiet.unchanged; ends = record { later = quiet.later; worked = on_ok result worked; failed = λ is. absurd (not is) }; reads = quiet.reads }
+
 -- the same fault, in the place of another value
 pub only_fault : {T U : Type 0} (tells : Bool) (old new : DiskSeen) (fault : ReadFault) → OnlyReads {T = T} tells old new (Err fault) → OnlyReads {T = U} tells old new (Err fault)
 only_fault tells old new fault only =
     record { unchanged = only.unchanged; ends = record { later = only.ends.later; worked = tt; failed = λ is. only.ends.failed (ap (λ (f : ReadFault). Err f) cc) }; reads = only.reads }
+
+-- a fault that was passed on
+pub as_fault : {T : Type 0} (P : Result T ReadFault → Type 0) (result : Result T ReadFault) (fault : ReadFault) → IsErrAnd result (λ e. e ≡ fault) → P (Err fault) → P result
+as_fault P (Ok value) fault passed holds = absurd passed
+as_fault P (Err e) fault passed holds = subst (λ (f : ReadFault). P (Err f)) (sym passed) holds
