@@ -1,5 +1,5 @@
 -- An area begins with one index, or has one place of damage.
-use Rattle.std.proofs.Common.{◌≡◌, ◌≢◌, ℕ, ◌+◌, ◌<◌, ◌≤◌, ◌^◌, List, [], ◌∷◌, ◌++◌, length, take, drop, refl, sym, ◌∙◌, ap, subst, arith, length-append, reverse}
+use Rattle.std.proofs.Common.{◌≡◌, ◌≢◌, ℕ, ◌+◌, ◌≤◌, ◌^◌, List, [], ◌∷◌, ◌++◌, length, take, drop, refl, sym, ◌∙◌, ap, subst, arith, length-append, reverse}
 use Rattle.std.specs.Int.{w64, to_le_bytes, from_le_bytes}
 use Rattle.std.proofs.lemmas.List.{take_at, drop_at, take-take, drop-take}
 use Rattle.std.proofs.lemmas.Nat.{from_le_bytes-to_le_bytes_8}
@@ -124,7 +124,8 @@ module _ (image : List ℕ) (records : List (List ℕ)) (file : List ℕ) (short
   size = to_le_bytes w64 (length image)
 
   begins : take (8 + length image) file ≡ size ++ image
-  begins = begins_with (image_front image) (records_text records) file is.closed
+  begins =
+      ap (λ (k : ℕ). take k file) (sym (length-append size image)) ∙ begins_with (image_front image) (records_text records) file is.closed
 
   size_at : take 8 file ≡ size
   size_at = sym (take-take 8 (8 + length image) file (omega arith)) ∙ ap (λ (l : List ℕ). take 8 l) begins ∙ take_at size image 8 refl

@@ -1,13 +1,13 @@
 -- Feeding an image piece by piece.
-use Rattle.std.proofs.Common.{◌≡◌, ℕ, ◌+◌, ◌-◌, ◌<◌, ◌≤◌, ◌^◌, Bool, List, [], ◌++◌, length, take, drop, refl, sym, ◌∙◌, ap, subst, arith, take-append-drop}
-use Rattle.std.specs.Prelude.{Result, Ok, Err, IsTrue}
+use Rattle.std.proofs.Common.{◌≡◌, ◌≢◌, ℕ, ◌+◌, ◌≤◌, ◌^◌, Bool, List, [], ◌++◌, length, take, drop, refl, sym, ◌∙◌, ap, subst, arith, take-append-drop}
+use Rattle.std.specs.Prelude.{Ok, Err, IsTrue}
 use Rattle.std.proofs.lemmas.List.{take-take, drop-drop}
 use Rattle.disk_model.specs.Reads.{IsRead}
 use Rattle.gate_journal.proofs.ReadLemmas.{take_more_of}
 use Rattle.undo_records.specs.declared.fault.FaultKind.TheVariants.{Cut, BadTag, Unsorted}
 use Rattle.image_grammar.specs.Resuming.{Answer}
 use Rattle.image_grammar.specs.Stages.{Gathered}
-use Rattle.state_image.specs.Answers.{IsImageAnswer, IsDamaged, place_by}
+use Rattle.state_image.specs.Answers.{IsImageAnswer, place_by}
 use Rattle.state_image.specs.Loading.{Loading, HasRead, Takes}
 use Rattle.state_image.specs.declared.fault.ImageFault.{ImageFault}
 use Rattle.state_image.specs.declared.fault.ImageFault.TheVariants as image
@@ -36,15 +36,15 @@ piece_place text l image.NoMemory low none = tt
 
 -- ---- one piece
 
-pub feeds_fault : {T : Type 0} (text : List ℕ) (l : Loading) (fault : ImageFault) → Takes text l (Err fault) → Feeds text l {T = T} (Err (of_image fault))
-feeds_fault text l (image.Damaged at) stopped = λ more. record { place = at; damaged = stopped.damaged more; at_is = refl }
-feeds_fault text l image.NoMemory none = tt
+pub feeds_fault : (T : Type 0) (text : List ℕ) (l : Loading) (fault : ImageFault) → Takes text l (Err fault) → Feeds text l {T = T} (Err (of_image fault))
+feeds_fault T text l (image.Damaged at) stopped = λ more. record { place = at; damaged = stopped.damaged more; at_is = refl }
+feeds_fault T text l image.NoMemory none = tt
 
 -- a fault of a text's front is one of the text
-pub front_fault : {T U : Type 0} (text more whole : List ℕ) (l : Loading) (fault : ReadFault) → text ++ more ≡ whole → Feeds text l {T = T} (Err fault) → FedAnswer whole {T = U} (Err fault)
-front_fault text more whole l (Damaged at) is feeds = subst (λ (w : List ℕ). IsDamagedAt w at) is (feeds more)
-front_fault text more whole l DiskFault is feeds = tt
-front_fault text more whole l NoMemory is feeds = tt
+pub front_fault : (T U : Type 0) (text more whole : List ℕ) (l : Loading) (fault : ReadFault) → text ++ more ≡ whole → Feeds text l {T = T} (Err fault) → FedAnswer whole {T = U} (Err fault)
+front_fault T U text more whole l (Damaged at) is feeds = subst (λ (w : List ℕ). IsDamagedAt w at) is (feeds more)
+front_fault T U text more whole l DiskFault is feeds = tt
+front_fault T U text more whole l NoMemory is feeds = tt
 
 -- what was read behind the bytes that were fed
 pub read_more : (file into : List ℕ) (fed room n count : ℕ) → IsRead file (8 + fed) room n into → count ≤ n → behind_length (fed + count) file ≡ behind_length fed file ++ take count into
@@ -67,15 +67,29 @@ module _ (tells : Bool) (file : List ℕ) (old : Loading) (has : HasFed tells fi
         ap (λ (l : List ℕ). l ++ take count into) (has.is_front told) ∙ sym (read_more file into old.fed room n count (read told) few) ∙ ap (λ (k : ℕ). behind_length k file) (sym fed);
   }
 
-  pub fed_fault : {T U : Type 0} (into : List ℕ) (room n count left : ℕ) (new : Loading) (fault : ReadFault) → (IsTrue tells → IsRead file (8 + old.fed) room n into) → count ≤ n → count ≤ left
+  pub fed_fault : (T U : Type 0) (into : List ℕ) (room n count left : ℕ) (new : Loading) (fault : ReadFault) → (IsTrue tells → IsRead file (8 + old.fed) room n into) → count ≤ n → count ≤ left
       → Feeds (has.text ++ take count into) new {T = T} (Err fault) → IsTrue tells → FedAnswer (behind_length (old.fed + left) file) {T = U} (Err fault)
-  fed_fault into room n count left new fault read few within feeds told =
+  fed_fault T U into room n count left new fault read few within feeds told =
       let all = behind_length (old.fed + left) file in
       let front : has.text ++ take count into ≡ behind_length (old.fed + count) file =
       ap (λ (l : List ℕ). l ++ take count into) (has.is_front told) ∙ sym (read_more file into old.fed room n count (read told) few) in
-      front_fault (has.text ++ take count into) (drop (old.fed + count) all) all new fault
+      front_fault T U (has.text ++ take count into) (drop (old.fed + count) all) all new fault
       (ap (λ (l : List ℕ). l ++ drop (old.fed + count) all) front ∙ rest_of file (old.fed + count) (old.fed + left) (omega (arith, within))) feeds
 
 -- nothing was fed yet
 pub none_fed : (tells : Bool) (file : List ℕ) (l : Loading) → HasRead [] l → HasFed tells file l
 none_fed tells file l read = record { text = []; read = read; is_front = λ told. ap (λ (k : ℕ). behind_length k file) (sym read.fed) }
+
+-- of the same file, where the disk tells it
+pub fed_same : (tells : Bool) (a b : List ℕ) (l : Loading) → (IsTrue tells → a ≡ b) → HasFed tells a l → HasFed tells b l
+fed_same tells a b l same has = record { text = has.text; read = has.read; is_front = λ told. has.is_front told ∙ ap (λ (file : List ℕ). behind_length l.fed file) (same told) }
+
+pub piece_fault : (text : List ℕ) (fault : ReadFault) → FedAnswer text {T = ℕ} (Err fault) → FedAnswer text {T = Unit {0}} (Err fault)
+piece_fault text (Damaged at) bad = bad
+piece_fault text DiskFault none = tt
+piece_fault text NoMemory none = tt
+
+pub feed_not_disk : (T : Type 0) (text : List ℕ) (l : Loading) (fault : ReadFault) → Feeds text l {T = T} (Err fault) → fault ≢ DiskFault
+feed_not_disk T text l (Damaged at) feeds same = cc
+feed_not_disk T text l DiskFault feeds same = feeds
+feed_not_disk T text l NoMemory feeds same = cc

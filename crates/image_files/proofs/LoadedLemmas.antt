@@ -1,5 +1,5 @@
 -- The index of parts that were loaded, and that with which an area begins.
-use Rattle.std.proofs.Common.{◌≡◌, ◌≢◌, ◌⊎◌, inl, inr, ℕ, ◌+◌, ◌<◌, List, [], ◌∷◌, length, map, reverse, refl, sym, ◌∙◌, ap, subst, arith}
+use Rattle.std.proofs.Common.{◌≡◌, ◌≢◌, inl, inr, ℕ, ◌+◌, ◌<◌, List, [], ◌∷◌, length, map, reverse, refl, sym, ◌∙◌, ap, subst, arith}
 use Rattle.std.specs.Prelude.{Result, Ok, Err, IfOk, IfErr}
 use Rattle.std.proofs.lemmas.List.{length-map, length-reverse}
 use Rattle.nmc_base.specs.declared.chain_ends.Base.{Base}
@@ -16,7 +16,7 @@ use Rattle.image_files.specs.declared.fault.ReadFault.{ReadFault}
 use Rattle.image_files.specs.declared.fault.ReadFault.TheVariants.{Damaged, DiskFault, NoMemory}
 use Rattle.image_files.specs.Faults.{of_image}
 use Rattle.image_files.specs.Fronts.{HasLength, image_at, behind_length}
-use Rattle.image_files.specs.Indexes.{IsIndexBy, IsIndexOf, BeginsWith, IsDamagedAt, IsOfAnotherBase, HasBadImage, no_front, damaged, other_base}
+use Rattle.image_files.specs.Indexes.{IsIndexBy, IsIndexOf, BeginsWith, IsDamagedAt, IsOfAnotherBase, no_front, damaged, other_base}
 use Rattle.image_files.specs.Reading.{LengthAnswer, FedAnswer, IsChainOn, IndexAnswer, BeginAnswer, IsReadFrom, ReadAnswer}
 use Rattle.image_files.proofs.FrontLemmas.{image_is, lies_inside, image_size, front_begins}
 
@@ -62,14 +62,14 @@ pub ended_fault : (base : Base) (text : List ℕ) (fault : ImageFault) → IsIma
 ended_fault base text (image.Damaged at) bad = inl (record { place = at; damaged = bad; at_is = refl })
 ended_fault base text image.NoMemory none = tt
 
-pub not_of_disk : {T : Type 0} (fault : ImageFault) → Err {A = T} (of_image fault) ≡ Err DiskFault → ⊥
+pub not_of_disk : (fault : ImageFault) → of_image fault ≡ DiskFault → ⊥
 not_of_disk (image.Damaged at) same = cc
 not_of_disk image.NoMemory same = cc
 
-pub fed_fault_index : {T : Type 0} (base : Base) (text : List ℕ) (fault : ReadFault) → FedAnswer text {T = T} (Err fault) → IndexAnswer base text (Err fault)
-fed_fault_index base text (Damaged at) bad = inl bad
-fed_fault_index base text DiskFault none = tt
-fed_fault_index base text NoMemory none = tt
+pub fed_fault_index : (T : Type 0) (base : Base) (text : List ℕ) (fault : ReadFault) → FedAnswer text {T = T} (Err fault) → IndexAnswer base text (Err fault)
+fed_fault_index T base text (Damaged at) bad = inl bad
+fed_fault_index T base text DiskFault none = tt
+fed_fault_index T base text NoMemory none = tt
 
 pub of_some_text : (base : Base) (text : List ℕ) (result : Result Indexed ReadFault) → IndexAnswer base text result → IfOk result (λ index. (text : List ℕ) × IsIndexOf base text index)
 of_some_text base text (Ok index) is = (text, is)
@@ -108,7 +108,7 @@ loaded_some base (Err fault) is = tt
 
 pub memory_not_disk : (result : Result Indexed ReadFault) → IfErr result (λ fault. fault ≡ NoMemory) → result ≡ Err DiskFault → ⊥
 memory_not_disk (Ok index) memory same = cc
-memory_not_disk (Err fault) memory same = let e : Err {A = Indexed} NoMemory ≡ Err DiskFault = ap (λ (f : ReadFault). Err f) (sym memory) ∙ same in cc
+memory_not_disk (Err fault) memory same = cc
 
 -- ---- the whole
 

@@ -1,5 +1,5 @@
 -- Calls that only read the disk, one after the other.
-use Rattle.std.proofs.Common.{◌≡◌, ◌≢◌, inl, inr, ℕ, ◌+◌, Bool, List, refl, sym, ◌∙◌, ap, subst, arith}
+use Rattle.std.proofs.Common.{◌≡◌, ◌≢◌, inl, inr, ℕ, Bool, refl, sym, ◌∙◌, ap, subst, arith}
 use Rattle.std.specs.Prelude.{Result, Ok, Err, IsTrue, IsFalse, IsErrAnd}
 use Rattle.fault_counts.specs.Faults.{Faults, NeverFell, Rose}
 use Rattle.disk_model.specs.Moments.{Files, EachMoment, start}
@@ -9,7 +9,7 @@ use Rattle.disk_model.specs.declared.disk.Failed.{Failed}
 use Rattle.disk_model.proofs.MomentLemmas.{last_moment}
 use Rattle.gate_journal.proofs.ReadLemmas.{unchanged_then}
 use Rattle.image_files.specs.declared.fault.ReadFault.{ReadFault}
-use Rattle.image_files.specs.declared.fault.ReadFault.TheVariants.{Damaged, DiskFault, NoMemory}
+use Rattle.image_files.specs.declared.fault.ReadFault.TheVariants.{DiskFault}
 use Rattle.image_files.specs.Reading.{OnlyReads}
 use Rattle.image_files.proofs.SaveLemmas.{on_ok}
 

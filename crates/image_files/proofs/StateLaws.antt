@@ -1,9 +1,8 @@
 -- A text tells one state.
-use Rattle.std.proofs.Common.{◌≡◌, ℕ, suc, ◌+◌, List, [], ◌∷◌, length, map, reverse, refl, sym, ◌∙◌, ap, subst, arith}
+use Rattle.std.proofs.Common.{◌≡◌, ℕ, ◌+◌, List, [], ◌∷◌, length, map, reverse, refl, sym, ◌∙◌, ap, subst, arith}
 use Rattle.std.proofs.lemmas.List.{reverse-reverse, length-reverse}
 use Rattle.nmc_base.specs.declared.chain_ends.Profile.{Profile}
 use Rattle.nmc_base.specs.declared.chain_ends.Base.{Base}
-use Rattle.chain_names.specs.declared.coin.Item.{Item}
 use Rattle.chain_names.specs.Coins.{Maps}
 use Rattle.chain_names.specs.Changes.{undone}
 use Rattle.chain_names.specs.Sound.{IsSound}
@@ -11,7 +10,7 @@ use Rattle.chain_names.specs.Undo.{UndoRecord}
 use Rattle.undo_records.specs.declared.version.Version.{Version}
 use Rattle.undo_records.specs.declared.version.Version.TheVariants.{One, Two}
 use Rattle.undo_records.specs.Versions.{told}
-use Rattle.image_grammar.specs.Image.{Image, History, item_told, history_told, image_told, maps_listed, IsImageOf}
+use Rattle.image_grammar.specs.Image.{Image, item_told, history_told, image_told, maps_listed, IsImageOf}
 use Rattle.image_grammar.specs.Text.{image_text}
 use Rattle.image_grammar.proofs.OneLaws.{version_one, image_one}
 use Rattle.registrations.specs.Images.{AreToldAlike}

@@ -12,5 +12,5 @@ of_image-requires c =
 
 pub returns-in-Err-clause-feeds : goal.returns-in-Err-clause-feeds
 returns-in-Err-clause-feeds c = λ text has.
-    subst (λ (f : ReadFault). Feeds (text ++ c.args.bytes.now) c.piece.new.self (Err f)) (sym c.of_image.ensures)
-    (feeds_fault (text ++ c.args.bytes.now) c.piece.new.self c.in-Err.fault (c.in-Err.ensures.takes text has))
+    subst (λ (f : ReadFault). Feeds (text ++ c.args.bytes.now) c.piece.new.self {T = Unit {0}} (Err f)) (sym c.of_image.ensures)
+    (feeds_fault (Unit {0}) (text ++ c.args.bytes.now) c.piece.new.self c.in-Err.fault (c.in-Err.ensures.takes text has))

@@ -1,5 +1,4 @@
-use Rattle.std.proofs.Common.{◌≡◌, ℕ, List, length, Ok, refl, sym, ◌∙◌, ap, subst, rules}
-use Rattle.std.specs.Prelude.{IsTrue}
+use Rattle.std.proofs.Common.{ℕ, List, length, refl, sym, subst, rules}
 use Rattle.disk_model.specs.DiskSeen.{bytes_in}
 use Rattle.disk_model.specs.Reads.{IsRead}
 use Rattle.image_files.specs.Fronts.{LiesInside}

@@ -1,6 +1,7 @@
-use Rattle.std.proofs.Common.{sym, subst, ap, ◌∙◌, arith}
+use Rattle.std.proofs.Common.{◌≡◌, sym, subst, ◌∙◌, arith}
 use Rattle.std.specs.Prelude.{Err}
 use Rattle.image_files.specs.declared.fault.ReadFault.{ReadFault}
+use Rattle.image_files.specs.declared.fault.ReadFault.TheVariants.{DiskFault}
 use Rattle.image_files.specs.Reading.{IndexAnswer}
 use Rattle.image_files.proofs.FeedLemmas.{end_place}
 use Rattle.image_files.proofs.LoadedLemmas.{loaded_index, no_disk_fault, ended_fault, not_of_disk}
@@ -23,5 +24,5 @@ pub returns-in-Err : goal.returns-in-Err
 returns-in-Err c = record {
   answer = λ text has.
       subst (λ (f : ReadFault). IndexAnswer c.args.base.now text (Err f)) (sym c.of_image.ensures) (ended_fault c.args.base.now text c.in-Err.fault (c.in-Err.ensures.whole text has));
-  no_disk = λ same. not_of_disk c.in-Err.fault (ap (λ (f : ReadFault). Err f) (sym c.of_image.ensures) ∙ same);
+  no_disk = λ same. let is : c.of_image.result ≡ DiskFault = cc in not_of_disk c.in-Err.fault (sym c.of_image.ensures ∙ is);
 }

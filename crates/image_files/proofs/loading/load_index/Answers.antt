@@ -1,5 +1,4 @@
 use Rattle.std.proofs.Common.{ℕ, List, refl, sym, ◌∙◌, ap, subst, rules, arith}
-use Rattle.std.specs.Prelude.{Err, IsTrue}
 use Rattle.disk_model.specs.Moments.{start}
 use Rattle.disk_model.specs.DiskSeen.{bytes_in}
 use Rattle.image_files.specs.Fronts.{behind_length}
@@ -45,6 +44,6 @@ returns-in-Err g c =
     let file = bytes_in old c.args.file in
     record {
       of_text = tt;
-      answer = λ told. fed_fault_index c.args.base.now (behind_length c.args.image file) c.in-Err.fault (c.in-Err.ensures.answer told);
+      answer = λ told. fed_fault_index (Unit {0}) c.args.base.now (behind_length c.args.image file) c.in-Err.fault (c.in-Err.ensures.answer told);
       only = only_fault tells old new c.in-Err.fault c.in-Err.ensures.only;
     }

@@ -1,5 +1,5 @@
-use Rattle.std.proofs.Common.{ℕ, ◌+◌, ◌≤◌, List, length, sym, subst, arith, rules}
-use Rattle.std.specs.Prelude.{IsTrue, Ok, Err}
+use Rattle.std.proofs.Common.{ℕ, ◌+◌, ◌≤◌, List, length, sym, subst, arith}
+use Rattle.std.specs.Prelude.{Ok, Err}
 use Rattle.disk_model.specs.DiskSeen.{bytes_in}
 use Rattle.image_files.specs.Fronts.{HasLength}
 use Rattle.image_files.specs.Reading.{BeginAnswer, ReadsImage}
@@ -14,7 +14,7 @@ begin_index-requires-clause-inside g c = λ told.
     let old = g.D.Disk.seen c.args.disk.now in
     let mid = g.D.Disk.seen c.read_length.new.disk in
     let first = quiet_of tells old mid c.read_length.result c.read_length.ensures.only in
-    subst (λ (l : List ℕ). 9 + c.in_ok-image.image ≤ length l) (bytes_same tells old mid first c.args.file told) (lies_inside (bytes_in old c.args.file) c.in_ok-image.image (c.in_ok-image.ensures.answer told))
+    subst (λ (l : List ℕ). 9 + c.in_ok-image.image ≤ length l) (bytes_same tells old mid mid first c.args.file told) (lies_inside (bytes_in old c.args.file) c.in_ok-image.image (c.in_ok-image.ensures.answer told))
 
 pub returns-in_err-image : goal.returns-in_err-image
 returns-in_err-image g c =
@@ -42,7 +42,7 @@ returns-in-Ok g c =
       answer = λ told.
           let file = bytes_in old c.args.file in
           let has = c.in_ok-image.ensures.answer told in
-          let same = bytes_same tells old mid first c.args.file told in
+          let same = bytes_same tells old mid new first c.args.file told in
           read_from base file image c.in-Ok.chain has
           (subst (λ (l : List ℕ). BeginAnswer base l (Ok c.in-Ok.chain)) (sym same) (c.in-Ok.ensures.answer told (subst (λ (l : List ℕ). HasLength l image) same has)));
       some = record { text = c.in-Ok.ensures.of_text.0; is_index = c.in-Ok.ensures.of_text.1; far = omega arith; near = omega (arith, c.in_ok-image.ensures.short) };
@@ -61,7 +61,7 @@ returns-in-Err g c =
     let fault = c.in-Err.fault in
     record {
       answer = λ told.
-          let same = bytes_same tells old mid first c.args.file told in
+          let same = bytes_same tells old mid new first c.args.file told in
           begin_fault base (bytes_in old c.args.file) fault
           (subst (λ (l : List ℕ). BeginAnswer base l (Err fault)) (sym same) (c.in-Err.ensures.answer told (subst (λ (l : List ℕ). HasLength l image) same (c.in_ok-image.ensures.answer told))));
       some = tt;
