@@ -218,7 +218,7 @@ pub record HasLimits (store : Stored) : Type 0 where
   pub selections : store.slots.limits.selections ≡ most_selections
   pub image : store.slots.limits.image ≡ longest_image
 
-module _ {R : Type 0} (tells : Bool) (old : Stored) (limits : HasLimits old) (before after : DiskSeen) (on : IsTrue tells → IsOn old before.moments.now) (image : ℕ) (new : Slotted) where
+module _ (tells : Bool) (old : Stored) (limits : HasLimits old) (before after : DiskSeen) (on : IsTrue tells → IsOn old before.moments.now) (image : ℕ) (new : Slotted) where
   abbrev saving : Result ℕ Failed → Type 0
   saving result = WritesIndex tells old.index old.slots new image before after result
 
@@ -254,7 +254,7 @@ module _ {R : Type 0} (tells : Bool) (old : Stored) (limits : HasLimits old) (be
         subst (λ (x : Stored). IsSavedAs run x told_number) (sym store_is)
         (saved_so old run s (few (Ok number) w) w.text w.room.is_text (short (Ok number) w) told_number (is_number ∙ w.writes.ok.0))
 
-    pub save_leaves : (told_number : ℕ) → LeavesDisk {T = ℕ} {R = R} tells (SparesSelected old) before after (Done store told_number)
+    pub save_leaves : {R : Type 0} (told_number : ℕ) → LeavesDisk {T = ℕ} {R = R} tells (SparesSelected old) before after (Done store told_number)
     save_leaves told_number = record {
       later = w.writes.ends.later;
       worked = w.writes.ends.worked;
@@ -263,7 +263,7 @@ module _ {R : Type 0} (tells : Bool) (old : Stored) (limits : HasLimits old) (be
       others = w.writes.selected;
     }
 
-    pub save_keeps : (told_number : ℕ) → KeepsOn {T = ℕ} {R = R} tells old machine.IsSaved before after (Done store told_number)
+    pub save_keeps : {R : Type 0} (told_number : ℕ) → KeepsOn {T = ℕ} {R = R} tells old machine.IsSaved before after (Done store told_number)
     save_keeps told_number = λ told run s stands. record {
       next = saved_by run w.text;
       is_next = is_saved (Ok number) w run s;
@@ -273,10 +273,10 @@ module _ {R : Type 0} (tells : Bool) (old : Stored) (limits : HasLimits old) (be
 
   -- the disk failed
   module _ (error : Failed) (w : saving (Err error)) where
-    pub fault_leaves : LeavesDisk {T = ℕ} {R = R} tells (SparesSelected old) before after Faulted
+    pub fault_leaves : {R : Type 0} → LeavesDisk {T = ℕ} {R = R} tells (SparesSelected old) before after Faulted
     fault_leaves = record { later = w.writes.ends.later; worked = tt; failed = w.writes.ends.failed; still_on = λ told. tt; others = w.writes.selected }
 
-    pub fault_keeps : KeepsOn {T = ℕ} {R = R} tells old machine.IsSaved before after Faulted
+    pub fault_keeps : {R : Type 0} → KeepsOn {T = ℕ} {R = R} tells old machine.IsSaved before after Faulted
     fault_keeps = λ told run s stands. record {
       next = saved_by run w.text;
       is_next = is_saved (Err error) w run s;

@@ -56,7 +56,7 @@ returns-in-Ok-read_area-clause-answer g c = λ told.
       told = told;
       has = has.0;
       is = has.1;
-      few = opens.ok.1.1;
+      few = opens.ok.2;
       slots_on = on;
       area = area;
       settled = c.requires.settled told (selected_by slots.count) (omega arith);
@@ -88,7 +88,7 @@ returns-in-Err-read_area-clause-answer g c = λ told.
       header = has.0;
       selections = subst (λ (n : ℕ). HasSelections (take n (old 0)) slots.count (old 0)) has.1.selections_is
       (subst (λ (files : Files). HasSelections (take header.selections (files 0).bytes) slots.count (files 0).bytes) one (c.in-Ok-open.ensures.answer told));
-      few = c.in-Ok-open.ensures.ok.1.1;
+      few = c.in-Ok-open.ensures.ok.2;
     } in
     area_bad tells old new slots.count fault selected
     (subst (λ (b : Base). AreaAnswer tells b (selected_by slots.count) (old (selected_by slots.count)) (Err fault)) has.1.base_is
