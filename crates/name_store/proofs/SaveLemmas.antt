@@ -1,5 +1,5 @@
 -- A save of the index of a store: the run state behind it, and what a crash leaves.
-use Rattle.std.proofs.Common.{◌≡◌, ◌⊎◌, inl, inr, ℕ, ◌+◌, ◌<◌, ◌≤◌, Bool, List, [], ◌++◌, length, Ok, Err, refl, sym, ◌∙◌, ap, subst, arith, length-append}
+use Rattle.std.proofs.Common.{◌≡◌, ◌⊎◌, inl, inr, ℕ, ◌+◌, ◌<◌, ◌≤◌, Bool, List, [], ◌++◌, length, reverse, Ok, Err, refl, sym, ◌∙◌, ap, subst, arith, length-append}
 use Rattle.std.specs.Prelude.{IsTrue, Result}
 use Rattle.nmc_base.specs.declared.chain_ends.Base.{Base}
 use Rattle.disk_model.specs.FileState.{FileState}
@@ -13,7 +13,11 @@ use Rattle.chain_names.specs.Coins.{Maps}
 use Rattle.chain_names.specs.Index.{index_maps}
 use Rattle.nmc_base.specs.Heights.{highest}
 use Rattle.name_tables.specs.Tables.{maps_by}
+use Rattle.undo_records.specs.declared.version.Version.{Version}
 use Rattle.undo_records.specs.declared.version.Version.TheVariants.{Two}
+use Rattle.image_grammar.specs.Image.{HasText, IsImageOf}
+use Rattle.chain_names.specs.Undo.{UndoRecord}
+use Rattle.chain_names.proofs.OneRecordLemmas.{one_undo-chain}
 use Rattle.image_grammar.specs.Text.{IsStateText}
 use Rattle.image_writer.specs.Whole.{IsReadAgain}
 use Rattle.chain_state.specs.Chain.{Indexed}
@@ -23,7 +27,7 @@ use Rattle.chain_commands.specs.RunState.{RunState, on_base, after_commands, sav
 use Rattle.chain_commands.specs.Saving.{IsTextOf, HoldsSave, CheckpointLimit, ImageLimit, saves, saved_by, save_order, longest_image, most_selections}
 use Rattle.chain_commands.specs.Saving as machine
 use Rattle.chain_commands.specs.Refusals.{IsFirst, HasNoneBelow}
-use Rattle.chain_commands.proofs.SavingLemmas.{one_text, chain_of_all, saved_leaves}
+use Rattle.chain_commands.proofs.SavingLemmas.{one_text, chain_of_all, saved_leaves, saved_has}
 use Rattle.image_slots.specs.Selections.{HasSelections, selected_by, drafted_by}
 use Rattle.image_slots.specs.Slotted.{Slotted, AreOn, with_one_more}
 use Rattle.image_files.specs.Crashes.{LeavesOld, LeavesNew, LeavesOldOrNew}
@@ -36,7 +40,7 @@ use Rattle.index_commands.proofs.LeadLemmas.{parts_allowed}
 use Rattle.command_areas.specs.Keeping.{HoldsRecords}
 use Rattle.name_store.specs.Header.{IsBegun, header_text, host_at}
 use Rattle.name_store.specs.Host.{IsHostOf}
-use Rattle.name_store.specs.Stands.{Bytes, IsSavedText, HasSaved, text as saved_as, IsRunState, Stands, EachStandsForEither}
+use Rattle.name_store.specs.Stands.{Bytes, IsRunState, Stands, EachStandsForEither}
 use Rattle.name_store.specs.Stored.{Stored, StandsFor, IsOn, area_file}
 use Rattle.name_store.specs.Saves.{IsSavedAs, SparesSelected}
 use Rattle.name_store.specs.Outcomes.{LeavesDisk, KeepsOn}
@@ -60,9 +64,13 @@ module _ (index : Indexed) (chain : Chain) (s : chains.StandsFor index chain) (t
   again : IsReadAgain chain.base index.undos (index_maps chain.base.profile chain.start chain.base.height chain.blocks) text
   again = subst (λ (maps : Maps). IsReadAgain chain.base index.undos maps text) s.maps (subst (λ (b : Base). IsReadAgain b index.undos (maps_by index.tables) text) s.base_is is.again)
 
-  pub saved_text : length text ≤ longest_image → IsSavedText chain text
+  -- whichever version it is taken for, it is one that is read again
+  pub read_again : length text ≤ longest_image → (version : Version) (other : IsTextOf version chain text) → HasText other.is_text.image
   unfolding text_of
-  saved_text short = record { version = Two; is_text = text_of; again = again short text_of.is_text.image text_of.is_text.image_is; short = short }
+  read_again short version other =
+      let undos : other.undos ≡ index.undos = one_undo-chain chain.base.profile chain.start chain.base.height chain.blocks other.undos index.undos other.are_undos s.undos in
+      let maps = index_maps chain.base.profile chain.start chain.base.height chain.blocks in
+      again short other.is_text.image (subst (λ (l : List UndoRecord). IsImageOf chain.base (reverse l) maps other.is_text.image) undos other.is_text.image_is)
 
 -- ---- the refusals
 
@@ -109,7 +117,8 @@ module _ (store : Stored) (run : RunState) (s : StandsFor store run) (few : stor
   saved_state = record {
     begun = s.is_state.begun;
     start_is = s.is_state.start_is;
-    has_saved = saved_as (omega arith) (omega (arith, s.selections, few)) (of_all (λ chain. IsSavedText chain text) (saved_text store.index (chain_of run) s.index text is short));
+    has_saved = saved_has run text (omega (arith, s.selections, few)) (text_of store.index (chain_of run) s.index text is) short;
+    again = of_all (λ chain. (version : Version) (other : IsTextOf version chain text) → HasText other.is_text.image) (read_again store.index (chain_of run) s.index text is short);
     valid = of_all (λ chain. AreValid chain.base chain.start chain.blocks) s.index.valid;
     allowed_before = parts_allowed (on_base run.base run.start) run.since run.saved s.is_state.allowed_before s.is_state.allowed;
     allowed = tt;
