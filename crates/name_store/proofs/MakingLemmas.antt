@@ -19,7 +19,7 @@ use Rattle.image_slots.specs.Selections.{HasSelections}
 use Rattle.undo_records.specs.declared.version.Version.{Version}
 use Rattle.image_grammar.specs.Image.{Image}
 use Rattle.image_grammar.specs.Text.{image_text}
-use Rattle.chain_commands.specs.Saving.{none_yet}
+use Rattle.chain_commands.specs.Saving.{none_yet as nothing_saved}
 use Rattle.name_store.specs.Stands.{Bytes, IsRunState, Stands, EachStands, begun_on}
 use Rattle.name_store.specs.Making.{IsEmpty, EachIsBegun}
 use Rattle.name_store.specs.MakingSteps.{HasSettled, IsShort, empty_area, closed_header}
@@ -43,7 +43,7 @@ begun_state : (base : Base) (host : List ℕ) → IsBegun base host → IsRunSta
 begun_state base host begun = record {
   begun = begun;
   start_is = refl;
-  has_saved = record { text_is = none_yet refl refl refl; short = omega arith; few = omega arith };
+  has_saved = record { text_is = nothing_saved refl refl refl; short = omega arith; few = omega arith };
   again = λ version is. absurd (no_text version is.is_text.image is.is_text.text_is);
   valid = record { low = begun.low; starts = record { makes = tt; few = omega arith } };
   allowed_before = tt;
