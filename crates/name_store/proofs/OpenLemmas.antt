@@ -13,7 +13,7 @@ use Rattle.gate_journal.specs.Gate.{IsClosed}
 use Rattle.gate_journal.specs.Records.{HasRecords, IsArea, image_front}
 use Rattle.gate_journal.proofs.RecordLemmas.{area_unique}
 use Rattle.chain_commands.specs.Event.{Command}
-use Rattle.chain_commands.specs.RunState.{RunState, saved_chain, after_commands, chain_of, area_of, grown_by, longest_area}
+use Rattle.chain_commands.specs.RunState.{RunState, saved_chain, after_commands, grown_by, longest_area}
 use Rattle.chain_commands.specs.Saving.{most_selections}
 use Rattle.image_slots.specs.Selections.{HasSelections, selected_by}
 use Rattle.image_slots.specs.Slotted.{Slotted, AreOn}

@@ -1,8 +1,7 @@
 -- A save of the index of a store: the run state behind it, and what a crash leaves.
-use Rattle.std.proofs.Common.{◌≡◌, ◌⊎◌, inl, inr, ℕ, ◌+◌, ◌<◌, ◌≤◌, Bool, List, [], ◌++◌, length, reverse, Ok, Err, refl, sym, ◌∙◌, ap, subst, arith, length-append}
+use Rattle.std.proofs.Common.{◌≡◌, ◌⊎◌, inl, inr, ℕ, ◌+◌, ◌<◌, ◌≤◌, Bool, List, [], length, reverse, Ok, Err, refl, sym, ◌∙◌, ap, subst, arith, length-append}
 use Rattle.std.specs.Prelude.{IsTrue, Result}
 use Rattle.nmc_base.specs.declared.chain_ends.Base.{Base}
-use Rattle.disk_model.specs.FileState.{FileState}
 use Rattle.disk_model.specs.Moments.{Files, EachMoment, IsImage}
 use Rattle.disk_model.specs.DiskSeen.{DiskSeen, file_in, bytes_in}
 use Rattle.disk_model.specs.declared.disk.Failed.{Failed}
@@ -23,32 +22,28 @@ use Rattle.image_writer.specs.Whole.{IsReadAgain}
 use Rattle.chain_state.specs.Chain.{Indexed}
 use Rattle.chain_state.specs.Standing.{AreValid}
 use Rattle.chain_commands.specs.Chain.{Chain}
-use Rattle.chain_commands.specs.RunState.{RunState, on_base, after_commands, saved_chain, chain_of}
+use Rattle.chain_commands.specs.RunState.{RunState, on_base, saved_chain, chain_of}
 use Rattle.chain_commands.specs.Saving.{IsTextOf, HoldsSave, CheckpointLimit, ImageLimit, saves, saved_by, save_order, longest_image, most_selections}
 use Rattle.chain_commands.specs.Saving as machine
 use Rattle.chain_commands.specs.Refusals.{IsFirst, HasNoneBelow}
 use Rattle.chain_commands.proofs.SavingLemmas.{one_text, chain_of_all, saved_leaves, saved_has}
 use Rattle.image_slots.specs.Selections.{HasSelections, selected_by, drafted_by}
 use Rattle.image_slots.specs.Slotted.{Slotted, AreOn, with_one_more}
-use Rattle.image_files.specs.Crashes.{LeavesOld, LeavesNew, LeavesOldOrNew}
 use Rattle.image_files.specs.Saving.{HasImage, SavesAt, WritesImage}
 use Rattle.image_files.specs.SavingIndex.{IsTextOfIndex, HasLongText, WritesIndex}
 use Rattle.image_files.proofs.SaveLemmas.{crash_of}
 use Rattle.index_commands.specs.Standing as chains
 use Rattle.index_commands.specs.Records.{records_of}
 use Rattle.index_commands.proofs.LeadLemmas.{parts_allowed}
-use Rattle.command_areas.specs.Keeping.{HoldsRecords}
-use Rattle.name_store.specs.Header.{IsBegun, header_text, host_at}
-use Rattle.name_store.specs.Host.{IsHostOf}
+use Rattle.name_store.specs.Header.{IsBegun, header_text}
 use Rattle.name_store.specs.Stands.{Bytes, IsRunState, Stands, EachStandsForEither}
 use Rattle.name_store.specs.Stored.{Stored, StandsFor, IsOn, area_file}
 use Rattle.name_store.specs.Saves.{IsSavedAs, SparesSelected}
 use Rattle.name_store.specs.Outcomes.{LeavesDisk, KeepsOn}
 use Rattle.name_store.specs.declared.store.Outcome.TheVariants.{Done, Faulted}
-use Rattle.name_store.proofs.RunLemmas.{BeginsSo, host_told, begins_front}
+use Rattle.name_store.proofs.RunLemmas.{host_told, begins_front}
 use Rattle.name_store.proofs.SavedLemmas.{chain_base}
 use Rattle.name_store.proofs.StateLemmas.{front_size}
-use Rattle.name_store.proofs.StoreLemmas.{area_low}
 
 -- ---- the text
 

@@ -5,7 +5,7 @@ use Rattle.nmc_base.specs.declared.hashes.Hash32.{Hash32}
 use Rattle.gate_journal.specs.Records.{IsArea}
 use Rattle.chain_names.specs.Coins.{Maps}
 use Rattle.chain_names.specs.Undo.{UndoRecord}
-use Rattle.chain_names.specs.UndoOf.{AreUndos, hash_in}
+use Rattle.chain_names.specs.UndoOf.{AreUndos}
 use Rattle.chain_names.specs.Tables.{queue_of}
 use Rattle.chain_names.specs.Log.{Log}
 use Rattle.chain_state.specs.Chain.{Indexed, newest_hash}

@@ -1,5 +1,5 @@
 -- The area of a run state, and a run state with one command more.
-use Rattle.std.proofs.Common.{◌≡◌, ◌+◌, ◌≤◌, List, ℕ, ◌++◌, length, ◌∙◌, ap, arith, length-append}
+use Rattle.std.proofs.Common.{◌≡◌, ◌+◌, ◌≤◌, List, ℕ, length, ◌∙◌, ap, arith, length-append}
 use Rattle.std.specs.Int.{w64, to_le_bytes}
 use Rattle.gate_journal.specs.Records.{image_front}
 use Rattle.chain_commands.specs.Event.{Command}

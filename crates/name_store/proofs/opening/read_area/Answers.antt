@@ -1,5 +1,4 @@
-use Rattle.std.proofs.Common.{◌≡◌, ◌<◌, ℕ, length, Err, sym, ap, subst}
-use Rattle.std.specs.Prelude.{IsTrue}
+use Rattle.std.proofs.Common.{◌≡◌, ◌<◌, length, Err, sym, ap, subst}
 use Rattle.disk_model.specs.FileState.{IsSettled}
 use Rattle.disk_model.specs.Moments.{Files}
 use Rattle.disk_model.specs.DiskSeen.{bytes_in}

@@ -1,5 +1,4 @@
-use Rattle.std.proofs.Common.{rules, ◌≡◌, ◌<◌, ℕ, List, take, Err, sym, ◌∙◌, ap, subst, arith}
-use Rattle.std.specs.Prelude.{IsTrue}
+use Rattle.std.proofs.Common.{rules, ℕ, take, Err, sym, ◌∙◌, subst, arith}
 use Rattle.nmc_base.specs.declared.chain_ends.Base.{Base}
 use Rattle.disk_model.specs.FileState.{IsSettled}
 use Rattle.disk_model.specs.Moments.{Files}
@@ -12,7 +11,6 @@ use Rattle.image_slots.specs.Selections.{HasSelections, selected_by}
 use Rattle.image_slots.specs.Slotted.{AreOn}
 use Rattle.command_areas.proofs.ReadingLemmas.{never_fell}
 use Rattle.name_store.specs.Damage.{HasSelected}
-use Rattle.name_store.specs.Header.{base_at}
 use Rattle.name_store.specs.Opening.{IsFollowed, IsOpened, OpenAnswer, AreaAnswer}
 use Rattle.name_store.proofs.OpenLemmas.{HasOpened, opened_store_is, slots_bad, area_bad}
 use Rattle.name_store.proofs.store.Store.read.Goals as goal
