@@ -1,6 +1,6 @@
 //! What becomes of what was read whole.
 
-ghost use Rattle.std.specs.Prelude.{ℕ, List, OnOk};
+ghost use Rattle.std.specs.Prelude.{◌≡◌, ℕ, List, Err, OnOk};
 ghost use Rattle.states_below.specs.Scan.{TellsWhether};
 ghost use Rattle.state_image.specs.Answers.{IsSoundOn, IsImageAnswer};
 ghost use Rattle.state_image.specs.Forming.{AreFormed, IsReadWhole, AreOf, TellsFault, Judges};
@@ -80,6 +80,15 @@ impl Reading {
             ..
         } = self;
         (base, Parts::of(tables, undos))
+    }
+
+    /// Lets go of what was read, for this fault.
+    pub(crate) fn give_up(self, fault: ImageFault) -> Result<(Base, Parts), ImageFault>
+        ensures { result ≡ Err fault }
+    {
+        let (_, parts) = self.split();
+        let_go(parts);
+        Err(fault)
     }
 
     /// The base and the parts, where they are sound.
