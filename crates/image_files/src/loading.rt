@@ -44,9 +44,6 @@ fn end_loading(loader: Loader, base: &Base) -> Result<Chain, ReadFault>
     }
 }
 
-/// Lets go of a loader, in a place of its own.
-fn drop_loader(_loader: Loader) {}
-
 /// The index of the image of so many bytes with which the area in this file begins.
 fn load_index<D: Disk>(
     alloc: Global,
@@ -65,7 +62,7 @@ fn load_index<D: Disk>(
     match feed_image(disk, file, &mut loader, image) {
         Ok(()) => end_loading(loader, base),
         Err(fault) => {
-            drop_loader(loader);
+            loader.let_go();
             Err(fault)
         }
     }

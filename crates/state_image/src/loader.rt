@@ -78,8 +78,6 @@ fn stop_of(read: &Result<(), ImageFault>) -> Option<ImageFault>
     }
 }
 
-fn let_go(_loader: Loader) {}
-
 impl Loader {
     /// Nothing was fed of a text of so many bytes.
     pub fn new(alloc: Global, total: u64) -> Result<Loader, NoMemory>
@@ -143,7 +141,7 @@ impl Loader {
     {
         match self.fault() {
             Some(fault) => {
-                let_go(self);
+                self.let_go();
                 Err(fault)
             }
             None => {
@@ -152,4 +150,7 @@ impl Loader {
             }
         }
     }
+
+    /// Lets go of what was read. Call it where a loader isn't finished: each place that drops one itself is dear to prove.
+    pub fn let_go(self) {}
 }
