@@ -3,3 +3,4 @@ pub mod CommandLemmas
 pub mod ConnectRefusals
 pub mod DisconnectRefusals
 pub mod SurvivorLemmas
+pub mod SavingLemmas

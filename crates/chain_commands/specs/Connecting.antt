@@ -12,9 +12,9 @@ use Rattle.chain_names.specs.Refusals.{number_of}
 use Rattle.nmc_base.specs.Heights.{highest}
 use Rattle.chain_commands.specs.Chain.{Chain, tip_hash, height_of}
 use Rattle.chain_commands.specs.Event.{Connect}
-use Rattle.chain_commands.specs.RunState.{RunState, chain_of, IsFull, accepted}
+use Rattle.chain_commands.specs.RunState.{RunState, chain_of, IsFull}
 use Rattle.feed_frames.specs.Replies.{Reply}
-use Rattle.chain_commands.specs.Refusals.{Refusals, IsFirst, HasNoneBelow, Answers}
+use Rattle.chain_commands.specs.Refusals.{Refusals, IsFirst, HasNoneBelow, Answers, LeavesDone}
 
 pub data Refusal : Type 0 where
   -- no block; the place of the fault
@@ -98,4 +98,4 @@ TakesMemory full chain bytes = HasNoneBelow (Holds full chain bytes) order_of co
 -- from the old state the machine may give this reply to the bytes and go on to the new state
 abbrev pub Connects : RunState → List ℕ → Reply → RunState → Type 0
 Connects old bytes reply new =
-    Answers connects (Holds (IsFull old (Connect bytes)) (chain_of old) bytes) old (accepted old (Connect bytes)) reply new
+    Answers connects (Holds (IsFull old (Connect bytes)) (chain_of old) bytes) (LeavesDone old (Connect bytes)) old reply new

@@ -2,9 +2,9 @@
 use Rattle.std.specs.Prelude.{◌≡◌, ◌≢◌, ℕ, List, []}
 use Rattle.chain_commands.specs.Chain.{Chain, tip_hash}
 use Rattle.chain_commands.specs.Event.{Disconnect}
-use Rattle.chain_commands.specs.RunState.{RunState, chain_of, IsFull, accepted}
+use Rattle.chain_commands.specs.RunState.{RunState, chain_of, IsFull}
 use Rattle.feed_frames.specs.Replies.{Reply}
-use Rattle.chain_commands.specs.Refusals.{Refusals, IsFirst, HasNoneBelow, Answers}
+use Rattle.chain_commands.specs.Refusals.{Refusals, IsFirst, HasNoneBelow, Answers, LeavesDone}
 
 pub data BackRefusal : Type 0 where
   -- no block stands on the base
@@ -47,4 +47,4 @@ TakesMemoryBack full chain hash = HasNoneBelow (HoldsBack full chain hash) back_
 -- from the old state the machine may give this reply to the hash and go on to the new state
 abbrev pub Disconnects : RunState → List ℕ → Reply → RunState → Type 0
 Disconnects old hash reply new =
-    Answers disconnects (HoldsBack (IsFull old (Disconnect hash)) (chain_of old) hash) old (accepted old (Disconnect hash)) reply new
+    Answers disconnects (HoldsBack (IsFull old (Disconnect hash)) (chain_of old) hash) (LeavesDone old (Disconnect hash)) old reply new

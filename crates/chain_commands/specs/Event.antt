@@ -1,5 +1,5 @@
 -- What the machine is asked to do: one whole frame each.
-use Rattle.std.specs.Prelude.{List, ℕ}
+use Rattle.std.specs.Prelude.{List, [], ℕ}
 use Rattle.feed_frames.specs.Frames.{Frame}
 
 -- what changes the chain, where it is accepted
@@ -13,13 +13,16 @@ pub data Event : Type 0 where
   Do : Command → Event
   -- a message of DNS that is to be answered
   Ask : List ℕ → Event
+  -- the index is to be saved
+  Save : Event
 
 -- the kinds of frames that are events are those up to this number
 abbrev pub last_kind : ℕ
-last_kind = 3
+last_kind = 4
 
 -- each kind of frame is one kind of event
 abbrev pub event_frame : Event → Frame
 event_frame (Do (Connect block)) = record { kind = 1; payload = block }
 event_frame (Do (Disconnect hash)) = record { kind = 2; payload = hash }
 event_frame (Ask message) = record { kind = 3; payload = message }
+event_frame Save = record { kind = 4; payload = [] }

@@ -5,4 +5,5 @@ pub mod Reply
 pub mod Refusals
 pub mod Connecting
 pub mod Disconnecting
+pub mod Saving
 pub mod Surviving

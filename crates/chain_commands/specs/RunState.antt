@@ -1,12 +1,13 @@
 -- What the machine knows: where it started, and the commands that it accepted.
-use Rattle.std.specs.Prelude.{ℕ, ◌+◌, ◌<◌, ◌^◌, List, [], ◌∷◌, ◌++◌, length}
+use Rattle.std.specs.Prelude.{ℕ, ◌+◌, ◌<◌, ◌^◌, List, [], ◌∷◌, length}
 use Rattle.chain_names.specs.Log.{Log}
 use Rattle.nmc_base.specs.declared.chain_ends.Base.{Base}
 use Rattle.chain_commands.specs.Chain.{Chain, with_block, without_newest}
 use Rattle.chain_commands.specs.Event.{Command, Connect, Disconnect}
 
 -- The base with its host, and the start list; the connects and disconnects that were accepted, the newest first: those
--- that a save holds, and those since; and how many saves were selected.
+-- that a save holds, and those since; how many saves were selected; and the text that the last of them saved, of the index
+-- behind the commands that it holds: it is empty where nothing was saved.
 pub record RunState : Type 0 where
   pub base : Base
   pub host : List ℕ
@@ -14,6 +15,7 @@ pub record RunState : Type 0 where
   pub saved : List Command
   pub since : List Command
   pub selections : ℕ
+  pub text : List ℕ
 
 -- the chain that a command without a refusal leaves: with the block, or without the newest one
 abbrev pub after_command : Chain → Command → Chain
@@ -28,8 +30,12 @@ after_commands chain (command ∷ commands) = after_command (after_commands chai
 abbrev pub on_base : Base → Log → Chain
 on_base base start = record { base = base; start = start; blocks = [] }
 
+-- the chain that the last save holds
+abbrev pub saved_chain : RunState → Chain
+saved_chain run = after_commands (on_base run.base run.start) run.saved
+
 abbrev pub chain_of : RunState → Chain
-chain_of run = after_commands (on_base run.base run.start) (run.since ++ run.saved)
+chain_of run = after_commands (saved_chain run) run.since
 
 -- ---- the area that keeps the commands
 
@@ -42,13 +48,9 @@ abbrev pub grown_by : List Command → ℕ → ℕ
 grown_by [] area = area
 grown_by (command ∷ commands) area = record_length command + grown_by commands area
 
--- nothing is saved yet
-abbrev pub saved_text : RunState → List ℕ
-saved_text run = []
-
 -- the length of the saved text in 8 bytes, this text, the records of the commands since, and a closed gate
 abbrev pub area_of : RunState → ℕ
-area_of run = grown_by run.since (9 + length (saved_text run))
+area_of run = grown_by run.since (9 + length run.text)
 
 -- no area is longer
 abbrev pub longest_area : ℕ
@@ -68,6 +70,7 @@ accepted run command = record {
   saved = run.saved;
   since = command ∷ run.since;
   selections = run.selections;
+  text = run.text;
 }
 
 -- the oldest command stands first

@@ -3,7 +3,7 @@ use Rattle.std.specs.Prelude.{◌≡◌, ℕ, ◌<◌, ◌≤◌, List, [], ◌�
 use Rattle.nmc_base.specs.declared.limits.TheConstants.{LONGEST_BLOCK}
 use Rattle.chain_names.specs.Sound.{AreAccepted}
 use Rattle.chain_commands.specs.Chain.{Chain}
-use Rattle.chain_commands.specs.Event.{Command, Connect, Disconnect, Event, Do, Ask}
+use Rattle.chain_commands.specs.Event.{Command, Connect, Disconnect, Event, Do, Ask, Save}
 use Rattle.chain_commands.specs.RunState.{after_command}
 use Rattle.feed_frames.specs.Replies.{Reply}
 use Rattle.chain_commands.specs.Refusals.{Refusals, IsFirst, HasNoneBelow}
@@ -38,10 +38,11 @@ HasAllowedPayload (Disconnect hash) = Unit {0}
 abbrev pub IsAcceptedChain : Chain → Type 0
 IsAcceptedChain chain = AreAccepted chain.base.profile chain.start chain.base.height chain.blocks
 
--- the commands whose reply has code 0; a query is none
+-- the commands whose reply has code 0; a query is none, and a save neither
 abbrev pub accepted_of : List Event → List Reply → List Command
 accepted_of [] replies = []
 accepted_of (event ∷ events) [] = []
 accepted_of (Do command ∷ events) (reply ∷ replies) =
     if reply.code == 0 then command ∷ accepted_of events replies else accepted_of events replies
 accepted_of (Ask message ∷ events) (reply ∷ replies) = accepted_of events replies
+accepted_of (Save ∷ events) (reply ∷ replies) = accepted_of events replies

@@ -12,6 +12,8 @@ ghost use Rattle.chain_commands.specs.Event.{Command, Connect, Disconnect, Event
 ghost use Rattle.chain_commands.specs.RunState.{RunState, chain_of, IsFull};
 ghost use Rattle.chain_commands.specs.Connecting.{Refusal, Refuses};
 ghost use Rattle.chain_commands.specs.Disconnecting.{BackRefusal, RefusesBack};
+ghost use Rattle.chain_commands.specs.Refusals.{IsFirst};
+ghost use Rattle.chain_commands.specs.Saving.{SaveRefusal, HoldsSave, save_order};
 ghost use Rattle.chain_commands.specs.Surviving.{Surviving, HasAllowedPayload, IsAcceptedChain};
 
 /// Each whole frame is one event.
@@ -20,12 +22,14 @@ pub fn one_event()
     ensures one { (event other : Event) → event_frame event ≡ event_frame other → event ≡ other }
 {}
 
-/// A command has one refusal at most: the order of the conditions decides.
+/// A command has one refusal at most, and so has a save: the order of the conditions decides.
 pub fn one_refusal()
     ensures connect { (run : RunState) (bytes : List ℕ) (refusal other : Refusal)
         → Refuses (IsFull run (Connect bytes)) (chain_of run) bytes refusal → Refuses (IsFull run (Connect bytes)) (chain_of run) bytes other → refusal ≡ other }
     ensures disconnect { (run : RunState) (hash : List ℕ) (refusal other : BackRefusal)
         → RefusesBack (IsFull run (Disconnect hash)) (chain_of run) hash refusal → RefusesBack (IsFull run (Disconnect hash)) (chain_of run) hash other → refusal ≡ other }
+    ensures save { (run : RunState) (refusal other : SaveRefusal)
+        → IsFirst (HoldsSave run) save_order refusal → IsFirst (HoldsSave run) save_order other → refusal ≡ other }
 {}
 
 /// What survives commands on an accepted chain, as one without blocks is on its start list, is accepted, where no connect is

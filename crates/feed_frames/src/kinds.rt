@@ -15,7 +15,7 @@ pub const LONGEST_MESSAGE: usize = 65_535;
 pub const LONGEST_PAYLOAD: usize = LONGEST_BLOCK;
 
 /// The kinds of frames, by their numbers from 1 on. Who reads frames reads those up to a number; a kind more is one row more.
-pub const KINDS: [Kind; 3] = [
+pub const KINDS: [Kind; 4] = [
     // a block that is to join the chain
     Kind {
         byte: 1,
@@ -33,5 +33,11 @@ pub const KINDS: [Kind; 3] = [
         byte: 3,
         least: 0,
         greatest: LONGEST_MESSAGE,
+    },
+    // the index is to be saved; there is nothing else to say
+    Kind {
+        byte: 4,
+        least: 0,
+        greatest: 0,
     },
 ];

@@ -25,12 +25,15 @@ fn tell(frames: &mut Frames, out: &mut Vec<u8>) -> Result<(), NoMemory> {
     Ok(())
 }
 
+/// The kinds that are read here.
+const LAST_KIND: u8 = 4;
+
 /// Three answers to these two pieces.
 fn three(alloc: Global, front: &[u8], rest: &[u8]) -> Result<Vec<u8>, NoMemory>
     requires { length front.now + length rest.now ≤ 1000 }
 {
     let mut out = Vec::new(alloc);
-    let mut frames = Frames::new(alloc, 3)?;
+    let mut frames = Frames::new(alloc, LAST_KIND)?;
     frames.feed(front);
     frames.feed(rest);
     tell(&mut frames, &mut out)?;
@@ -78,7 +81,8 @@ fn tells(rt: &impl Abort, alloc: Global, bytes: &[u8], want: &[u8]) -> Result<()
 #[test]
 fn a_bad_frame_is_answered_again(rt: HostRuntime) -> Result<(), Fail> {
     let alloc = rt.alloc();
-    tells(&rt, alloc, &[7], &[b'!', 0, b'!', 0, b'!', 0])?;
+    tells(&rt, alloc, &[5], &[b'!', 0, b'!', 0, b'!', 0])?;
+    tells(&rt, alloc, &[4, 1, 0, 0, 0], &[b'!', 0, b'!', 0, b'!', 0])?;
     tells(&rt, alloc, &[3, 0, 0, 1, 0], &[b'!', 0, b'!', 0, b'!', 0])?;
     tells(
         &rt,
@@ -98,12 +102,28 @@ fn a_part_of_a_frame_is_none(rt: HostRuntime) -> Result<(), Fail> {
     tells(&rt, alloc, &[2, 33], b"...")?;
     tells(&rt, alloc, &[1, 0, 0, 0x80, 0], b"...")?;
     tells(&rt, alloc, &[3, 255, 255, 0, 0], b"...")?;
+    tells(&rt, alloc, &[4], b"...")?;
+    tells(&rt, alloc, &[4, 0, 0, 0], b"...")?;
+    tells(&rt, alloc, &[4, 0, 0, 0, 0], &[4, b'.', b'.'])?;
     tells(&rt, alloc, &[1, 0, 0, 0, 0], &[1, b'.', b'.'])
 }
 
 #[test]
-fn tells_the_room_and_the_cut_frame(rt: HostRuntime) -> Result<(), Fail> {
+fn reads_the_kinds_up_to_a_number(rt: HostRuntime) -> Result<(), Fail> {
     let mut frames = Frames::new(rt.alloc(), 3)?;
+    frames.feed(&[4, 0, 0, 0, 0]);
+    let is_bad = matches!(frames.next(), Err(BadFrame { offset: 0 }));
+    assert!(rt; is_bad);
+    frames.restart(LAST_KIND);
+    frames.feed(&[4, 0, 0, 0, 0]);
+    let is_whole = matches!(frames.next(), Ok(Some(_)));
+    assert!(rt; is_whole);
+    Ok(())
+}
+
+#[test]
+fn tells_the_room_and_the_cut_frame(rt: HostRuntime) -> Result<(), Fail> {
+    let mut frames = Frames::new(rt.alloc(), LAST_KIND)?;
     assert!(rt; frames.room() == 8_454_149 && frames.cut_at().is_none());
     frames.feed(&[1, 0, 0, 0, 0, 2]);
     let is_whole = matches!(frames.next(), Ok(Some(_)));

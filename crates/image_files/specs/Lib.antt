@@ -7,3 +7,4 @@ pub mod Fronts
 pub mod Indexes
 pub mod Reading
 pub mod SavedTexts
+pub mod SavingIndex

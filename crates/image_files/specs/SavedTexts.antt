@@ -11,8 +11,8 @@ use Rattle.image_grammar.specs.Image.{HasText}
 use Rattle.image_grammar.specs.Text.{IsStateText}
 use Rattle.chain_state.specs.Chain.{Indexed, newest_hash}
 
--- The state is sound with the records that undo the blocks on this base, the newest first. This is its text, in this version: that
--- of an image that is read again.
+-- The state is sound with the records that undo the blocks on this base, the newest first. This is its text, in either version: that of
+-- an image that is read again.
 pub record IsSavedText (version : Version) (base : Base) (undos : List UndoRecord) (maps : Maps) (text : List ℕ) : Type 0 where
   pub is_text : IsStateText version base undos maps text
   pub has_text : HasText is_text.image

@@ -9,9 +9,12 @@ mod law;
 mod loading;
 mod pieces;
 mod reading;
+mod saved;
+mod saving;
 mod writing;
 
 pub use fault::ReadFault;
 pub use law::{a_saved_index_is_read, images_of_a_save, one_bad_image, one_index_of_an_image};
 pub use reading::read_image;
-pub use writing::write_image;
+pub use saved::{SaveFault, Saved};
+pub use saving::save_index;

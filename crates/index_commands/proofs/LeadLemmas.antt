@@ -1,12 +1,13 @@
 -- Commands one after the other.
-use Rattle.std.proofs.Common.{◌≡◌, List, [], ◌∷◌, ◌∙◌}
+use Rattle.std.proofs.Common.{◌≡◌, List, [], ◌∷◌, ◌++◌, sym, subst, ◌∙◌}
 use Rattle.chain_state.specs.Chain.{Indexed, SameIndex}
 use Rattle.chain_commands.specs.Chain.{Chain}
 use Rattle.chain_commands.specs.Event.{Command, Connect, Disconnect}
 use Rattle.chain_commands.specs.RunState.{after_commands}
+use Rattle.chain_commands.proofs.SavingLemmas.{after_both}
 use Rattle.chain_state.proofs.StandingLemmas.{same_stands, same_after}
 use Rattle.index_commands.specs.Standing.{StandsFor}
-use Rattle.index_commands.specs.Allowed.{AreAllowed}
+use Rattle.index_commands.specs.Allowed.{IsAllowed, AreAllowed}
 use Rattle.index_commands.specs.Taking.{IsTakenBy, TakesCommand, LeadsTo, AreTaken}
 use Rattle.index_commands.proofs.TakenLemmas.{same_back, same_self, taken, taken_alike}
 use Rattle.index_commands.proofs.ResultLemmas.{one_result, takes_same}
@@ -44,6 +45,19 @@ led_taken first index (command ∷ commands) (below, led, takes) = taken_behind 
 pub lead_same : (first index same : Indexed) (commands : List Command) → SameIndex same index → LeadsTo first commands index → LeadsTo first commands same
 lead_same first index same [] alike leads = same_after same index first alike leads
 lead_same first index same (command ∷ commands) alike (below, led, takes) = (below, led, takes_same below index same alike command takes)
+
+-- ---- in two parts
+
+pub allowed_of_parts : (first : Chain) (later earlier : List Command) → AreAllowed first (later ++ earlier) → AreAllowed first earlier × AreAllowed (after_commands first earlier) later
+allowed_of_parts first [] earlier are = (are, tt)
+allowed_of_parts first (command ∷ later) earlier are =
+    let both = allowed_of_parts first later earlier are.0 in
+    (both.0, (both.1, subst (λ (chain : Chain). IsAllowed chain command) (sym (after_both first later earlier)) are.1))
+
+pub parts_allowed : (first : Chain) (later earlier : List Command) → AreAllowed first earlier → AreAllowed (after_commands first earlier) later → AreAllowed first (later ++ earlier)
+parts_allowed first [] earlier are also = are
+parts_allowed first (command ∷ later) earlier are also =
+    (parts_allowed first later earlier are also.0, subst (λ (chain : Chain). IsAllowed chain command) (after_both first later earlier) also.1)
 
 -- ---- on a chain that the first index stands for
 

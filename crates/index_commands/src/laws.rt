@@ -1,6 +1,6 @@
 //! Laws of what an index takes. Each is the contract of a function that does nothing.
 
-ghost use Rattle.std.specs.Prelude.{◌≡◌, ◌↔◌, ℕ, ◌≤◌, List, ◌∷◌, length};
+ghost use Rattle.std.specs.Prelude.{◌≡◌, ◌↔◌, ℕ, ◌≤◌, List, ◌∷◌, ◌++◌, length};
 ghost use Rattle.nmc_base.specs.declared.hashes.Hash32.{Hash32};
 ghost use Rattle.nmc_base.specs.declared.limits.TheConstants.{LONGEST_BLOCK};
 ghost use Rattle.chain_state.specs.Chain.{Indexed, SameIndex, StagedIndex};
@@ -48,4 +48,9 @@ pub fn commands_lead()
     ensures stands { (first index : Indexed) (chain : Chain) (commands : List Command) → StandsFor first chain → LeadsTo first commands index
         → StandsFor index (after_commands chain commands) }
     ensures taken { (first : Indexed) (chain : Chain) (commands : List Command) → StandsFor first chain → AreAllowed chain commands → AreTaken first commands }
+{}
+
+/// Commands are allowed just where those that came first are, and the later ones are on the chain behind them.
+pub fn allowed_in_two_parts()
+    ensures { (first : Chain) (later earlier : List Command) → AreAllowed first (later ++ earlier) ↔ (AreAllowed first earlier × AreAllowed (after_commands first earlier) later) }
 {}

@@ -6,5 +6,5 @@ mod laws;
 mod staging;
 
 pub use following::{CONNECT, DISCONNECT, Unfollowed, follow};
-pub use laws::{commands_follow, commands_lead, one_lead, one_result};
+pub use laws::{allowed_in_two_parts, commands_follow, commands_lead, one_lead, one_result};
 pub use staging::{CONNECT_RECORD, DISCONNECT_RECORD, stage_bytes, stage_hash};

@@ -1,3 +1,4 @@
 pub mod Querying
 pub mod Step
 pub mod Serving
+pub mod Leaving

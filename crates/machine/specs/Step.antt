@@ -1,10 +1,11 @@
 -- One step of the machine, and runs of steps.
 use Rattle.std.specs.Prelude.{◌≡◌, List, [], ◌∷◌}
-use Rattle.chain_commands.specs.Event.{Event, Connect, Disconnect, Do, Ask}
+use Rattle.chain_commands.specs.Event.{Event, Connect, Disconnect, Do, Ask, Save}
 use Rattle.chain_commands.specs.RunState.{RunState}
 use Rattle.feed_frames.specs.Replies.{Reply}
 use Rattle.chain_commands.specs.Connecting.{Connects}
 use Rattle.chain_commands.specs.Disconnecting.{Disconnects}
+use Rattle.chain_commands.specs.Saving.{Saves}
 use Rattle.dns_message.specs.declared.numbers.TheConstants.{LEAST_LIMIT}
 use Rattle.machine.specs.Querying.{Queries}
 
@@ -14,6 +15,7 @@ abbrev pub Step : RunState → Event → Reply → RunState → Type 0
 Step old (Do (Connect block)) reply new = Connects old block reply new
 Step old (Do (Disconnect hash)) reply new = Disconnects old hash reply new
 Step old (Ask message) reply new = Queries LEAST_LIMIT old message reply new
+Step old Save reply new = Saves old reply new
 
 -- the machine may give these replies to these events, one step after another
 abbrev pub Run : RunState → List Event → List Reply → RunState → Type 0

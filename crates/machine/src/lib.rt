@@ -7,5 +7,5 @@ mod served;
 
 pub use answering::answer;
 pub use bit_resolver::Answered;
-pub use laws::{decided_step, disconnecting_forgets, one_surviving, surviving_chain};
+pub use laws::{decided_step, disconnecting_forgets, done_or_left, one_surviving, surviving_chain};
 pub use served::Served;

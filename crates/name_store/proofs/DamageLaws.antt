@@ -1,86 +1,31 @@
 -- Damaged files stand for no run state, and are damaged at one place first.
-use Rattle.std.proofs.Common.{◌≡◌, inl, inr, ℕ, ◌≤◌, List, [], ◌∷◌, length, sym, ◌∙◌, ap, subst, arith, length-append}
-use Rattle.std.proofs.lemmas.Bool.{cases_lt}
+use Rattle.std.proofs.Common.{◌≡◌, ℕ, ◌<◌, List, refl, sym, ◌∙◌, ap, subst, arith}
 use Rattle.nmc_base.specs.declared.chain_ends.Base.{Base}
-use Rattle.gate_journal.specs.Gate.{IsOpen, IsClosed}
-use Rattle.gate_journal.specs.Records.{IsArea, image_front, records_text}
-use Rattle.gate_journal.proofs.RecordLemmas.{begins_with}
+use Rattle.gate_journal.specs.Gate.{IsClosed}
+use Rattle.gate_journal.specs.Records.{IsArea, image_front}
 use Rattle.gate_journal.proofs.GateLemmas.{ended_to}
-use Rattle.chain_state.specs.Chain.{Indexed, SameIndex, IsAtBase}
-use Rattle.chain_state.proofs.StandingLemmas.{base_stands}
-use Rattle.chain_state.proofs.UndoLemmas.{one_index}
-use Rattle.chain_commands.specs.Chain.{Chain}
-use Rattle.chain_commands.specs.Event.{Command}
-use Rattle.chain_commands.specs.RunState.{RunState, on_base, saved_text, longest_area}
-use Rattle.index_commands.specs.Records.{record_of, records_of}
-use Rattle.index_commands.specs.Allowed.{AreAllowed}
-use Rattle.index_commands.specs.Taking.{AreTaken}
-use Rattle.index_commands.proofs.SizeLemmas.{allowed_sizes}
-use Rattle.index_commands.proofs.LeadLemmas.{lead_alike, led_taken, allowed_taken}
-use Rattle.name_store.specs.Header.{HasHeader, HasFields, IsInitialised, IsShut, base_at, selections_at}
-use Rattle.name_store.specs.Commands.{Origin, without_image, HasCommands, gate_behind}
+use Rattle.chain_state.specs.Chain.{Indexed, SameIndex}
+use Rattle.chain_commands.specs.RunState.{RunState, saved_chain, longest_area}
+use Rattle.chain_commands.specs.Saving.{most_selections}
+use Rattle.image_slots.specs.Selections.{HasSelections, selected_by}
+use Rattle.image_slots.specs.Damage as slots
+use Rattle.image_slots.proofs.DamageLaws as slot_laws
+use Rattle.image_files.specs.Fronts.{image_at}
+use Rattle.image_files.specs.Indexes.{BeginsWith, HasBadImage}
+use Rattle.image_files.proofs.AreaLaws as image_laws
+use Rattle.index_commands.specs.Records.{records_of}
+use Rattle.index_commands.specs.Standing.{StandsFor}
+use Rattle.index_commands.proofs.LeadLemmas.{allowed_taken}
+use Rattle.command_areas.specs.Commands.{Origin, HasCommands, gate_behind}
+use Rattle.command_areas.specs.Damage.{HasBadRecord}
+use Rattle.command_areas.proofs.RecordLaws.{ended_well, one_record, bad_alike}
+use Rattle.name_store.specs.Header.{HasHeader, HasFields, IsInitialised, header_text, base_at, selections_at}
 use Rattle.name_store.specs.Damage as damage
-use Rattle.name_store.specs.Damage.{HasBadField, HasNoImage, HasBadRecord, IsDamaged}
+use Rattle.name_store.specs.Damage.{HasBadField, HasSelected, BeginsAt, IsDamaged}
 use Rattle.name_store.specs.Stands.{Bytes, Stands}
-use Rattle.name_store.proofs.AreaLemmas.{StandOn, all, fewer, one_further, compared, older_read, read_next, area_size, open_at}
-use Rattle.name_store.proofs.RunLemmas.{standing_header, standing_base}
-
--- ---- commands that are taken, and one that isn't
-
-older_taken : (first : Indexed) (xs ys : List Command) → StandOn xs ys → AreTaken first ys → AreTaken first xs
-older_taken first xs ys all are = are
-older_taken first xs ys (fewer y below on) are = older_taken first xs below on are.0
-
-module _ (first : Origin) (limit : ℕ) (file : List ℕ) where
-  -- no record that the index refuses stands behind the older ones of commands that it takes
-  older_all : (commands : List Command) → HasCommands first.front limit file commands → AreTaken first.index commands → (at : ℕ) → (bad : HasBadRecord first limit file at)
-      → length bad.commands ≤ length commands → bad.commands ≡ commands
-  older_all commands has are at bad low = elim (one_further bad.commands commands (compared first.front limit file bad.commands commands bad.read.has has low)) [
-    | inl same ↦ same
-    | inr next ↦ absurd (bad.no_next next.0 (record {
-      stands = read_next first.front limit file bad.commands next.0 (older_read first.front limit file (next.0 ∷ bad.commands) commands next.1 has);
-      taken = (older_taken first.index (next.0 ∷ bad.commands) commands next.1 are).1 bad.index bad.read.leads;
-    }))
-  ]
-
-  -- so not behind commands that end at a closed gate
-  pub ended_well : (commands : List Command) → HasCommands first.front limit file commands → AreTaken first.index commands → IsClosed file (gate_behind first.front commands) → (at : ℕ) → HasBadRecord first limit file at → ⊥
-  ended_well commands has are closed at bad =
-      let opens : IsOpen file (gate_behind first.front bad.commands) = subst (IsOpen file) bad.at_is bad.is_open in
-      elim (cases_lt (length commands) (length bad.commands)) [
-        | inl less ↦ elim (one_further commands bad.commands (compared first.front limit file commands bad.commands has bad.read.has (omega (arith, less)))) [
-          | inl same ↦ closed (subst (λ (l : List Command). IsOpen file (gate_behind first.front l)) (sym same) opens)
-          | inr next ↦ closed (open_at file (gate_behind first.front commands) limit (record_of next.0)
-              (read_next first.front limit file commands next.0 (older_read first.front limit file (next.0 ∷ commands) bad.commands next.1 bad.read.has)))
-        ]
-        | inr more ↦ closed (subst (λ (l : List Command). IsOpen file (gate_behind first.front l)) (older_all commands has are at bad more) opens)
-      ]
-
-  -- and behind one list of commands alone
-  pub one_record : (a b : ℕ) → HasBadRecord first limit file a → HasBadRecord first limit file b → a ≡ b
-  one_record a b bad other =
-      let taken = λ (at : ℕ) (is : HasBadRecord first limit file at). led_taken first.index is.index is.commands is.read.leads in
-      let same : bad.commands ≡ other.commands = elim (cases_lt (length other.commands) (length bad.commands)) [
-        | inl less ↦ sym (older_all bad.commands bad.read.has (taken a bad) b other (omega (arith, less)))
-        | inr more ↦ older_all other.commands other.read.has (taken b other) a bad more
-      ] in
-      bad.at_is ∙ ap (gate_behind first.front) same ∙ sym other.at_is
-
--- the same index refuses the same record
-pub bad_alike : (front : List ℕ) (a b : Indexed) → SameIndex a b → (limit : ℕ) (file : List ℕ) (at : ℕ) → HasBadRecord (record { front = front; index = a }) limit file at
-    → HasBadRecord (record { front = front; index = b }) limit file at
-bad_alike front a b same limit file at bad = record {
-  commands = bad.commands;
-  index = bad.index;
-  read = record { has = bad.read.has; leads = lead_alike a b bad.index bad.commands same bad.read.leads };
-  at_is = bad.at_is;
-  is_open = bad.is_open;
-  no_next = bad.no_next;
-}
-
--- indexes of one base alone are the same
-pub one_begins : (base : Base) (a b : Indexed) → IsAtBase base a → IsAtBase base b → SameIndex a b
-one_begins base a b at_a at_b = one_index base [] [] a b (base_stands base [] a at_a) (base_stands base [] b at_b)
+use Rattle.name_store.proofs.RunLemmas.{standing_base, standing_selected, one_count}
+use Rattle.name_store.proofs.StateLemmas.{area_is}
+use Rattle.name_store.proofs.SavedLemmas.{saved_stands, saved_front, saved_image, saved_not_bad}
 
 -- a header whose fields are in order has no bad one
 no_bad_field : (file : List ℕ) (at : ℕ) → HasFields file → HasBadField file at → ⊥
@@ -89,54 +34,88 @@ no_bad_field file at has (damage.bad_profile is magic not) = not has.profile_is
 no_bad_field file at has (damage.bad_height is magic profile high) = omega (arith, high, has.low)
 no_bad_field file at has (damage.bad_host is magic profile low not) = not has.host
 
-no_bad_gate : (file : List ℕ) (at : ℕ) → HasHeader file → at ≡ selections_at file → ¬ (IsShut file at) → ⊥
-no_bad_gate file at has is not = not (subst (IsShut file) (sym is) has.shut)
+no_bad_selection : (file : List ℕ) (count at : ℕ) → HasSelected file count → slots.IsDamaged (selections_at file) most_selections file at → ⊥
+no_bad_selection file count at has bad = slot_laws.no_place (selections_at file) most_selections file count at has.selections has.few bad
+
+-- ---- where the commands of an area begin
+
+-- two origins of an area have one front and the same index
+front_same : (base : Base) (area : List ℕ) (a b : Origin) → BeginsAt base area a → BeginsAt base area b → a.front ≡ b.front
+front_same base area a b is also = is.front_is ∙ sym also.front_is
+
+index_same : (base : Base) (area : List ℕ) (a b : Origin) → BeginsAt base area a → BeginsAt base area b → SameIndex a.index b.index
+index_same base area a b is also = image_laws.one_index base (image_at area) a.index b.index is.is_index also.is_index
+
+-- a bad record behind the one is one behind the other
+pub bad_behind : (base : Base) (area : List ℕ) (a b : Origin) (at : ℕ) → BeginsAt base area a → BeginsAt base area b → HasBadRecord a longest_area area at → HasBadRecord b longest_area area at
+bad_behind base area a b at is also bad =
+    bad_alike b.front a.index b.index (index_same base area a b is also) longest_area area at
+    (subst (λ (front : List ℕ). HasBadRecord (record { front = front; index = a.index }) longest_area area at) (front_same base area a b is also) bad)
+
+-- an area where commands begin has no bad image
+pub begun_not_bad : (base : Base) (area : List ℕ) (first : Origin) (at : ℕ) → BeginsAt base area first → HasBadImage base area at → ⊥
+begun_not_bad base area first at is bad = image_laws.none_begun base area first.index at is.front is.is_index bad
 
 -- ---- uninitialised, damaged, or neither
 
 pub damaged_initialised : (files : Bytes) (file at : ℕ) → IsDamaged files file at → IsInitialised (files 0)
 damaged_initialised files file at (damage.field is begun bad) = begun
-damaged_initialised files file at (damage.selection is begun fields at_is not) = begun
-damaged_initialised files file at (damage.image is has at_is not) = has.initialised
-damaged_initialised files file at (damage.command is has none first at_base bad) = has.initialised
+damaged_initialised files file at (damage.selection is has bad) = has.initialised
+damaged_initialised files file at (damage.image count has is bad) = has.header.initialised
+damaged_initialised files file at (damage.command count has is first begins bad) = has.header.initialised
 
--- files whose header is in order, with no image, and whose commands end well from the index of the base on
-pub record IsInOrder (files : Bytes) : Type 0 where
-  pub has : HasHeader (files 0)
-  pub none : HasNoImage (files 1)
-  pub no_bad : (at : ℕ) (first : Indexed) → IsAtBase (base_at (files 0)) first → HasBadRecord (without_image first) longest_area (files 1) at → ⊥
+-- files whose header and selections are in order, and the image and the commands of the selected area
+pub record IsInOrder (files : Bytes) (count : ℕ) : Type 0 where
+  pub has : HasSelected (files 0) count
+  pub no_bad_image : (at : ℕ) → HasBadImage (base_at (files 0)) (files (selected_by count)) at → ⊥
+  pub no_bad_record : (at : ℕ) (first : Origin) → BeginsAt (base_at (files 0)) (files (selected_by count)) first → HasBadRecord first longest_area (files (selected_by count)) at → ⊥
 
-pub undamaged : (files : Bytes) → IsInOrder files → (file at : ℕ) → IsDamaged files file at → ⊥
-undamaged files order file at (damage.field is begun bad) = no_bad_field (files 0) at order.has.fields bad
-undamaged files order file at (damage.selection is begun fields at_is not) = no_bad_gate (files 0) at order.has at_is not
-undamaged files order file at (damage.image is has at_is not) = not order.none
-undamaged files order file at (damage.command is has none first at_base bad) = order.no_bad at first at_base bad
-
--- an area that begins with an empty image
-pub empty_front : (records : List (List ℕ)) (area : List ℕ) → IsArea [] records area → HasNoImage area
-empty_front records area is = record {
-  long = omega (arith, is.closed.inside, length-append (image_front []) (records_text records));
-  empty = begins_with (image_front []) (records_text records) area is.closed;
-}
+pub undamaged : (files : Bytes) (count : ℕ) → IsInOrder files count → (file at : ℕ) → IsDamaged files file at → ⊥
+undamaged files count order file at (damage.field is begun bad) = no_bad_field (files 0) at order.has.header.fields bad
+undamaged files count order file at (damage.selection is has bad) = no_bad_selection (files 0) count at order.has bad
+undamaged files count order file at (damage.image other has is bad) =
+    let same : file ≡ selected_by count = is ∙ ap selected_by (one_count (files 0) other count has order.has) in
+    order.no_bad_image at (subst (λ (f : ℕ). HasBadImage (base_at (files 0)) (files f) at) same bad)
+undamaged files count order file at (damage.command other has is first begins bad) =
+    let same : file ≡ selected_by count = is ∙ ap selected_by (one_count (files 0) other count has order.has) in
+    order.no_bad_record at first (subst (λ (f : ℕ). BeginsAt (base_at (files 0)) (files f) first) same begins) (subst (λ (f : ℕ). HasBadRecord first longest_area (files f) at) same bad)
 
 -- files that stand for a run state
 module _ (files : Bytes) (run : RunState) (stands : Stands files run) where
-  standing_allowed : AreAllowed (on_base (base_at (files 0)) []) run.since
-  standing_allowed = subst (λ (c : Chain). AreAllowed c run.since) (λ i. on_base (sym (standing_base files run stands) i) (stands.is_state.start_is i)) stands.is_state.allowed
+  abbrev area : List ℕ
+  area = files (selected_by run.selections)
 
-  standing_has : HasCommands (image_front (saved_text run)) longest_area (files 1) run.since
-  standing_has = record {
-    records = ended_to (image_front (saved_text run)) (records_of run.since) (files 1) stands.area;
-    within = omega (arith, area_size (image_front (saved_text run)) run.since (allowed_sizes (on_base run.base run.start) run.since stands.is_state.allowed), stands.is_state.fits);
-  }
+  standing_not_bad : (at : ℕ) → HasBadImage (base_at (files 0)) area at → ⊥
+  standing_not_bad at bad =
+      saved_not_bad run stands.is_state (records_of run.since) area stands.area at (subst (λ (b : Base). HasBadImage b area at) (standing_base files run stands) bad)
 
-  no_bad_record : (at : ℕ) (first : Indexed) → IsAtBase (base_at (files 0)) first → HasBadRecord (without_image first) longest_area (files 1) at → ⊥
-  no_bad_record at first at_base bad =
-      let base = base_at (files 0) in
-      ended_well (without_image first) longest_area (files 1) run.since standing_has (allowed_taken first (on_base base []) (base_stands base [] first at_base) run.since standing_allowed) stands.area.closed.closed at bad
+  module _ (first : Origin) (begins : BeginsAt (base_at (files 0)) area first) where
+    pub standing_front : first.front ≡ image_front run.text
+    standing_front = begins.front_is ∙ ap image_front (saved_image run stands.is_state (records_of run.since) area stands.area)
+
+    pub standing_first : (P : Indexed → Type 0) → ((index : Indexed) → BeginsWith run.base run.text index → P index) → P first.index
+    standing_first P holds =
+        holds first.index (subst (λ (b : Base). BeginsWith b run.text first.index) (standing_base files run stands)
+        (subst (λ (l : List ℕ). BeginsWith (base_at (files 0)) l first.index) (saved_image run stands.is_state (records_of run.since) area stands.area) begins.is_index))
+
+    standing_has : HasCommands first.front longest_area area run.since
+    standing_has = subst (λ (front : List ℕ). HasCommands front longest_area area run.since) (sym standing_front) (record {
+      records = ended_to (image_front run.text) (records_of run.since) area stands.area;
+      within = omega (arith, area_is run stands.is_state, stands.is_state.fits);
+    })
+
+    standing_no_bad : (at : ℕ) → HasBadRecord first longest_area area at → ⊥
+    standing_no_bad at bad =
+        let closed = subst (λ (front : List ℕ). IsClosed area (gate_behind front run.since)) (sym standing_front) stands.area.closed.closed in
+        ended_well first longest_area area run.since standing_has
+        (allowed_taken first.index (saved_chain run) (standing_first (λ index. StandsFor index (saved_chain run)) (saved_stands run stands.is_state)) run.since stands.is_state.allowed) closed at bad
 
   pub standing_undamaged : (file at : ℕ) → IsDamaged files file at → ⊥
-  standing_undamaged = undamaged files (record { has = standing_header files run stands; none = empty_front (records_of run.since) (files 1) stands.area; no_bad = no_bad_record })
+  standing_undamaged = undamaged files run.selections (record {
+    has = standing_selected files run stands;
+    no_bad_image = standing_not_bad;
+    no_bad_record = λ at first begins bad. standing_no_bad first begins at bad;
+  })
 
 -- ---- one damage is the first
 
@@ -158,37 +137,82 @@ one_field file a b (damage.bad_host is magic profile low not) (damage.bad_profil
 one_field file a b (damage.bad_host is magic profile low not) (damage.bad_height also magic_ profile_ high_) = absurd (omega (arith, low, high_))
 one_field file a b (damage.bad_host is magic profile low not) (damage.bad_host also magic_ profile_ low_ not_) = is ∙ sym also
 
-one_command : (base : Base) (a b : Indexed) → IsAtBase base a → IsAtBase base b → (area : List ℕ) (at place : ℕ) → HasBadRecord (without_image a) longest_area area at → HasBadRecord (without_image b) longest_area area place
-    → at ≡ place
-one_command base a b at_a at_b area at place bad other =
-    one_record (without_image b) longest_area area at place (bad_alike (image_front []) a b (one_begins base a b at_a at_b) longest_area area at bad) other
+-- of two areas that the selections name
+module _ (files : Bytes) (file other at place count most : ℕ) (has : HasSelected (files 0) count) (also : HasSelected (files 0) most) where
+  file_same : file ≡ selected_by count → other ≡ selected_by most → file ≡ other
+  file_same is is_other = is ∙ ap selected_by (one_count (files 0) count most has also) ∙ sym is_other
+
+  image_first : file ≡ selected_by count → other ≡ selected_by most → HasBadImage (base_at (files 0)) (files file) at → HasBadImage (base_at (files 0)) (files other) place
+      → (file ≡ other) × (at ≡ place)
+  image_first is is_other bad bad_too =
+      let same = file_same is is_other in
+      (same, image_laws.one_place (base_at (files 0)) (files other) at place (subst (λ (f : ℕ). HasBadImage (base_at (files 0)) (files f) at) same bad) bad_too)
+
+  image_or_command : file ≡ selected_by count → other ≡ selected_by most → HasBadImage (base_at (files 0)) (files file) at → (first : Origin) → BeginsAt (base_at (files 0)) (files other) first → ⊥
+  image_or_command is is_other bad first begins =
+      begun_not_bad (base_at (files 0)) (files other) first at begins (subst (λ (f : ℕ). HasBadImage (base_at (files 0)) (files f) at) (file_same is is_other) bad)
+
+  command_first : file ≡ selected_by count → other ≡ selected_by most → (a b : Origin) → BeginsAt (base_at (files 0)) (files file) a → BeginsAt (base_at (files 0)) (files other) b
+      → HasBadRecord a longest_area (files file) at → HasBadRecord b longest_area (files other) place → (file ≡ other) × (at ≡ place)
+  command_first is is_other a b begins begins_too bad bad_too =
+      let same = file_same is is_other in
+      let base = base_at (files 0) in (
+        same,
+        one_record b longest_area (files other) at place (bad_behind base (files other) a b at (subst (λ (f : ℕ). BeginsAt base (files f) a) same begins) begins_too
+            (subst (λ (f : ℕ). HasBadRecord a longest_area (files f) at) same bad)) bad_too,
+      )
 
 pub one_first : (files : Bytes) (file at other place : ℕ) → IsDamaged files file at → IsDamaged files other place → (file ≡ other) × (at ≡ place)
 one_first files file at other place (damage.field is begun bad) (damage.field also begun_ bad_) = (is ∙ sym also, one_field (files 0) at place bad bad_)
-one_first files file at other place (damage.field is begun bad) (damage.selection also begun_ fields_ at_is_ not_) = absurd (no_bad_field (files 0) at fields_ bad)
-one_first files file at other place (damage.field is begun bad) (damage.image also has_ at_is_ not_) = absurd (no_bad_field (files 0) at has_.fields bad)
-one_first files file at other place (damage.field is begun bad) (damage.command also has_ none_ first_ at_base_ bad_) = absurd (no_bad_field (files 0) at has_.fields bad)
-one_first files file at other place (damage.selection is begun fields at_is not) (damage.field also begun_ bad_) = absurd (no_bad_field (files 0) place fields bad_)
-one_first files file at other place (damage.selection is begun fields at_is not) (damage.selection also begun_ fields_ at_is_ not_) = (is ∙ sym also, at_is ∙ sym at_is_)
-one_first files file at other place (damage.selection is begun fields at_is not) (damage.image also has_ at_is_ not_) = absurd (no_bad_gate (files 0) at has_ at_is not)
-one_first files file at other place (damage.selection is begun fields at_is not) (damage.command also has_ none_ first_ at_base_ bad_) = absurd (no_bad_gate (files 0) at has_ at_is not)
-one_first files file at other place (damage.image is has at_is not) (damage.field also begun_ bad_) = absurd (no_bad_field (files 0) place has.fields bad_)
-one_first files file at other place (damage.image is has at_is not) (damage.selection also begun_ fields_ at_is_ not_) = absurd (no_bad_gate (files 0) place has at_is_ not_)
-one_first files file at other place (damage.image is has at_is not) (damage.image also has_ at_is_ not_) = (is ∙ sym also, at_is ∙ sym at_is_)
-one_first files file at other place (damage.image is has at_is not) (damage.command also has_ none_ first_ at_base_ bad_) = absurd (not none_)
-one_first files file at other place (damage.command is has none first at_base bad) (damage.field also begun_ bad_) = absurd (no_bad_field (files 0) place has.fields bad_)
-one_first files file at other place (damage.command is has none first at_base bad) (damage.selection also begun_ fields_ at_is_ not_) = absurd (no_bad_gate (files 0) place has at_is_ not_)
-one_first files file at other place (damage.command is has none first at_base bad) (damage.image also has_ at_is_ not_) = absurd (not_ none)
-one_first files file at other place (damage.command is has none first at_base bad) (damage.command also has_ none_ other_ at_base_ bad_) =
-    (is ∙ sym also, one_command (base_at (files 0)) first other_ at_base at_base_ (files 1) at place bad bad_)
+one_first files file at other place (damage.field is begun bad) (damage.selection also has_ bad_) = absurd (no_bad_field (files 0) at has_.fields bad)
+one_first files file at other place (damage.field is begun bad) (damage.image count_ has_ is_ bad_) = absurd (no_bad_field (files 0) at has_.header.fields bad)
+one_first files file at other place (damage.field is begun bad) (damage.command count_ has_ is_ first_ begins_ bad_) = absurd (no_bad_field (files 0) at has_.header.fields bad)
+one_first files file at other place (damage.selection is has bad) (damage.field also begun_ bad_) = absurd (no_bad_field (files 0) place has.fields bad_)
+one_first files file at other place (damage.selection is has bad) (damage.selection also has_ bad_) =
+    (is ∙ sym also, slot_laws.one_place (selections_at (files 0)) most_selections (files 0) at place bad bad_)
+one_first files file at other place (damage.selection is has bad) (damage.image count_ has_ is_ bad_) = absurd (no_bad_selection (files 0) count_ at has_ bad)
+one_first files file at other place (damage.selection is has bad) (damage.command count_ has_ is_ first_ begins_ bad_) = absurd (no_bad_selection (files 0) count_ at has_ bad)
+one_first files file at other place (damage.image count has is bad) (damage.field also begun_ bad_) = absurd (no_bad_field (files 0) place has.header.fields bad_)
+one_first files file at other place (damage.image count has is bad) (damage.selection also has_ bad_) = absurd (no_bad_selection (files 0) count place has bad_)
+one_first files file at other place (damage.image count has is bad) (damage.image count_ has_ is_ bad_) = image_first files file other at place count count_ has has_ is is_ bad bad_
+one_first files file at other place (damage.image count has is bad) (damage.command count_ has_ is_ first_ begins_ bad_) =
+    absurd (image_or_command files file other at place count count_ has has_ is is_ bad first_ begins_)
+one_first files file at other place (damage.command count has is first begins bad) (damage.field also begun_ bad_) = absurd (no_bad_field (files 0) place has.header.fields bad_)
+one_first files file at other place (damage.command count has is first begins bad) (damage.selection also has_ bad_) = absurd (no_bad_selection (files 0) count place has bad_)
+one_first files file at other place (damage.command count has is first begins bad) (damage.image count_ has_ is_ bad_) =
+    absurd (image_or_command files other file place at count_ count has_ has is_ is bad_ first begins)
+one_first files file at other place (damage.command count has is first begins bad) (damage.command count_ has_ is_ first_ begins_ bad_) =
+    command_first files file other at place count count_ has has_ is is_ first first_ begins begins_ bad bad_
 
 -- ---- files that read alike
 
--- damage is that of the first two files alone
-pub damage_moved : (old new : Bytes) (file at : ℕ) → new 0 ≡ old 0 → new 1 ≡ old 1 → IsDamaged old file at → IsDamaged new file at
-damage_moved old new file at header area (damage.field is begun bad) = damage.field is (subst IsInitialised (sym header) begun) (subst (λ (l : List ℕ). HasBadField l at) (sym header) bad)
-damage_moved old new file at header area (damage.selection is begun fields at_is not) = damage.selection is (subst IsInitialised (sym header) begun) (subst HasFields (sym header) fields)
-    (at_is ∙ ap selections_at (sym header)) (λ shut. not (subst (λ (l : List ℕ). IsShut l at) header shut))
-damage_moved old new file at header area (damage.image is has at_is not) = damage.image is (subst HasHeader (sym header) has) at_is (λ none. not (subst HasNoImage area none))
-damage_moved old new file at header area (damage.command is has none first at_base bad) = damage.command is (subst HasHeader (sym header) has) (subst HasNoImage (sym area) none)
-    first (subst (λ (l : List ℕ). IsAtBase (base_at l) first) (sym header) at_base) (subst (λ (l : List ℕ). HasBadRecord (without_image first) longest_area l at) (sym area) bad)
+module _ (old new : Bytes) (alike : (file : ℕ) → file < 3 → new file ≡ old file) where
+  header_alike : new 0 ≡ old 0
+  header_alike = alike 0 (omega arith)
+
+  area_alike : (file count : ℕ) → file ≡ selected_by count → new file ≡ old file
+  area_alike file count is = alike file (omega (arith, is))
+
+  -- of the header, and of an area that the selections name
+  at_header : (P : List ℕ → Type 0) → P (old 0) → P (new 0)
+  at_header P p = subst P (sym header_alike) p
+
+  at_area : (file count : ℕ) → file ≡ selected_by count → (P : Base → List ℕ → Type 0) → P (base_at (old 0)) (old file) → P (base_at (new 0)) (new file)
+  at_area file count is P p = subst (λ (l : List ℕ). P (base_at l) (new file)) (sym header_alike) (subst (P (base_at (old 0))) (sym (area_alike file count is)) p)
+
+  -- damage is that of the three files alone
+  pub damage_moved : (file at : ℕ) → IsDamaged old file at → IsDamaged new file at
+  damage_moved file at (damage.field is begun bad) = damage.field is (at_header IsInitialised begun) (at_header (λ l. HasBadField l at) bad)
+  damage_moved file at (damage.selection is has bad) = damage.selection is (at_header HasHeader has) (at_header (λ l. slots.IsDamaged (selections_at l) most_selections l at) bad)
+  damage_moved file at (damage.image count has is bad) = damage.image count (at_header (λ l. HasSelected l count) has) is (at_area file count is (λ base l. HasBadImage base l at) bad)
+  damage_moved file at (damage.command count has is first begins bad) =
+      damage.command count (at_header (λ l. HasSelected l count) has) is first (at_area file count is (λ base l. BeginsAt base l first) begins)
+      (at_area file count is (λ base l. HasBadRecord first longest_area l at) bad)
+
+  -- and so is what they stand for
+  pub stands_moved : (run : RunState) → Stands old run → Stands new run
+  stands_moved run stands = record {
+    selections = at_header (HasSelections (header_text run.base run.host) run.selections) stands.selections;
+    area = at_area (selected_by run.selections) run.selections refl (λ base l. IsArea run.text (records_of run.since) l) stands.area;
+    is_state = stands.is_state;
+  }

@@ -9,9 +9,9 @@ use Rattle.name_store.specs.declared.faults.OpenFault.{OpenFault}
 use Rattle.name_store.specs.declared.faults.OpenFault.TheVariants.{Uninitialised, Damaged, DiskFault, NoMemory}
 use Rattle.name_store.specs.declared.header.Header.{Header}
 use Rattle.name_store.specs.Host.{IsHostText, IsHostOf}
-use Rattle.name_store.specs.Header.{IsProfile, profile_of, magic_at, profile_at, height_at, hash_at, host_length_at, host_at, selections_at, HasHost, HasFields, IsInitialised, IsShut}
+use Rattle.name_store.specs.Header.{IsProfile, profile_of, magic_at, profile_at, height_at, hash_at, host_length_at, host_at, selections_at, HasHost, HasFields, IsInitialised}
 use Rattle.name_store.specs.Damage.{HasBadField, bad_magic, bad_profile, bad_height, bad_host}
-use Rattle.name_store.specs.Reading.{HeaderAnswer, IsHeaderOf, HasBadGate}
+use Rattle.name_store.specs.HeaderAnswers.{HeaderAnswer, IsHeaderOf}
 
 -- no header with the gate behind it is longer
 abbrev pub room : ℕ
@@ -78,27 +78,12 @@ module _ (file : List ℕ) (byte : slice_index file 46 < 256) where
     host = host_up has.host;
   }
 
-  shut_up : IsShut front (selections_at front) → IsShut file (selections_at file)
-  shut_up is =
-      let place : selections_at front ≡ selections_at file = ap (λ (n : ℕ). 47 + n) host_length_same in
-      record {
-        inside = omega (arith, size, is.inside, host_length_same);
-        closed = λ e. is.closed (one_byte (selections_at front) (omega (arith, host_length_same, byte)) ∙ ap (slice_index file) place ∙ e);
-      }
-
-  shut_down : IsShut file (selections_at file) → IsShut front (selections_at front)
-  shut_down is =
-      let place : selections_at front ≡ selections_at file = ap (λ (n : ℕ). 47 + n) host_length_same in
-      record {
-        inside = omega (arith, size, is.inside, host_length_same, byte);
-        closed = λ e. is.closed (ap (slice_index file) (sym place) ∙ sym (one_byte (selections_at front) (omega (arith, host_length_same, byte))) ∙ e);
-      }
-
   header_up : (header : Header) → IsHeaderOf front header → IsHeaderOf file header
   header_up header is = record {
     base_is = is.base_is ∙ (λ i. record { profile = profile_of (profile_same i); height = height_same i; hash = record { 0 = hash_same i } });
     height_is = ap (to_le_bytes w32) (sym height_same) ∙ is.height_is ∙ piece file 10 4 room 293 refl (omega arith);
     host_is = subst (λ (text : List ℕ). IsHostOf text header.host) host_same is.host_is;
+    selections_is = is.selections_is ∙ ap (λ (n : ℕ). 47 + n) host_length_same;
   }
 
   bad_field_up : (at : ℕ) → HasBadField front at → HasBadField file at
@@ -107,26 +92,10 @@ module _ (file : List ℕ) (byte : slice_index file 46 < 256) where
   bad_field_up at (bad_height place m p bad) = bad_height place (sym magic_same ∙ m) (subst IsProfile profile_same p) (omega (arith, height_same, bad))
   bad_field_up at (bad_host place m p h bad) = bad_host place (sym magic_same ∙ m) (subst IsProfile profile_same p) (omega (arith, height_same, h)) (λ has. bad (host_down has))
 
-  bad_gate_up : (at : ℕ) → HasBadGate front at → HasBadGate file at
-  bad_gate_up at bad =
-      let place : at ≡ selections_at file = bad.at_is ∙ ap (λ (n : ℕ). 47 + n) host_length_same in
-      record {
-        fields = fields_up bad.fields;
-        at_is = place;
-        not_shut = λ is. bad.not_shut (subst (IsShut front) (sym bad.at_is) (shut_down (subst (IsShut file) place is)));
-      }
-
   pub answer_up : (result : Result Header OpenFault) → HeaderAnswer front result → HeaderAnswer file result
-  answer_up (Ok header) is = (record { initialised = initialised_up is.0.initialised; fields = fields_up is.0.fields; shut = shut_up is.0.shut }, header_up header is.1)
+  answer_up (Ok header) is = (record { initialised = initialised_up is.0.initialised; fields = fields_up is.0.fields }, header_up header is.1)
   answer_up (Err Uninitialised) is = λ has. is (initialised_down has)
-  answer_up (Err (Damaged number at)) is = (
-    is.0,
-    initialised_up is.1,
-    elim is.2 [
-      | inl bad ↦ inl (bad_field_up at bad)
-      | inr bad ↦ inr (bad_gate_up at bad)
-    ],
-  )
+  answer_up (Err (Damaged number at)) is = (is.0, initialised_up is.1, bad_field_up at is.2)
   answer_up (Err DiskFault) is = tt
   answer_up (Err NoMemory) is = tt
 

@@ -1,8 +1,6 @@
 pub mod HeaderLemmas
-pub mod AreaLemmas
-pub mod ReadingLemmas
 pub mod OpenLemmas
-pub mod KeepLemmas
+pub mod SavedLemmas
 pub mod StateLemmas
 pub mod StoreLemmas
 pub mod OutcomeLemmas
@@ -12,3 +10,4 @@ pub mod SpellingLemmas
 pub mod RunLemmas
 pub mod DamageLaws
 pub mod FollowLaws
+pub mod SaveLemmas

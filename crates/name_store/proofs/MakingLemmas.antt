@@ -1,6 +1,7 @@
 -- What making the files leaves at each moment.
 use Rattle.std.proofs.Common.{◌≡◌, inl, inr, ℕ, ◌≤◌, List, [], ◌∷◌, ◌++◌, length, refl, sym, ◌∙◌, ap, subst, arith}
 use Rattle.std.specs.Prelude.{IsTrue, slice_index}
+use Rattle.std.proofs.lemmas.List.{append-nil}
 use Rattle.nmc_base.specs.declared.chain_ends.Base.{Base}
 use Rattle.disk_model.specs.FileState.{FileState, IsFileImage, IsSettled, put}
 use Rattle.disk_model.specs.Moments.{Files, Moments, EachMoment, IsImage}
@@ -14,7 +15,8 @@ use Rattle.gate_journal.proofs.AppendLemmas.{closed_front}
 use Rattle.gate_journal.proofs.RecordLemmas.{none_fit}
 use Rattle.chain_commands.specs.RunState.{RunState}
 use Rattle.name_store.specs.Header.{IsBegun, header_fields, header_text}
-use Rattle.name_store.specs.Stands.{Bytes, IsRunState, Stands, EachStands, begun_on}
+use Rattle.image_slots.specs.Selections.{HasSelections}
+use Rattle.name_store.specs.Stands.{Bytes, nothing, IsRunState, Stands, EachStands, begun_on}
 use Rattle.name_store.specs.Making.{IsEmpty, EachIsBegun}
 use Rattle.name_store.specs.MakingSteps.{HasSettled, IsShort, empty_area, closed_header}
 
@@ -30,12 +32,24 @@ empty_holds : IsArea [] [] empty_area
 empty_holds = record { closed = closed_front _ [] 0 (omega arith); fit = none_fit }
 
 begun_state : (base : Base) (host : List ℕ) → IsBegun base host → IsRunState (begun_on base host)
-begun_state base host begun = record { begun = begun; start_is = refl; saved_is = refl; selections_is = refl; allowed = tt; fits = omega arith }
+begun_state base host begun = record {
+  begun = begun;
+  start_is = refl;
+  has_saved = nothing refl refl refl;
+  valid = record { low = begun.low; starts = record { makes = tt; few = omega arith } };
+  allowed_before = tt;
+  allowed = tt;
+  fits = omega arith;
+}
+
+no_selections : (front : List ℕ) (file : List ℕ) → ClosedAfter front file → HasSelections front 0 file
+no_selections front file closed = record { closed = subst (λ (l : List ℕ). ClosedAfter l file) (sym (append-nil front)) closed; fit = none_fit }
 
 -- with its gate open, the header is that of the base
 stands_made : (base : Base) (host : List ℕ) (image : Bytes) → IsBegun base host → image 0 ≡ 1 ∷ (header_fields base host ++ 0 ∷ []) → image 1 ≡ empty_area → Stands image (begun_on base host)
 stands_made base host image begun header area = record {
-  header = subst (ClosedAfter (header_text base host)) (sym header) (closed_front (header_text base host) [] 0 (omega arith));
+  selections = subst (HasSelections (header_text base host) 0) (sym header)
+      (no_selections (header_text base host) (header_text base host ++ 0 ∷ []) (closed_front (header_text base host) [] 0 (omega arith)));
   area = subst (IsArea [] []) (sym area) empty_holds;
   is_state = begun_state base host begun;
 }

@@ -1,40 +1,60 @@
 -- What an opened store stands for.
-use Rattle.std.proofs.Common.{◌≡◌, ℕ, zero, suc, ◌+◌, ◌-◌, ◌<◌, ◌≤◌, Bool, List, [], ◌∷◌, ◌++◌, length, take, drop, refl, sym, ◌∙◌, ap, subst, arith, length-take, length-drop, append_assoc}
-use Rattle.std.specs.Prelude.{IsTrue, slice_index}
+use Rattle.std.proofs.Common.{◌≡◌, inl, inr, ℕ, zero, suc, ◌+◌, ◌<◌, ◌≤◌, Bool, List, [], ◌∷◌, ◌++◌, length, take, drop, Ok, Err, refl, sym, ◌∙◌, ap, subst, arith, length-take, length-drop, append_assoc}
+use Rattle.std.specs.Prelude.{IsTrue, Result, slice_index}
 use Rattle.std.specs.Int.{w32, to_le_bytes}
 use Rattle.std.proofs.Math.Seq.{drop-cons, take-add}
-use Rattle.std.proofs.lemmas.List.{append-nil}
 use Rattle.nmc_base.specs.declared.chain_ends.Base.{Base}
 use Rattle.disk_model.specs.FileState.{FileState, IsSettled}
 use Rattle.disk_model.specs.Moments.{Files}
 use Rattle.disk_model.specs.Changes.{Changes, AfterSync}
 use Rattle.disk_model.specs.DiskSeen.{DiskSeen, file_in, bytes_in}
-use Rattle.chain_state.specs.Chain.{Indexed, IsAtBase}
-use Rattle.chain_state.proofs.StandingLemmas.{base_stands}
-use Rattle.gate_journal.specs.Gate.{ClosedAfter, IsClosed}
-use Rattle.gate_journal.specs.Stand.{Stand}
-use Rattle.gate_journal.specs.Records.{IsArea, image_front}
+use Rattle.chain_state.specs.Chain.{Indexed}
+use Rattle.gate_journal.specs.Gate.{IsClosed}
+use Rattle.gate_journal.specs.Records.{HasRecords, IsArea, image_front}
+use Rattle.gate_journal.proofs.RecordLemmas.{area_unique}
 use Rattle.chain_commands.specs.Event.{Command}
-use Rattle.chain_commands.specs.RunState.{RunState, on_base, after_commands, longest_area}
+use Rattle.chain_commands.specs.RunState.{RunState, saved_chain, after_commands, chain_of, area_of, grown_by, longest_area}
+use Rattle.chain_commands.specs.Saving.{most_selections}
+use Rattle.image_slots.specs.Selections.{HasSelections, selected_by}
+use Rattle.image_slots.specs.Slotted.{Slotted, AreOn}
+use Rattle.image_slots.specs.declared.faults.SlotFault.{SlotFault}
+use Rattle.image_slots.specs.declared.faults.SlotFault.TheVariants as slot_faults
+use Rattle.image_slots.specs.Answers.{FaultAnswer}
+use Rattle.image_slots.specs.Damage as slot_damage
+use Rattle.image_files.specs.Fronts.{image_at, image_length_at}
+use Rattle.image_files.specs.Indexes.{BeginsWith, HasBadImage}
+use Rattle.image_files.specs.Reading.{IsReadFrom, ReadAnswer}
+use Rattle.image_files.specs.declared.fault.ReadFault.{ReadFault}
+use Rattle.image_files.specs.declared.fault.ReadFault.TheVariants as read_faults
+use Rattle.gate_journal.specs.declared.faults.JournalFault.{JournalFault}
+use Rattle.gate_journal.specs.declared.faults.JournalFault.TheVariants as journal_faults
 use Rattle.index_commands.specs.Standing as chains
 use Rattle.index_commands.specs.Records.{records_of}
-use Rattle.index_commands.proofs.SizeLemmas.{led_sizes}
-use Rattle.index_commands.proofs.LeadLemmas.{led_base, led_taken, led_stands, led_allowed}
-use Rattle.name_store.specs.Opening.{IsSynced, OpenAnswer}
+use Rattle.index_commands.proofs.SizeLemmas.{led_sizes, commands_told}
+use Rattle.index_commands.proofs.LeadLemmas.{led_base, led_taken, led_stands}
+use Rattle.command_areas.specs.Commands.{Origin, gate_behind}
+use Rattle.command_areas.specs.Damage.{HasBadRecord}
+use Rattle.command_areas.specs.Reading.{IsFrontOf, FollowedAnswer}
+use Rattle.command_areas.specs.declared.following.Followed.{Followed}
+use Rattle.command_areas.proofs.AreaLemmas.{area_size, all_read}
+use Rattle.command_areas.proofs.ReadingLemmas.{followed_all_same}
+use Rattle.command_areas.proofs.RecordLaws.{ended_well}
 use Rattle.name_store.specs.declared.faults.OpenFault.{OpenFault}
 use Rattle.name_store.specs.declared.faults.OpenFault.TheVariants as faults
 use Rattle.name_store.specs.declared.header.Header.{Header}
+use Rattle.name_store.specs.Faults.{of_journal, of_slots, of_image}
 use Rattle.name_store.specs.Damage as damage
-use Rattle.name_store.specs.Damage.{HasNoImage, HasBadRecord, IsDamaged, area_file}
-use Rattle.std.proofs.Common.{Err}
-use Rattle.name_store.specs.Header.{IsBegun, HasHeader, magic, profile_byte, header_text, base_at, host_at, hash_at, host_length_at, height_at, selections_at}
-use Rattle.name_store.specs.Commands.{without_image, gate_behind}
-use Rattle.name_store.specs.Stands.{Bytes, IsRunState, Stands}
+use Rattle.name_store.specs.Damage.{HasSelected, BeginsAt, IsDamaged}
+use Rattle.name_store.specs.Header.{HasHeader, IsInitialised, magic, profile_byte, header_text, base_at, host_at, hash_at, host_length_at, height_at, selections_at}
+use Rattle.name_store.specs.HeaderAnswers.{IsHeaderOf, HeaderAnswer}
+use Rattle.name_store.specs.Host.{IsHostOf}
+use Rattle.name_store.specs.Opening.{IsSynced, IsFollowed, IsOpened, OpenAnswer, AreaAnswer}
+use Rattle.name_store.specs.Stands.{Bytes, Stands}
 use Rattle.name_store.specs.Stored.{Stored, StandsFor, IsOn}
-use Rattle.name_store.specs.Reading.{IsHeaderOf, IsBehind, first_gate, HasFollowedAll, AreaAnswer, AllAnswer}
-use Rattle.name_store.proofs.AreaLemmas.{area_size, all_read}
-use Rattle.name_store.proofs.DamageLaws.{ended_well, bad_alike, one_begins, empty_front, undamaged}
-use Rattle.name_store.proofs.RunLemmas.{one_run}
+use Rattle.name_store.proofs.DamageLaws.{undamaged, bad_behind, begun_not_bad, damage_moved, stands_moved, standing_front, standing_first}
+use Rattle.name_store.proofs.RunLemmas.{one_count, standing_host, standing_selected}
+use Rattle.name_store.proofs.SavedLemmas.{saved_stands, short_text}
+use Rattle.name_store.proofs.StateLemmas.{front_size}
 
 -- ---- syncs
 
@@ -95,133 +115,196 @@ module _ (file : List ℕ) (has : HasHeader file) (height_is : to_le_bytes w32 (
       ∙ ap (λ (l : List ℕ). front ++ (to_le_bytes w32 (height_at file) ++ l)) (append_assoc (hash_at file) (n ∷ []) (host_at file))
       ∙ ap (λ (q : ℕ). front ++ (to_le_bytes w32 (height_at file) ++ (hash_at file ++ (q ∷ host_at file)))) (sym host_size)
 
-  pub header_closed : ClosedAfter (header_text (base_at file) (host_at file)) file
-  header_closed =
-      let size : length (header_text (base_at file) (host_at file)) ≡ selections_at file = omega (arith, ap length spelled, length-take (selections_at file) file, has.fields.host.inside) in
-      record {
-        begins = ap (λ (n : ℕ). take n file) size ∙ spelled;
-        inside = omega (arith, size, has.shut.inside);
-        closed = subst (IsClosed file) (sym size) has.shut.closed;
-      }
-
-  pub header_begun : IsBegun (base_at file) (host_at file)
-  header_begun = record {
-    low = has.fields.low;
-    hash = omega (arith, length-take 32 (drop 14 file), length-drop 14 file, long);
-    is_host = has.fields.host.is_host;
-  }
+-- the first index is that of the base
+begins_base : (base : Base) (text : List ℕ) (index : Indexed) → BeginsWith base text index → index.base ≡ base
+begins_base base [] index begins = begins.base_is
+begins_base base (byte ∷ text) index begins = begins.is_index.base_is
 
 -- ---- the store behind the commands
 
--- a journal behind an empty image
-pub behind_none : (tells : Bool) (file : ℕ) (journal : Stand) (area : List ℕ) → journal ≡ first_gate file (image_front []) → (IsTrue tells → HasNoImage area) → IsBehind tells (image_front []) journal area
-behind_none tells file journal area gate none = record {
-  length_is = ap (λ (s : Stand). s.length) gate;
-  begins = λ told. (none told).empty;
-  inside = λ told. omega (arith, (none told).long);
-}
+-- what the opened store is made of
+abbrev pub opened_store : Header → Slotted → Followed → Stored
+opened_store header slots followed = record { index = followed.index; host = header.host; slots = slots; area = followed.length }
 
--- the run state of a base with its host and these commands
-abbrev run_of : Base → List ℕ → List Command → RunState
-run_of base text commands = record { base = base; host = text; start = []; saved = []; since = commands; selections = 0 }
-
--- Over files that the disk tells, the header was read, and all commands of the area were followed from the index of its base on.
-pub record HasOpened (tells : Bool) (files : Files) (header : Header) (first index : Indexed) (reached : ℕ) : Type 0 where
+-- Over files that the disk tells, the header was read, its selections, and all commands of the selected area from the index of its image on.
+pub record HasOpened (tells : Bool) (files : Files) (header : Header) (slots : Slotted) (followed : Followed) : Type 0 where
   pub told : IsTrue tells
   pub has : HasHeader (files 0).bytes
   pub is : IsHeaderOf (files 0).bytes header
-  pub at_base : IsAtBase header.base first
-  pub all : HasFollowedAll tells (without_image first) (files 1).bytes index reached
-  pub within : reached ≤ longest_area
+  pub few : slots.count ≤ most_selections
+  pub slots_on : AreOn (take header.selections (files 0).bytes) slots (files 0)
+  pub area : IsFollowed tells header.base (files (selected_by slots.count)).bytes followed
+  pub settled : IsSettled (files (selected_by slots.count))
 
-module _ (tells : Bool) (files : Files) (header : Header) (first index : Indexed) (reached : ℕ) (o : HasOpened tells files header first index reached) where
+module _ (tells : Bool) (files : Files) (header : Header) (slots : Slotted) (followed : Followed) (o : HasOpened tells files header slots followed) where
   abbrev bytes : Bytes
   bytes = λ file. (files file).bytes
 
   abbrev base : Base
   base = base_at (bytes 0)
 
-  abbrev text : List ℕ
-  text = host_at (bytes 0)
+  abbrev store : Stored
+  store = opened_store header slots followed
+
+  abbrev area : List ℕ
+  area = bytes (selected_by slots.count)
+
+  abbrev first : Origin
+  first = o.area.first
 
   abbrev commands : List Command
-  commands = o.all.some.commands
+  commands = o.area.all.some.commands
 
-  abbrev pub store : Stored
-  store = record { index = index; host = header.host; area = reached }
+  begins : BeginsAt base area first
+  begins = subst (λ (b : Base). BeginsAt b area first) o.is.base_is o.area.begins
 
-  at_base : IsAtBase base first
-  at_base = subst (λ (b : Base). IsAtBase b first) o.is.base_is o.at_base
+  size : followed.length ≡ gate_behind first.front commands + 1
+  size = o.area.all.some.reached_is ∙ area_size first.front commands (led_sizes first.index followed.index commands o.area.all.some.leads)
 
-  size : reached ≡ gate_behind (image_front []) commands + 1
-  size = o.all.some.reached_is ∙ area_size (image_front []) commands (led_sizes first index commands o.all.some.leads)
+  closed : IsClosed area (gate_behind first.front commands)
+  closed = subst (IsClosed area) (omega (arith, size)) (o.area.all.shut o.told).closed
 
-  closed : IsClosed (bytes 1) (gate_behind (image_front []) commands)
-  closed = let gate : reached - 1 ≡ gate_behind (image_front []) commands = omega (arith, size) in subst (IsClosed (bytes 1)) gate (o.all.shut o.told).closed
+  is_area : IsArea (image_at area) (records_of commands) area
+  is_area = subst (λ (front : List ℕ). HasRecords front (records_of commands) area) begins.front_is (all_read first.front longest_area area commands (o.area.all.some.read o.told) closed)
 
-  area : IsArea [] (records_of commands) (bytes 1)
-  area = all_read (image_front []) longest_area (bytes 1) commands (o.all.some.read o.told) closed
+  selections_on : AreOn (header_text base (host_at (bytes 0))) slots (files 0)
+  selections_on = subst (λ (l : List ℕ). AreOn l slots (files 0)) (ap (λ (n : ℕ). take n (bytes 0)) o.is.selections_is ∙ spelled (bytes 0) o.has o.is.height_is) o.slots_on
 
-  begins : ClosedAfter (header_text base text) (bytes 0)
-  begins = header_closed (bytes 0) o.has o.is.height_is
-
-  -- it is on the disk, where that was synced
-  pub opened_on : IsSettled (files 0) → IsSettled (files 1) → IsOn store files
-  opened_on settled_header settled_area = record {
-    text = text;
+  -- it is on the disk
+  opened_on : IsOn store files
+  opened_on = record {
+    text = host_at (bytes 0);
     host = o.is.host_is;
-    header = subst (λ (b : Base). ClosedAfter (header_text b text) (bytes 0)) (sym (led_base first index commands o.all.some.leads ∙ at_base.base_is)) begins;
+    slots = subst (λ (b : Base). AreOn (header_text b (host_at (bytes 0))) slots (files 0))
+        (sym (led_base first.index followed.index commands o.area.all.some.leads ∙ begins_base base (image_at area) first.index begins.is_index)) selections_on;
+    image = image_at area;
     records = records_of commands;
-    holds = record { is_area = area; length_is = size };
-    settled_header = settled_header;
-    settled_area = settled_area;
+    holds = record { is_area = is_area; length_is = size ∙ ap (λ (front : List ℕ). gate_behind front commands + 1) begins.front_is };
+    settled_area = o.settled;
+  }
+
+  has_selected : HasSelected (bytes 0) slots.count
+  has_selected = record {
+    header = o.has;
+    selections = subst (λ (n : ℕ). HasSelections (take n (bytes 0)) slots.count (bytes 0)) o.is.selections_is o.slots_on.has;
+    few = o.few;
   }
 
   -- the files are in order
-  no_bad : (at : ℕ) (other : Indexed) → IsAtBase base other → HasBadRecord (without_image other) longest_area (bytes 1) at → ⊥
-  no_bad at other other_base bad =
-      ended_well (without_image first) longest_area (bytes 1) commands (o.all.some.read o.told) (led_taken first index commands o.all.some.leads) closed at
-      (bad_alike (image_front []) other first (one_begins base other first other_base at_base) longest_area (bytes 1) at bad)
+  no_bad : (at : ℕ) (other : Origin) → BeginsAt base area other → HasBadRecord other longest_area area at → ⊥
+  no_bad at other other_begins bad =
+      ended_well first longest_area area commands (o.area.all.some.read o.told) (led_taken first.index followed.index commands o.area.all.some.leads) closed at
+      (bad_behind base area other first at other_begins begins bad)
 
-  pub opened_undamaged : (file at : ℕ) → IsDamaged bytes file at → ⊥
-  opened_undamaged = undamaged bytes (record { has = o.has; none = empty_front (records_of commands) (bytes 1) area; no_bad = no_bad })
+  opened_undamaged : (file at : ℕ) → IsDamaged bytes file at → ⊥
+  opened_undamaged = undamaged bytes slots.count (record { has = has_selected; no_bad_image = λ at bad. begun_not_bad base area first at begins bad; no_bad_record = no_bad })
 
-  -- the store stands for each run state that they stand for
-  first_stands : chains.StandsFor first (on_base base [])
-  first_stands = base_stands base [] first at_base
+  -- of a run state that they stand for
+  module _ (run : RunState) (stands : Stands bytes run) where
+    count_is : slots.count ≡ run.selections
+    count_is = one_count (bytes 0) slots.count run.selections has_selected (standing_selected bytes run stands)
 
-  state : IsRunState (run_of base text commands)
-  state = record {
-    begun = header_begun (bytes 0) o.has o.is.height_is;
-    start_is = refl;
-    saved_is = refl;
-    selections_is = refl;
-    allowed = led_allowed first (on_base base []) first_stands index commands o.all.some.leads;
-    fits = omega (arith, o.all.some.reached_is, o.within);
+    begins_run : BeginsAt base (bytes (selected_by run.selections)) first
+    begins_run = subst (λ (n : ℕ). BeginsAt base (bytes (selected_by n)) first) count_is begins
+
+    commands_are : commands ≡ run.since
+    commands_are =
+        let both = area_unique area (image_at area) run.text (records_of commands) (records_of run.since)
+        (record { fits = omega (arith, begins.front.short, length-take (image_length_at area) (drop 8 area)); area = is_area })
+        (record { fits = omega (arith, short_text run stands.is_state); area = subst (λ (n : ℕ). IsArea run.text (records_of run.since) (bytes (selected_by n))) (sym count_is) stands.area }) in
+        commands_told commands run.since both.1
+
+    stands_so : StandsFor store run
+    stands_so = record {
+      index = subst (λ (l : List Command). chains.StandsFor followed.index (after_commands (saved_chain run) l)) commands_are
+          (led_stands first.index (saved_chain run) (standing_first bytes run stands first begins_run (λ index. chains.StandsFor index (saved_chain run)) (saved_stands run stands.is_state))
+          followed.index commands o.area.all.some.leads);
+      host = subst (λ (l : List ℕ). IsHostOf l header.host) (standing_host bytes run stands) o.is.host_is;
+      selections = count_is;
+      area = o.area.all.some.reached_is ∙ (λ i. grown_by (commands_are i) (length (standing_front bytes run stands first begins_run i) + 1)) ∙ ap (grown_by run.since) (omega (arith, front_size run.text));
+      is_state = stands.is_state;
+    }
+
+  -- the store was opened over files that read alike before
+  pub opened_store_is : IsOpened bytes files store
+  opened_store_is = record {
+    on_disk = opened_on;
+    initialised = o.has.initialised;
+    undamaged = opened_undamaged;
+    follows = stands_so;
   }
 
-  stands_so : StandsFor store (run_of base text commands)
-  stands_so = record {
-    index = subst (λ (l : List Command). chains.StandsFor index (after_commands (on_base base []) l)) (sym (append-nil commands)) (led_stands first (on_base base []) first_stands index commands o.all.some.leads);
-    host = o.is.host_is;
-    area = o.all.some.reached_is;
-    is_state = state;
-  }
+-- ---- the selected area
 
-  pub opened_follows : (run : RunState) → Stands bytes run → StandsFor store run
-  opened_follows run stands = subst (StandsFor store) (one_run bytes (run_of base text commands) run (record { header = begins; area = area; is_state = state }) stands) stands_so
+-- its image was not read
+pub image_unread : (tells : Bool) (base : Base) (file : ℕ) (area : List ℕ) (fault : ReadFault) → ReadAnswer base area (Err fault) → AreaAnswer tells base file area (Err (of_image file fault))
+image_unread tells base file area (read_faults.Damaged at) is = (refl, inl is)
+image_unread tells base file area read_faults.DiskFault is = tt
+image_unread tells base file area read_faults.NoMemory is = tt
+
+-- its image was read, and then its commands in a file that is the same still
+module _ (tells : Bool) (told : IsTrue tells) (base : Base) (file : ℕ) (area mid : List ℕ) (same : mid ≡ area) (index : Indexed) (gate : ℕ) (r : IsReadFrom base area index gate) where
+  abbrev origin : Origin
+  origin = record { front = image_front (image_at area); index = index }
+
+  origin_begins : BeginsAt base area origin
+  origin_begins = record { front = r.front; front_is = refl; is_index = r.is_index }
+
+  pub front_stands : IsFrontOf (image_front (image_at area)) mid
+  front_stands = subst (IsFrontOf (image_front (image_at area))) (sym same) (record {
+    begins = ap (λ (n : ℕ). take n area) (sym r.gate_is) ∙ r.begins;
+    inside = subst (λ (n : ℕ). n < length area) r.gate_is r.inside;
+  })
+
+  pub area_followed : (followed : Followed) → FollowedAnswer tells origin mid (Ok followed) → IsFollowed tells base area followed
+  area_followed followed is = record { first = origin; begins = origin_begins; all = followed_all_same tells origin mid area (λ told. same) followed.index followed.length is }
+
+  pub area_unfollowed : (fault : JournalFault) → FollowedAnswer tells origin mid (Err fault) → AreaAnswer tells base file area (Err (of_journal file fault))
+  area_unfollowed (journal_faults.Damaged at) is = (
+    refl,
+    inr (record { first = origin; begins = origin_begins; bad = subst (λ (l : List ℕ). HasBadRecord origin longest_area l at) same (is told) }),
+  )
+  area_unfollowed journal_faults.DiskFault is = tt
+  area_unfollowed journal_faults.NoMemory is = tt
 
 -- ---- damage behind a header that is in order
 
-pub area_bad : (old : Bytes) (new : Files) (fault : OpenFault) → HasHeader (old 0) → AreaAnswer area_file (old 1) (Err fault) → OpenAnswer old new (Err fault)
-area_bad old new faults.Uninitialised has is = absurd is
-area_bad old new (faults.Damaged number at) has is = damage.image is.0 has is.1 is.2
-area_bad old new faults.DiskFault has is = tt
-area_bad old new faults.NoMemory has is = tt
+-- of the header
+pub header_bad : (old : Bytes) (new : Files) (fault : OpenFault) → HeaderAnswer (old 0) (Err fault) → OpenAnswer old new (Err fault)
+header_bad old new faults.Uninitialised is = is
+header_bad old new (faults.Damaged number at) is = damage.field is.0 is.1 is.2
+header_bad old new faults.DiskFault is = tt
+header_bad old new faults.NoMemory is = tt
 
-pub commands_bad : (tells : Bool) → IsTrue tells → (old : Bytes) (new : Files) (fault : OpenFault) → HasHeader (old 0) → HasNoImage (old 1) → (first : Indexed) → IsAtBase (base_at (old 0)) first
-    → AllAnswer tells (without_image first) area_file (old 1) (Err fault) → OpenAnswer old new (Err fault)
-commands_bad tells told old new faults.Uninitialised has none first is_first is = absurd is
-commands_bad tells told old new (faults.Damaged number at) has none first is_first is = let bad = is told in damage.command bad.0 has none first is_first bad.1
-commands_bad tells told old new faults.DiskFault has none first is_first is = tt
-commands_bad tells told old new faults.NoMemory has none first is_first is = tt
+-- of the selections
+pub slots_bad : (old : Bytes) (new : Files) (header : Header) (fault : SlotFault) → HasHeader (old 0) → IsHeaderOf (old 0) header → FaultAnswer header.selections most_selections (old 0) fault
+    → OpenAnswer old new (Err (of_slots fault))
+slots_bad old new header (slot_faults.Damaged at) has is bad = damage.selection refl has (subst (λ (n : ℕ). slot_damage.IsDamaged n most_selections (old 0) at) is.selections_is bad)
+slots_bad old new header slot_faults.DiskFault has is bad = tt
+slots_bad old new header slot_faults.NoMemory has is bad = tt
+
+-- of the selected area
+pub area_bad : (tells : Bool) (old : Bytes) (new : Files) (count : ℕ) (fault : OpenFault) → HasSelected (old 0) count
+    → AreaAnswer tells (base_at (old 0)) (selected_by count) (old (selected_by count)) (Err fault) → OpenAnswer old new (Err fault)
+area_bad tells old new count faults.Uninitialised has is = absurd is
+area_bad tells old new count (faults.Damaged number at) has is = elim is.1 [
+  | inl bad ↦ damage.image count has is.0 (subst (λ (f : ℕ). HasBadImage (base_at (old 0)) (old f) at) (sym is.0) bad)
+  | inr bad ↦ damage.command count has is.0 bad.first (subst (λ (f : ℕ). BeginsAt (base_at (old 0)) (old f) bad.first) (sym is.0) bad.begins)
+      (subst (λ (f : ℕ). HasBadRecord bad.first longest_area (old f) at) (sym is.0) bad.bad)
+]
+area_bad tells old new count faults.DiskFault has is = tt
+area_bad tells old new count faults.NoMemory has is = tt
+
+-- ---- files that were read alike before
+
+pub opened_before : (old mid : Bytes) (new : Files) (result : Result Stored OpenFault) → ((file : ℕ) → file < 3 → mid file ≡ old file) → OpenAnswer mid new result → OpenAnswer old new result
+opened_before old mid new (Ok store) alike is = record {
+  on_disk = is.on_disk;
+  initialised = subst IsInitialised (alike 0 (omega arith)) is.initialised;
+  undamaged = λ file at bad. is.undamaged file at (damage_moved old mid alike file at bad);
+  follows = λ run stands. is.follows run (stands_moved old mid alike run stands);
+}
+opened_before old mid new (Err faults.Uninitialised) alike is = λ has. is (subst IsInitialised (sym (alike 0 (omega arith))) has)
+opened_before old mid new (Err (faults.Damaged file at)) alike is = damage_moved mid old (λ number low. sym (alike number low)) file at is
+opened_before old mid new (Err faults.DiskFault) alike is = tt
+opened_before old mid new (Err faults.NoMemory) alike is = tt

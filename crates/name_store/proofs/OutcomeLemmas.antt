@@ -1,8 +1,10 @@
 -- The outcomes of a command, of each kind.
-use Rattle.std.proofs.Common.{◌≡◌, ℕ, ◌+◌, ◌<◌, ◌≤◌, Bool, List, length, Ok, Err, refl, sym, subst, arith}
+use Rattle.std.proofs.Common.{◌≡◌, ℕ, ◌+◌, ◌<◌, ◌≤◌, Bool, List, length, Ok, Err, refl, sym, ◌∙◌, ap, subst, arith}
 use Rattle.std.specs.Prelude.{IsTrue, Result}
 use Rattle.nmc_base.specs.declared.limits.TheConstants.{LONGEST_BLOCK}
 use Rattle.disk_model.specs.Moments.{start}
+use Rattle.disk_model.specs.Changes.{LeavesOthers}
+use Rattle.image_slots.specs.Slotted.{Slotted}
 use Rattle.disk_model.specs.DiskSeen.{DiskSeen}
 use Rattle.disk_model.specs.declared.disk.Failed.{Failed}
 use Rattle.chain_state.specs.Chain.{Indexed, SameIndex, StagedIndex, IsConnected, IsAbandoned}
@@ -21,14 +23,13 @@ use Rattle.index_commands.specs.Standing as chains
 use Rattle.index_commands.specs.Records.{record_of}
 use Rattle.index_commands.specs.Stages.{StagesBytes, StagesHash, IsFullWith, IsStagedFor}
 use Rattle.name_store.specs.declared.store.Outcome.TheVariants.{Done, Refused, NoMemory, Faulted}
-use Rattle.name_store.specs.Damage.{area_file}
 use Rattle.name_store.specs.Host.{IsHostOf}
 use Rattle.name_store.specs.Stands.{IsRunState}
-use Rattle.name_store.specs.Stored.{Stored, StandsFor, IsOn}
-use Rattle.name_store.specs.Outcomes.{AnswersFor, IsFullOf, KeepsOn, LeavesDisk}
-use Rattle.name_store.specs.Keeping.{Keeps}
+use Rattle.name_store.specs.Stored.{Stored, StandsFor, IsOn, area_file}
+use Rattle.name_store.specs.Outcomes.{Adds, AnswersFor, IsDone, IsFullOf, KeepsOn, LeavesDisk}
+use Rattle.command_areas.specs.Keeping.{Keeps}
 use Rattle.name_store.proofs.StateLemmas.{state_with}
-use Rattle.name_store.proofs.StoreLemmas.{on_again, done_is, stands_still, each_stands, stands_next, on_next}
+use Rattle.name_store.proofs.StoreLemmas.{IsAlike, on_again, done_is, stands_still, each_stands, stands_next, on_next}
 
 -- ---- a command without a refusal is allowed, and has room
 
@@ -67,37 +68,31 @@ allows_disconnect hash long run is valid =
 
 -- ---- what was not done
 
--- the new store is the old one, with an index that is handed back
-pub record IsHandedBack (old new : Stored) : Type 0 where
-  pub base : new.index.base ≡ old.index.base
-  pub host : new.host ≡ old.host
-  pub area : new.area ≡ old.area
-
-module _ (old new : Stored) (back : IsHandedBack old new) where
-  module _ {R : Type 0} (tells : Bool) (disk : DiskSeen) (on : IsTrue tells → IsOn old disk.moments.now) where
-    pub leaves_refused : (refusal : R) → LeavesDisk {R = R} tells disk disk (Refused new refusal)
+module _ (old new : Stored) (back : IsAlike old new) where
+  module _ {T R : Type 0} (tells : Bool) (disk : DiskSeen) (on : IsTrue tells → IsOn old disk.moments.now) where
+    pub leaves_refused : (refusal : R) → LeavesDisk {T = T} {R = R} tells (LeavesOthers (area_file old)) disk disk (Refused new refusal)
     leaves_refused refusal = record {
       later = record { count = omega arith; at_limit = λ is. is };
       worked = tt;
       failed = tt;
-      still_on = λ told. on_again old new disk.moments.now (on told) back.base back.host back.area;
+      still_on = λ told. on_again old new disk.moments.now back (on told);
       others = λ told. start (λ other differ. refl);
     }
 
-    pub leaves_lacking : LeavesDisk {R = R} tells disk disk (NoMemory new)
+    pub leaves_lacking : LeavesDisk {T = T} {R = R} tells (LeavesOthers (area_file old)) disk disk (NoMemory new)
     leaves_lacking = record {
       later = record { count = omega arith; at_limit = λ is. is };
       worked = tt;
       failed = tt;
-      still_on = λ told. on_again old new disk.moments.now (on told) back.base back.host back.area;
+      still_on = λ told. on_again old new disk.moments.now back (on told);
       others = λ told. start (λ other differ. refl);
     }
 
-    pub keeps_refused : (command : Command) (refusal : R) → KeepsOn {R = R} tells old command disk disk (Refused new refusal)
-    keeps_refused command refusal = λ told run s stands. record { done = tt; any_moment = stands_still tells told old disk disk (on told) run (accepted run command) stands }
+    pub keeps_refused : (Makes : RunState → RunState → Type 0) (refusal : R) → KeepsOn {T = T} {R = R} tells old Makes disk disk (Refused new refusal)
+    keeps_refused Makes refusal = λ told run s stands. record { next = run; is_next = refl; done = tt; any_moment = stands_still tells told old disk disk (on told) run s stands run }
 
-    pub keeps_lacking : (command : Command) → KeepsOn {R = R} tells old command disk disk (NoMemory new)
-    keeps_lacking command = λ told run s stands. record { done = tt; any_moment = stands_still tells told old disk disk (on told) run (accepted run command) stands }
+    pub keeps_lacking : (Makes : RunState → RunState → Type 0) → KeepsOn {T = T} {R = R} tells old Makes disk disk (NoMemory new)
+    keeps_lacking Makes = λ told run s stands. record { next = run; is_next = refl; done = tt; any_moment = stands_still tells told old disk disk (on told) run s stands run }
 
 -- ---- what was staged
 
@@ -120,6 +115,7 @@ a_hash hash long old staged stages = record { allows = allows_disconnect hash lo
 pub record IsCommitted (command : Command) (old : Stored) (Commits : Indexed → Type 0) (new : Stored) : Type 0 where
   pub commits : Commits new.index
   pub host : new.host ≡ old.host
+  pub slots : new.slots ≡ old.slots
   pub area : new.area ≡ old.area + record_length command
 
 module _ {M : Type 0} {refusals : Refusals M} {Holds : Type 0 → Chain → M → Type 0} {command : Command} {old : Stored} {Commits Abandons : Indexed → Type 0}
@@ -131,44 +127,50 @@ module _ {M : Type 0} {refusals : Refusals M} {Holds : Type 0 → Chain → M �
   next_of run s = g.allows run s.is_state (valid_of run s)
 
   -- a fault comes only behind all refusals
-  pub keeps_faulted : {R : Type 0} (tells : Bool) (before after : DiskSeen) (result : Result ℕ Failed) → (IsTrue tells → IsOn old before.moments.now) → Keeps tells area_file old.area (record_of command) before after result
-      → KeepsOn {R = R} tells old command before after Faulted
+  pub keeps_faulted : {T R : Type 0} (tells : Bool) (before after : DiskSeen) (result : Result ℕ Failed) → (IsTrue tells → IsOn old before.moments.now)
+      → Keeps tells (area_file old) old.area (record_of command) before after result → KeepsOn {T = T} {R = R} tells old (Adds command) before after Faulted
   keeps_faulted tells before after result on kept = λ told run s stands. record {
+    next = accepted run command;
+    is_next = refl;
     done = tt;
-    any_moment = each_stands tells told old before after (on told) (record_of command) result kept run command refl s.area (next_of run s) stands;
+    any_moment = each_stands tells told old before after (on told) run s stands command (next_of run s) result kept;
   }
 
   stands_with : (new : Stored) → IsCommitted command old Commits new → (run : RunState) → StandsFor old run → StandsFor new (accepted run command)
   stands_with new done run s = record {
     index = (g.staged (chain_of run) s.index).commits new.index done.commits;
     host = subst (λ (name : List ℕ). IsHostOf run.host name) (sym done.host) s.host;
+    selections = ap (λ (slots : Slotted). slots.count) done.slots ∙ s.selections;
     area = omega (arith, done.area, s.area);
     is_state = next_of run s;
   }
 
   pub answers_done : {R : Type 0} (seen : R → M) (new : Stored) → IsCommitted command old Commits new → (run : RunState) → StandsFor old run
-      → AnswersFor refusals (Holds (IsFullOf longest_area run command) (chain_of run)) seen run command (Done new new.index.tip)
+      → AnswersFor refusals (Holds (IsFullOf longest_area run command) (chain_of run)) seen (IsDone run command) run (Done new new.index.tip)
   answers_done seen new done run s = (valid_of run s, done_is run command new new.index.tip (stands_with new done run s) refl)
 
-  pub keeps_done : {R : Type 0} (tells : Bool) (before after : DiskSeen) (new : Stored) → (IsTrue tells → IsOn old before.moments.now) → Keeps tells area_file old.area (record_of command) before after (Ok new.area)
-      → KeepsOn {R = R} tells old command before after (Done new new.index.tip)
-  keeps_done tells before after new on kept = λ told run s stands. record {
-    done = stands_next tells told old before after (on told) (record_of command) new.area kept run command refl s.area (next_of run s) stands;
-    any_moment = each_stands tells told old before after (on told) (record_of command) (Ok new.area) kept run command refl s.area (next_of run s) stands;
+  pub keeps_done : {T R : Type 0} (tells : Bool) (before after : DiskSeen) (new : Stored) (value : T) → (IsTrue tells → IsOn old before.moments.now)
+      → Keeps tells (area_file old) old.area (record_of command) before after (Ok new.area) → KeepsOn {T = T} {R = R} tells old (Adds command) before after (Done new value)
+  keeps_done tells before after new value on kept = λ told run s stands. record {
+    next = accepted run command;
+    is_next = refl;
+    done = stands_next tells told old before after (on told) run s stands command (next_of run s) new.area kept;
+    any_moment = each_stands tells told old before after (on told) run s stands command (next_of run s) (Ok new.area) kept;
   }
 
 -- ---- the disk behind a command that was kept, or may have been
 
-module _ {R : Type 0} (tells : Bool) (before after : DiskSeen) (old : Stored) (record_is : List ℕ) where
-  pub leaves_faulted : (error : Failed) → Keeps tells area_file old.area record_is before after (Err error) → LeavesDisk {R = R} tells before after Faulted
+module _ {T R : Type 0} (tells : Bool) (before after : DiskSeen) (old : Stored) (record_is : List ℕ) where
+  pub leaves_faulted : (error : Failed) → Keeps tells (area_file old) old.area record_is before after (Err error)
+      → LeavesDisk {T = T} {R = R} tells (LeavesOthers (area_file old)) before after Faulted
   leaves_faulted error kept = record { later = kept.ends.later; worked = tt; failed = kept.ends.failed; still_on = λ told. tt; others = kept.others }
 
-  pub leaves_done : (new : Stored) → (IsTrue tells → IsOn old before.moments.now) → Keeps tells area_file old.area record_is before after (Ok new.area) → new.index.base ≡ old.index.base → new.host ≡ old.host
-      → LeavesDisk {R = R} tells before after (Done new new.index.tip)
-  leaves_done new on kept base host = record {
+  pub leaves_done : (new : Stored) (value : T) → (IsTrue tells → IsOn old before.moments.now) → Keeps tells (area_file old) old.area record_is before after (Ok new.area)
+      → IsAlike (record { index = old.index; host = old.host; slots = old.slots; area = new.area }) new → LeavesDisk {T = T} {R = R} tells (LeavesOthers (area_file old)) before after (Done new value)
+  leaves_done new value on kept alike = record {
     later = kept.ends.later;
     worked = kept.ends.worked;
     failed = tt;
-    still_on = λ told. on_next tells told old before after (on told) record_is new.area kept new base host refl;
+    still_on = λ told. on_next tells told old before after (on told) record_is new.area kept new alike;
     others = kept.others;
   }

@@ -1,4 +1,4 @@
--- What files stand for, the files tell: the fields of the header, and the commands of the area.
+-- What files stand for, the files tell: the fields of the header, and the selections.
 use Rattle.std.proofs.Common.{◌≡◌, ◌≢◌, ℕ, ◌+◌, ◌<◌, ◌≤◌, List, [], ◌∷◌, ◌++◌, length, take, drop, get_or, refl, sym, ◌∙◌, ap, subst, arith, append_assoc, length-append, true, ◌&&◌}
 use Rattle.std.proofs.lemmas.Bool.Decides.{nat_tests}
 use Rattle.std.specs.Prelude.{slice_index, nat_le}
@@ -13,15 +13,16 @@ use Rattle.nmc_base.specs.declared.chain_ends.Profile.TheVariants.{Regtest, Main
 use Rattle.domain_text.specs.declared.host.Form.TheVariants.{Absolute, AtTop, AtOwn}
 use Rattle.domain_text.specs.Label.{is_label, is_label_byte}
 use Rattle.domain_text.specs.Host.{HostText, IsHost, absolute, empty, at_sign, below_top, below_own}
-use Rattle.gate_journal.specs.Gate.{ClosedAfter, IsClosed}
-use Rattle.gate_journal.specs.Records.{IsArea}
-use Rattle.gate_journal.proofs.RecordLemmas.{area_unique}
+use Rattle.gate_journal.specs.Records.{records_text}
+use Rattle.gate_journal.proofs.RecordLemmas.{begins_with}
 use Rattle.chain_commands.specs.RunState.{RunState}
-use Rattle.index_commands.specs.Records.{records_of}
-use Rattle.index_commands.proofs.SizeLemmas.{commands_told}
+use Rattle.chain_commands.specs.Saving.{most_selections}
+use Rattle.image_slots.specs.Selections.{HasSelections, selections}
+use Rattle.image_slots.proofs.SelectionLemmas.{same_number}
 use Rattle.name_store.specs.Host.{IsHostText}
 use Rattle.name_store.specs.Header.{IsBegun, HasHeader, HasFields, magic, header_text, profile_byte, profile_of, magic_at, profile_at, base_at, host_at, hash_at, host_length_at, height_at, selections_at}
-use Rattle.name_store.specs.Stands.{Bytes, Stands}
+use Rattle.name_store.specs.Damage.{HasSelected}
+use Rattle.name_store.specs.Stands.{Bytes, HasSaved, nothing, text as saved_as, IsRunState, Stands}
 
 -- ---- a host has two bytes or more
 
@@ -59,12 +60,17 @@ host_long text is = host_form_long text (record { form = Absolute; labels = is.h
 
 -- ---- the fields of a file that begins with a header
 
+-- the file begins with the header of this base and host, and does not end with it
+pub record BeginsSo (base : Base) (host file : List ℕ) : Type 0 where
+  pub begins : take (length (header_text base host)) file ≡ header_text base host
+  pub inside : length (header_text base host) < length file
+
 -- each profile is read back from its byte
 profile_again : (profile : Profile) → profile_of (profile_byte profile) ≡ profile
 profile_again Regtest = refl
 profile_again Main = refl
 
-module _ (base : Base) (host file : List ℕ) (closed : ClosedAfter (header_text base host) file) (begun : IsBegun base host) where
+module _ (base : Base) (host file : List ℕ) (is : BeginsSo base host file) (begun : IsBegun base host) where
   abbrev text : List ℕ
   text = header_text base host
 
@@ -73,10 +79,10 @@ module _ (base : Base) (host file : List ℕ) (closed : ClosedAfter (header_text
 
   piece : (at count left : ℕ) → length text ≡ at + left → count ≤ left → take count (drop at file) ≡ take count (drop at text)
   piece at count left e short =
-      sym (ap (λ (q : ℕ). take count (drop at (take q file))) e ∙ ap (take count) (drop-take at left file) ∙ take-take count left (drop at file) short) ∙ ap (λ (l : List ℕ). take count (drop at l)) closed.begins
+      sym (ap (λ (q : ℕ). take count (drop at (take q file))) e ∙ ap (take count) (drop-take at left file) ∙ take-take count left (drop at file) short) ∙ ap (λ (l : List ℕ). take count (drop at l)) is.begins
 
   byte : (at : ℕ) → at < 47 → slice_index file at ≡ slice_index text at
-  byte at low = sym (get_or-take (length text) file at 0 (omega (arith, size, low))) ∙ ap (λ (l : List ℕ). get_or l at 0) closed.begins
+  byte at low = sym (get_or-take (length text) file at 0 (omega (arith, size, low))) ∙ ap (λ (l : List ℕ). get_or l at 0) is.begins
 
   magic_is : magic_at file ≡ magic
   magic_is = piece 1 8 (46 + length host) (omega (arith, size)) (omega arith)
@@ -116,43 +122,60 @@ module _ (base : Base) (host file : List ℕ) (closed : ClosedAfter (header_text
     profile_is = profile_is ∙ ap profile_byte (sym profile_told);
     low = omega (arith, height_is, begun.low);
     host = record {
-      inside = omega (arith, host_length_is, size, closed.inside);
+      inside = omega (arith, host_length_is, size, is.inside);
       is_host = subst IsHostText (sym host_is) begun.is_host;
     };
   }
 
+  -- the selections begin behind the header
+  pub selections_told : selections_at file ≡ length text
+  selections_told = omega (arith, host_length_is, size)
+
   -- it has a header
   pub header_told : HasHeader file
-  header_told =
-      let gate : length text ≡ selections_at file = omega (arith, host_length_is, size) in
-      record {
-        initialised = record { long = omega (arith, size, closed.inside, host_long host begun.is_host); is_open = byte 0 (omega arith) };
-        fields = fields;
-        shut = record { inside = omega (arith, gate, closed.inside); closed = subst (IsClosed file) gate closed.closed };
-      }
+  header_told = record {
+    initialised = record { long = omega (arith, size, is.inside, host_long host begun.is_host); is_open = byte 0 (omega arith) };
+    fields = fields;
+  }
 
 -- ---- run states
 
--- files that are alike but for the third one stand for one run state
-pub same_run : (files others : Bytes) (run other : RunState) → files 0 ≡ others 0 → files 1 ≡ others 1 → Stands files run → Stands others other → run ≡ other
-same_run files others run other headers areas a b =
-    let is = a.is_state in
-    let also = b.is_state in
-    let base : run.base ≡ other.base = sym (base_told run.base run.host (files 0) a.header is.begun) ∙ ap base_at headers ∙ base_told other.base other.host (others 0) b.header also.begun in
-    let host : run.host ≡ other.host = sym (host_told run.base run.host (files 0) a.header is.begun) ∙ ap host_at headers ∙ host_told other.base other.host (others 0) b.header also.begun in
-    let start : run.start ≡ other.start = is.start_is ∙ sym also.start_is in
-    let saved : run.saved ≡ other.saved = is.saved_is ∙ sym also.saved_is in
-    let selections : run.selections ≡ other.selections = is.selections_is ∙ sym also.selections_is in
-    let area = subst (λ (l : List ℕ). IsArea [] (records_of other.since) l) (sym areas) b.area in
-    let since : run.since ≡ other.since = commands_told run.since other.since (area_unique (files 1) [] [] (records_of run.since) (records_of other.since) (record { fits = omega arith; area = a.area }) (record { fits = omega arith; area = area })).1 in
-    λ i. record { base = base i; host = host i; start = start i; saved = saved i; since = since i; selections = selections i }
+-- a file that has so many selections behind a header begins with it
+pub begins_front : (base : Base) (host file : List ℕ) (count : ℕ) → HasSelections (header_text base host) count file → BeginsSo base host file
+begins_front base host file count has = record {
+  begins = begins_with (header_text base host) (records_text (selections count)) file has.closed;
+  inside = omega (arith, has.closed.inside, length-append (header_text base host) (records_text (selections count)));
+}
 
-pub one_run : (files : Bytes) (run other : RunState) → Stands files run → Stands files other → run ≡ other
-one_run files run other a b = same_run files files run other refl refl a b
+-- files that stand for a run state have its header and its selections
+module _ (files : Bytes) (run : RunState) (stands : Stands files run) where
+  abbrev state : IsRunState run
+  state = stands.is_state
 
--- files that stand for a run state have a header, of its base
-pub standing_header : (files : Bytes) (run : RunState) → Stands files run → HasHeader (files 0)
-standing_header files run stands = header_told run.base run.host (files 0) stands.header stands.is_state.begun
+  begins_so : BeginsSo run.base run.host (files 0)
+  begins_so = begins_front run.base run.host (files 0) run.selections stands.selections
 
-pub standing_base : (files : Bytes) (run : RunState) → Stands files run → base_at (files 0) ≡ run.base
-standing_base files run stands = base_told run.base run.host (files 0) stands.header stands.is_state.begun
+  pub standing_header : HasHeader (files 0)
+  standing_header = header_told run.base run.host (files 0) begins_so state.begun
+
+  pub standing_base : base_at (files 0) ≡ run.base
+  standing_base = base_told run.base run.host (files 0) begins_so state.begun
+
+  pub standing_host : host_at (files 0) ≡ run.host
+  standing_host = host_told run.base run.host (files 0) begins_so state.begun
+
+  few : HasSaved run → run.selections ≤ most_selections
+  few (nothing none saved text) = omega (arith, none)
+  few (saved_as some most is) = most
+
+  pub standing_selected : HasSelected (files 0) run.selections
+  standing_selected = record {
+    header = standing_header;
+    selections = subst (λ (l : List ℕ). HasSelections l run.selections (files 0))
+        (sym (ap (λ (n : ℕ). take n (files 0)) (selections_told run.base run.host (files 0) begins_so state.begun) ∙ begins_so.begins)) stands.selections;
+    few = few state.has_saved;
+  }
+
+-- so many selections stand behind a header alone
+pub one_count : (file : List ℕ) (count other : ℕ) → HasSelected file count → HasSelected file other → count ≡ other
+one_count file count other a b = same_number (take (selections_at file) file) count other file a.selections b.selections

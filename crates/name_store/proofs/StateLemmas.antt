@@ -1,38 +1,43 @@
 -- The area of a run state, and a run state with one command more.
-use Rattle.std.proofs.Common.{◌≡◌, ◌+◌, ◌≤◌, List, ◌++◌, ◌∙◌, ap, subst, arith}
-use Rattle.std.proofs.lemmas.List.{append-nil}
+use Rattle.std.proofs.Common.{◌≡◌, ◌+◌, ◌≤◌, List, ℕ, ◌++◌, length, ◌∙◌, ap, arith, length-append}
+use Rattle.std.specs.Int.{w64, to_le_bytes}
 use Rattle.gate_journal.specs.Records.{image_front}
-use Rattle.chain_commands.specs.Chain.{Chain}
 use Rattle.chain_commands.specs.Event.{Command}
-use Rattle.chain_commands.specs.RunState.{RunState, chain_of, area_of, saved_text, record_length, accepted, after_commands, on_base, longest_area}
-use Rattle.index_commands.specs.Records.{records_of}
+use Rattle.chain_commands.specs.RunState.{RunState, saved_chain, chain_of, area_of, grown_by, record_length, accepted, longest_area}
 use Rattle.index_commands.specs.Allowed.{IsAllowed}
+use Rattle.index_commands.specs.Records.{records_of}
 use Rattle.index_commands.proofs.SizeLemmas.{allowed_sizes}
-use Rattle.name_store.specs.Commands.{gate_behind}
-use Rattle.name_store.specs.Stands.{Bytes, IsRunState, Stands}
-use Rattle.name_store.specs.Keeping.{HoldsRecords}
-use Rattle.name_store.proofs.AreaLemmas.{area_size}
+use Rattle.command_areas.specs.Commands.{gate_behind}
+use Rattle.command_areas.specs.Keeping.{HoldsRecords}
+use Rattle.command_areas.proofs.AreaLemmas.{area_size}
+use Rattle.gate_journal.specs.Records.{IsArea}
+use Rattle.name_store.specs.Stands.{HasSaved, nothing, text, IsRunState}
+
+-- the length of an image stands before it in 8 bytes
+pub front_size : (image : List ℕ) → length (image_front image) ≡ 8 + length image
+front_size image = omega (arith, length-append (to_le_bytes w64 (length image)) image)
 
 -- the gate behind the records is the last byte of the area
-area_is : (run : RunState) → IsRunState run → area_of run ≡ gate_behind (image_front (saved_text run)) run.since + 1
-area_is run is = area_size (image_front (saved_text run)) run.since (allowed_sizes (on_base run.base run.start) run.since is.allowed)
+pub area_is : (run : RunState) → IsRunState run → area_of run ≡ gate_behind (image_front run.text) run.since + 1
+area_is run is =
+    ap (grown_by run.since) (omega (arith, front_size run.text)) ∙ area_size (image_front run.text) run.since (allowed_sizes (saved_chain run) run.since is.allowed)
 
--- the area of a run state holds the records of its commands
-pub holds_commands : (image : Bytes) (run : RunState) → Stands image run → HoldsRecords (area_of run) (saved_text run) (records_of run.since) (image 1)
-holds_commands image run stands = record { is_area = stands.area; length_is = area_is run stands.is_state }
+-- an area of a run state holds the records of its commands
+pub holds_commands : (run : RunState) (file : List ℕ) → IsRunState run → IsArea run.text (records_of run.since) file → HoldsRecords (area_of run) run.text (records_of run.since) file
+holds_commands run file is area = record { is_area = area; length_is = area_is run is }
 
--- nothing is saved, so the chain is that of the commands since
-pub chain_since : (run : RunState) → IsRunState run → chain_of run ≡ after_commands (on_base run.base run.start) run.since
-chain_since run is = ap (λ (l : List Command). after_commands (on_base run.base run.start) (run.since ++ l)) is.saved_is
-    ∙ ap (after_commands (on_base run.base run.start)) (append-nil run.since)
+saved_with : (run : RunState) (command : Command) → HasSaved run → HasSaved (accepted run command)
+saved_with run command (nothing none saved empty) = nothing none saved empty
+saved_with run command (text some few is) = text some few is
 
 -- a command that is allowed on the chain, and has room
 pub state_with : (run : RunState) (command : Command) → IsRunState run → IsAllowed (chain_of run) command → area_of run + record_length command ≤ longest_area → IsRunState (accepted run command)
 state_with run command is allowed room = record {
   begun = is.begun;
   start_is = is.start_is;
-  saved_is = is.saved_is;
-  selections_is = is.selections_is;
-  allowed = (is.allowed, subst (λ (chain : Chain). IsAllowed chain command) (chain_since run is) allowed);
+  has_saved = saved_with run command is.has_saved;
+  valid = is.valid;
+  allowed_before = is.allowed_before;
+  allowed = (is.allowed, allowed);
   fits = omega (arith, room);
 }

@@ -16,13 +16,13 @@ pub record HasTaken (old : Indexed) (command : Command) (new : Indexed) (tip : T
   pub takes : TakesCommand old command new
   pub tip_is : tip ≡ new.tip
 
-abbrev pub ConnectsOn : (full : Type 0) → Indexed → List ℕ → Outcome Refusal → Type 0
+abbrev pub ConnectsOn : (full : Type 0) → Indexed → List ℕ → Outcome Tip Refusal → Type 0
 ConnectsOn full old bytes (outcome.Done store tip) = HasTaken old (Connect bytes) store.index tip
 ConnectsOn full old bytes (outcome.Refused store refusal) = RefusesBytes full old bytes refusal store.index
 ConnectsOn full old bytes (outcome.NoMemory store) = LacksMemory old bytes store.index
 ConnectsOn full old bytes outcome.Faulted = (staged : StagedIndex) × TakesBlock old bytes staged
 
-abbrev pub DisconnectsOn : (full : Type 0) → Indexed → Hash32 → Outcome BackRefusal → Type 0
+abbrev pub DisconnectsOn : (full : Type 0) → Indexed → Hash32 → Outcome Tip BackRefusal → Type 0
 DisconnectsOn full old hash (outcome.Done store tip) = HasTaken old (Disconnect hash.0) store.index tip
 DisconnectsOn full old hash (outcome.Refused store refusal) = RefusesHash full old hash refusal store.index
 DisconnectsOn full old hash (outcome.NoMemory store) = MayLose old hash store.index

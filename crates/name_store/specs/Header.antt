@@ -12,7 +12,6 @@ use Rattle.nmc_base.specs.Heights.{highest}
 use Rattle.nmc_base.specs.declared.chain_ends.Base.{Base}
 use Rattle.nmc_base.specs.declared.chain_ends.Profile.{Profile}
 use Rattle.nmc_base.specs.declared.chain_ends.Profile.TheVariants.{Regtest, Main}
-use Rattle.gate_journal.specs.Gate.{IsClosed}
 use Rattle.name_store.specs.Host.{IsHostText}
 
 abbrev pub magic : List ℕ
@@ -99,13 +98,7 @@ pub record IsInitialised (file : List ℕ) : Type 0 where
 abbrev pub IsUninitialised : List ℕ → Type 0
 IsUninitialised file = ¬ (IsInitialised file)
 
--- there is a gate at this place, and it is closed
-pub record IsShut (file : List ℕ) (gate : ℕ) : Type 0 where
-  pub inside : gate < length file
-  pub closed : IsClosed file gate
-
--- the file has a header with each field in order, and no selection
+-- the file has a header with each field in order
 pub record HasHeader (file : List ℕ) : Type 0 where
   pub initialised : IsInitialised file
   pub fields : HasFields file
-  pub shut : IsShut file (selections_at file)

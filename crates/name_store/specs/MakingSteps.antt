@@ -8,8 +8,12 @@ use Rattle.disk_model.specs.declared.disk.Failed.{Failed}
 use Rattle.nmc_base.specs.declared.chain_ends.Base.{Base}
 use Rattle.gate_journal.specs.Records.{image_front}
 use Rattle.gate_journal.specs.Writes.{KeepsBelow}
-use Rattle.name_store.specs.Damage.{header_file, area_file}
+use Rattle.name_store.specs.Damage.{header_file}
 use Rattle.name_store.specs.Header.{header_fields}
+
+-- without a selection the commands are kept in this file
+abbrev pub first_area : ℕ
+first_area = 1
 
 -- the file has these bytes, and was synced since its last write
 pub record HasSettled (bytes : List ℕ) (file : FileState) : Type 0 where
@@ -30,8 +34,8 @@ closed_header base host = 0 ∷ (header_fields base host ++ 0 ∷ [])
 
 -- the area was made
 pub record MakesArea {T : Type 0} (tells : Bool) (old new : DiskSeen) (result : Result T Failed) : Type 0 where
-  pub made : IsTrue tells → OnOk result (HasSettled empty_area (file_in new area_file))
-  pub any_moment : IsTrue tells → EachMoment (LeavesOthers area_file old.moments.now) old.moments new.moments
+  pub made : IsTrue tells → OnOk result (HasSettled empty_area (file_in new first_area))
+  pub any_moment : IsTrue tells → EachMoment (LeavesOthers first_area old.moments.now) old.moments new.moments
   pub ends : Ends old new result
 
 -- the header's file has a closed gate, and nothing behind it

@@ -1,20 +1,50 @@
 -- What opening answers, and what it leaves of the disk.
-use Rattle.std.specs.Prelude.{◌≡◌, ℕ, ◌<◌, Result, Ok, Err, ⊤}
+use Rattle.std.specs.Prelude.{◌≡◌, ◌⊎◌, ℕ, ◌<◌, Bool, List, Result, Ok, Err, ⊤}
 use Rattle.disk_model.specs.FileState.{IsSettled}
 use Rattle.disk_model.specs.DiskSeen.{DiskSeen, file_in, bytes_in}
 use Rattle.disk_model.specs.Moments.{Files}
-use Rattle.chain_commands.specs.RunState.{RunState}
+use Rattle.nmc_base.specs.declared.chain_ends.Base.{Base}
+use Rattle.chain_commands.specs.RunState.{RunState, longest_area}
 use Rattle.name_store.specs.declared.faults.OpenFault.{OpenFault}
 use Rattle.name_store.specs.declared.faults.OpenFault.TheVariants.{Uninitialised, Damaged, DiskFault, NoMemory}
 use Rattle.name_store.specs.Header.{IsInitialised, IsUninitialised}
 use Rattle.name_store.specs.Stands.{Bytes, Stands}
-use Rattle.name_store.specs.Damage.{IsDamaged}
+use Rattle.image_files.specs.Indexes.{HasBadImage}
+use Rattle.command_areas.specs.Commands.{Origin}
+use Rattle.command_areas.specs.Damage.{HasBadRecord}
+use Rattle.command_areas.specs.Reading.{HasFollowedAll}
+use Rattle.command_areas.specs.declared.following.Followed.{Followed}
+use Rattle.name_store.specs.Damage.{BeginsAt, IsDamaged}
 use Rattle.name_store.specs.Stored.{Stored, StandsFor, IsOn}
 
 -- Each of the three files was synced: it is settled, and reads give what they gave.
 pub record IsSynced (old new : DiskSeen) : Type 0 where
   pub settled : (file : ℕ) → file < 3 → IsSettled (file_in new file)
   pub alike : (file : ℕ) → file < 3 → bytes_in new file ≡ bytes_in old file
+
+-- ---- the selected area
+
+-- the commands behind the image were followed, from its index on
+pub record IsFollowed (tells : Bool) (base : Base) (area : List ℕ) (followed : Followed) : Type 0 where
+  pub first : Origin
+  pub begins : BeginsAt base area first
+  pub all : HasFollowedAll tells first area followed.index followed.length
+
+-- behind the image stands a record of no command that is taken at its turn
+pub record HasBadCommand (base : Base) (area : List ℕ) (at : ℕ) : Type 0 where
+  pub first : Origin
+  pub begins : BeginsAt base area first
+  pub bad : HasBadRecord first longest_area area at
+
+-- of the area in this file, which a disk tells
+abbrev pub AreaAnswer : Bool → Base → ℕ → List ℕ → Result Followed OpenFault → Type 0
+AreaAnswer tells base file area (Ok followed) = IsFollowed tells base area followed
+AreaAnswer tells base file area (Err Uninitialised) = ⊥
+AreaAnswer tells base file area (Err (Damaged number at)) = (number ≡ file) × (HasBadImage base area at ⊎ HasBadCommand base area at)
+AreaAnswer tells base file area (Err DiskFault) = ⊤
+AreaAnswer tells base file area (Err NoMemory) = ⊤
+
+-- ---- all files
 
 -- The store is on the disk, whose files were neither uninitialised nor damaged; and of every run state that they stood for, it
 -- stands for it.
@@ -25,7 +55,7 @@ pub record IsOpened (old : Bytes) (new : Files) (store : Stored) : Type 0 where
   pub follows : (run : RunState) → Stands old run → StandsFor store run
 
 -- The answers exclude one another, so each comes exactly where its case says; a fault of the disk has its cause beside, and
--- want of memory may stand in the place of the store and of damage in a record.
+-- want of memory may stand in the place of the store and of damage behind the header.
 abbrev pub OpenAnswer : Bytes → Files → Result Stored OpenFault → Type 0
 OpenAnswer old new (Ok store) = IsOpened old new store
 OpenAnswer old new (Err Uninitialised) = IsUninitialised (old 0)

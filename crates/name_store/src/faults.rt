@@ -1,8 +1,11 @@
 ghost use Rattle.std.specs.Prelude.{◌≡◌};
-ghost use Rattle.name_store.specs.Faults.{of_journal};
+ghost use Rattle.name_store.specs.Faults.{of_journal, of_slots, of_image};
 
+use crate::limits::HEADER_FILE;
 use disk_model::Failed;
 use gate_journal::JournalFault;
+use image_files::ReadFault;
+use image_slots::SlotFault;
 use nmc_base::NoMemory as NoRoom;
 
 /// Why a store was not opened.
@@ -11,7 +14,7 @@ pub enum OpenFault {
     /// File 0 has fewer than 50 bytes, or its first byte isn't 1: the files were not made, or not to their end.
     Uninitialised,
 
-    /// The first damage: the number of the file, and the place in it of the field, the gate or the record.
+    /// The first damage: the number of the file, and the place in it of the field, the selection, the image's fault or the record.
     Damaged { file: u8, at: u64 },
 
     /// A call of the disk failed.
@@ -65,7 +68,7 @@ impl From<NoRoom> for OpenFault {
 }
 
 impl OpenFault {
-    /// The fault of the journal in this file.
+    /// The fault of the commands in this file.
     pub(crate) fn of(file: u8, fault: JournalFault) -> OpenFault
         ensures { result ≡ of_journal file fault }
     {
@@ -73,6 +76,30 @@ impl OpenFault {
             JournalFault::DiskFault => OpenFault::DiskFault,
             JournalFault::Damaged { at } => OpenFault::Damaged { file, at },
             JournalFault::NoMemory => OpenFault::NoMemory,
+        }
+    }
+    /// The fault of the selections.
+    pub(crate) fn of_slots(fault: SlotFault) -> OpenFault
+        ensures { result ≡ of_slots fault }
+    {
+        match fault {
+            SlotFault::DiskFault => OpenFault::DiskFault,
+            SlotFault::Damaged { at } => OpenFault::Damaged {
+                file: HEADER_FILE,
+                at,
+            },
+            SlotFault::NoMemory => OpenFault::NoMemory,
+        }
+    }
+
+    /// The fault of the image in this file.
+    pub(crate) fn of_image(file: u8, fault: ReadFault) -> OpenFault
+        ensures { result ≡ of_image file fault }
+    {
+        match fault {
+            ReadFault::DiskFault => OpenFault::DiskFault,
+            ReadFault::Damaged { at } => OpenFault::Damaged { file, at },
+            ReadFault::NoMemory => OpenFault::NoMemory,
         }
     }
 }

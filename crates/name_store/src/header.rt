@@ -6,9 +6,9 @@ ghost use Rattle.disk_model.specs.Changes.{Unchanged};
 ghost use Rattle.disk_model.specs.DiskSeen.{EndsWith, bytes_in};
 ghost use Rattle.name_store.specs.Host.{IsHostOf};
 ghost use Rattle.name_store.specs.Header as headers;
-ghost use Rattle.name_store.specs.Header.{IsInitialised, IsProfile, IsShut, HasFields, HasHost};
+ghost use Rattle.name_store.specs.Header.{IsInitialised, IsProfile, HasFields, HasHost};
 ghost use Rattle.name_store.specs.Damage.{HasBadField};
-ghost use Rattle.name_store.specs.Reading.{HeaderAnswer, IsHeaderOf, IsBegunBy};
+ghost use Rattle.name_store.specs.HeaderAnswers.{HeaderAnswer, IsHeaderOf, IsBegunBy};
 
 use crate::faults::OpenFault;
 use crate::host::host_name;
@@ -34,6 +34,8 @@ const OPEN: u8 = 1;
 pub struct Header {
     pub base: Base,
     pub host: Name,
+    /// The place of the first gate of the selections.
+    pub selections: u64,
 }
 
 /// Whether the header's gate is open, and there are as many bytes as a header has at least.
@@ -122,17 +124,14 @@ fn read_fields(bytes: &[u8]) -> Result<Header, u64>
                 height,
                 hash: hash(bytes),
             };
-            Ok(Header { base, host })
+            Ok(Header {
+                base,
+                host,
+                selections: selections(bytes) as u64,
+            })
         }
         None => Err(47),
     }
-}
-
-/// Whether a gate stands at this place, and is closed.
-fn is_shut(bytes: &[u8], gate: usize) -> bool
-    ensures { IsTrue result ↔ IsShut bytes.now gate }
-{
-    gate < bytes.len() && bytes[gate] != OPEN
 }
 
 /// The header at the front of the bytes, or the first damage of it.
@@ -147,17 +146,7 @@ fn header_of(bytes: &[u8]) -> Result<Header, OpenFault>
         return Err(OpenFault::Uninitialised);
     }
     match read_fields(bytes) {
-        Ok(header) => {
-            let gate = selections(bytes);
-            if is_shut(bytes, gate) {
-                Ok(header)
-            } else {
-                Err(OpenFault::Damaged {
-                    file: HEADER_FILE,
-                    at: gate as u64,
-                })
-            }
-        }
+        Ok(header) => Ok(header),
         Err(at) => Err(OpenFault::Damaged {
             file: HEADER_FILE,
             at,

@@ -7,7 +7,7 @@ ghost use Rattle.name_store.specs.MakingSteps.{HasSettled, MakesArea, MakesGate,
 ghost use Rattle.name_store.specs.declared.host_text.TheConstants.{LONGEST_HOST};
 ghost use Rattle.name_store.specs.declared.making_steps.TheConstants.{LONGEST_FIELDS};
 
-use crate::limits::{AREA_FILE, CLOSED, HEADER_FILE};
+use crate::limits::{FIRST_AREA, CLOSED, HEADER_FILE};
 use disk_model::{Disk, Failed};
 use nmc_base::{Base, Profile};
 
@@ -21,9 +21,9 @@ const LONGEST_FIELDS: usize = 290;
 pub fn make_area<D: Disk>(disk: &mut D) -> Result<(), Failed>
     ensures { MakesArea D.tells (D.seen disk.old) (D.seen disk.new) result }
 {
-    disk.cut(AREA_FILE, 0)?;
-    disk.write_at(AREA_FILE, 0, &[0; 9])?;
-    disk.sync(AREA_FILE)
+    disk.cut(FIRST_AREA, 0)?;
+    disk.write_at(FIRST_AREA, 0, &[0; 9])?;
+    disk.sync(FIRST_AREA)
 }
 
 /// Makes the gate of the header, closed, and cuts away what stood behind it.

@@ -1,24 +1,23 @@
-ghost use Rattle.std.specs.Prelude.{◌≡◌, ◌<◌, IsTrue, IfOk, OnOk};
+ghost use Rattle.std.specs.Prelude.{◌≡◌, ◌<◌, ◌≤◌, ℕ, IsTrue, IfOk, OnOk};
+ghost use Rattle.disk_model.specs.FileState.{IsSettled};
 ghost use Rattle.disk_model.specs.Moments.{EachMoment};
 ghost use Rattle.disk_model.specs.Changes.{Unchanged, KeepsSettled};
 ghost use Rattle.disk_model.specs.DiskSeen.{Ends, EndsWith, bytes_in, file_in};
-ghost use Rattle.gate_journal.specs.Stand.{IsReadable};
-ghost use Rattle.name_store.specs.Opening.{OpenAnswer, IsSynced};
-ghost use Rattle.name_store.specs.Reading.{FollowsArea, IsInArea};
+ghost use Rattle.nmc_base.specs.Heights.{highest};
+ghost use Rattle.chain_commands.specs.RunState.{longest_area};
+ghost use Rattle.name_store.specs.Opening.{AreaAnswer, OpenAnswer, IsSynced};
+ghost use Rattle.name_store.specs.declared.limits.TheConstants.{EMPTY_AREA};
 
-use crate::area::open_area;
 use crate::faults::OpenFault;
 use crate::header::read_header;
-use crate::limits::AREA_FILE;
-use crate::reading::{Reading, read_all};
+use crate::limits::SLOT_LIMITS;
 use crate::store::Store;
-use chain_state::Chain;
+use command_areas::{Followed, follow_commands};
 use disk_model::{Disk, Failed};
-use gate_journal::Journal;
-use nmc_base::{Bytes, Steps};
+use image_files::read_image;
+use image_slots::Slots;
+use nmc_base::Base;
 use std::alloc::Global;
-use std::marker::Brand;
-use std::sync::ledger::{Blank, Ledger};
 
 /// Syncs the three files.
 fn sync_all<D: Disk>(disk: &mut D) -> Result<(), Failed>
@@ -33,41 +32,65 @@ fn sync_all<D: Disk>(disk: &mut D) -> Result<(), Failed>
     Ok(())
 }
 
-/// The index behind all commands of the area in this file, from the first index on, and where its journal stands. The steps are counted
-/// in the ledger of the blank.
-fn follow_area<D: Disk, L: Ledger>(
+/// The index behind all commands of the selected area, and the length of the area.
+fn read_area<D: Disk>(
     alloc: Global,
     disk: &mut D,
     file: u8,
-    first: Chain,
-    journal: Journal,
-    blank: Blank,
-) -> Result<Reading, OpenFault>
-    requires area { IsInArea file journal }
-    requires readable { IsTrue D.tells → IsReadable journal (file_in (D.seen disk.old) file) }
-    requires name { blank.name ≡ L.name }
-    requires parts { blank.parts ≡ L.parts }
-    requires some { 0 < blank.parts }
-    ensures follows { FollowsArea D.tells first journal file (bytes_in (D.seen disk.old) file) result }
-    ensures in_area { IfOk result (λ reading. IsInArea file reading.journal) }
+    base: Base,
+) -> Result<Followed, OpenFault>
+    requires file { file < 3 }
+    requires low { base.height ≤ highest }
+    requires settled { IsTrue D.tells → IsSettled (file_in (D.seen disk.old) file) }
+    ensures answer { IsTrue D.tells → AreaAnswer D.tells base file (bytes_in (D.seen disk.old) file) result }
+    ensures length { IfOk result (λ followed. (EMPTY_AREA ≤ followed.length) × (followed.length ≤ longest_area)) }
     ensures time { IsTrue D.tells → EachMoment (Unchanged (D.seen disk.old).moments.now) (D.seen disk.old).moments (D.seen disk.new).moments }
     ensures reads { (D.seen disk.new).changes ≡ (D.seen disk.old).changes }
     ensures ends { EndsWith OpenFault.DiskFault (D.seen disk.old) (D.seen disk.new) result }
 {
-    let reading = Reading {
-        journal,
-        chain: first,
-        held: Bytes::new(alloc),
+    let (index, gate) = match read_image(alloc, disk, file, &base) {
+        Ok(begun) => begun,
+        Err(fault) => return Err(OpenFault::of_image(file, fault)),
     };
-    let mut steps = Steps::<L>::new(blank);
-    read_all(reading, alloc, disk, file, &mut steps)
+    match follow_commands(alloc, disk, file, gate, index) {
+        Ok(followed) => Ok(followed),
+        Err(fault) => Err(OpenFault::of_journal(file, fault)),
+    }
 }
 
 impl Store {
-    /// Opens the files: syncs them, and follows the commands of the area from the base on.
+    /// The store of the files, which were synced: the header, its selections, and what the selected area holds.
+    fn read<D: Disk>(alloc: Global, disk: &mut D) -> Result<Store, OpenFault>
+        requires settled { IsTrue D.tells → (file : ℕ) → file < 3 → IsSettled (file_in (D.seen disk.old) file) }
+        ensures answer { IsTrue D.tells → OpenAnswer (bytes_in (D.seen disk.old)) (D.seen disk.new).moments.now result }
+        ensures time { IsTrue D.tells → EachMoment (Unchanged (D.seen disk.old).moments.now) (D.seen disk.old).moments (D.seen disk.new).moments }
+        ensures reads { (D.seen disk.new).changes ≡ (D.seen disk.old).changes }
+        ensures ends { EndsWith OpenFault.DiskFault (D.seen disk.old) (D.seen disk.new) result }
+    {
+        let header = match read_header(disk) {
+            Ok(header) => header,
+            Err(fault) => return Err(fault),
+        };
+        let slots = match Slots::open(alloc, disk, header.selections, SLOT_LIMITS) {
+            Ok(slots) => slots,
+            Err(fault) => return Err(OpenFault::of_slots(fault)),
+        };
+        match read_area(alloc, disk, slots.selected(), header.base) {
+            Ok(followed) => Ok(Store::of(
+                followed.index,
+                header.host,
+                slots,
+                followed.length,
+            )),
+            Err(fault) => Err(fault),
+        }
+    }
+
+    /// Opens the files: syncs them, reads the image of the selected area, and follows the commands behind it. Without a selection, and
+    /// where the image is empty, they begin at the base.
     ///
     /// It asks for no write and no cut, and what was settled is settled at each moment. At Ok each of the three files is settled,
-    /// and reads give what they gave. Memory is taken for the index and for one record at a time.
+    /// and reads give what they gave. Memory is taken for the index, for one record or value at a time, and for a buffer.
     pub fn open<D: Disk>(alloc: Global, disk: &mut D) -> Result<Store, OpenFault>
         ensures answer { IsTrue D.tells → OpenAnswer (bytes_in (D.seen disk.old)) (D.seen disk.new).moments.now result }
         ensures synced { IsTrue D.tells → OnOk result (IsSynced (D.seen disk.old) (D.seen disk.new)) }
@@ -75,21 +98,9 @@ impl Store {
         ensures reads { (D.seen disk.new).changes ≡ (D.seen disk.old).changes }
         ensures ends { EndsWith OpenFault.DiskFault (D.seen disk.old) (D.seen disk.new) result }
     {
-        sync_all(disk)?;
-        let header = read_header(disk)?;
-        let journal = open_area(disk, AREA_FILE)?;
-        let Ok(first) = Chain::at_base(alloc, header.base) else {
-            return Err(OpenFault::NoMemory);
-        };
-        let reading = follow_area::<D, Brand>(
-            alloc,
-            disk,
-            AREA_FILE,
-            first,
-            journal,
-            Blank::new(1),
-        )?;
-        let area = reading.journal.length();
-        Ok(Store::of(reading.chain, header.host, area))
+        match sync_all(disk) {
+            Ok(()) => Store::read(alloc, disk),
+            Err(fault) => Err(OpenFault::from(fault)),
+        }
     }
 }

@@ -2,55 +2,57 @@ ghost use Rattle.std.specs.Prelude.{◌≡◌, ◌≤◌, length, IsTrue};
 ghost use Rattle.nmc_base.specs.declared.limits.TheConstants.{LONGEST_BLOCK};
 ghost use Rattle.chain_commands.specs.RunState.{longest_area};
 ghost use Rattle.chain_commands.specs.Event.{Connect, Disconnect};
-ghost use Rattle.name_store.specs.Stored.{IsOn};
+ghost use Rattle.disk_model.specs.Changes.{LeavesOthers};
+ghost use Rattle.name_store.specs.Stored.{IsOn, area_file};
 ghost use Rattle.index_commands.specs.Stages.{IsFullWith};
 ghost use Rattle.name_store.specs.ByIndex.{ConnectsOn, DisconnectsOn};
-ghost use Rattle.name_store.specs.Outcomes.{IfUndone, LeavesDisk, KeepsOn};
-ghost use Rattle.name_store.specs.declared.limits.TheConstants.{EMPTY_AREA};
+ghost use Rattle.name_store.specs.Outcomes.{Adds, IfUndone, LeavesDisk, KeepsOn};
+ghost use Rattle.name_store.specs.declared.limits.TheConstants.{EMPTY_AREA, SLOT_LIMITS};
 ghost use Rattle.name_store.specs.Connecting as connecting;
 ghost use Rattle.name_store.specs.Disconnecting as disconnecting;
 
-use crate::keeping::keep;
-use crate::limits::{AREA_FILE, LONGEST_AREA};
 use chain_state::{
     BackOutcome, BackRefusal, Chain, Refusal, StageOutcome, StagedBack, StagedChain,
 };
+use command_areas::{LONGEST_AREA, keep};
 use disk_model::Disk;
 use domain_text::Name;
+use image_slots::Slots;
 use index_commands::{CONNECT, DISCONNECT, stage_bytes, stage_hash};
 use nmc_base::{Hash32, Steps, Tip};
 use std::alloc::Global;
 use std::marker::Model;
 use std::sync::ledger::Ledger;
 
-/// An index whose commands are kept in the files of a disk. Contracts see the index, the wire form of its base's host
-/// and the length of its area in bytes. It holds no disk.
+/// An index whose commands and saves are kept in the files of a disk. Contracts see the index, the wire form of its base's host, the
+/// selections and the length of the selected area in bytes. It holds no disk.
 #[derive(Drop)]
 pub struct Store {
-    chain: Chain,
-    host: Name,
-    area: u64,
+    pub(crate) chain: Chain,
+    pub(crate) host: Name,
+    pub(crate) slots: Slots,
+    pub(crate) area: u64,
 }
 
 impl Model for Store {
-    ghost use Rattle.std.specs.Prelude.{◌≤◌};
+    ghost use Rattle.std.specs.Prelude.{◌≡◌, ◌≤◌};
     ghost use Rattle.chain_commands.specs.RunState.{longest_area};
     ghost use Rattle.name_store.specs.Stored.{Stored};
-    ghost use Rattle.name_store.specs.declared.limits.TheConstants.{EMPTY_AREA};
+    ghost use Rattle.name_store.specs.declared.limits.TheConstants.{EMPTY_AREA, SLOT_LIMITS};
 
     ghost Value = { Stored };
 
-    ghost view = { λ s. record { index = s.chain; host = s.host; area = s.area } };
+    ghost view = { λ s. record { index = s.chain; host = s.host; slots = s.slots; area = s.area } };
 
-    ghost invariant = { λ s. (EMPTY_AREA ≤ s.area) × (s.area ≤ longest_area) };
+    ghost invariant = { λ s. (EMPTY_AREA ≤ s.area) × (s.area ≤ longest_area) × (s.slots.limits ≡ SLOT_LIMITS) };
 }
 
-/// What came of a command, whose refusals are of the type `R`. A store that is handed back with one of them, or for want of
+/// What came of a request, whose refusals are of the type `R`. A store that is handed back with one of them, or for want of
 /// memory, stands for what it stood for. A fault of the disk hands none back: open the files again.
 #[derive(Drop)]
-pub enum Outcome<R> {
-    /// It was done, and this is the tip now.
-    Done(Store, Tip),
+pub enum Outcome<T, R> {
+    /// It was done, and this is told of it: of a command the tip now.
+    Done(Store, T),
     Refused(Store, R),
     NoMemory(Store),
     Faulted,
@@ -64,12 +66,18 @@ fn let_go_back(_staged: StagedBack) {}
 
 impl Store {
     /// The store of these parts.
-    pub(crate) fn of(chain: Chain, host: Name, area: u64) -> Store
+    pub(crate) fn of(chain: Chain, host: Name, slots: Slots, area: u64) -> Store
         requires some { EMPTY_AREA ≤ area }
         requires within { area ≤ longest_area }
-        ensures { result ≡ record { index = chain; host = host; area = area } }
+        requires limits { slots.limits ≡ SLOT_LIMITS }
+        ensures { result ≡ record { index = chain; host = host; slots = slots; area = area } }
     {
-        Store { chain, host, area }
+        Store {
+            chain,
+            host,
+            slots,
+            area,
+        }
     }
 
     /// The index.
@@ -87,13 +95,14 @@ impl Store {
     }
 
     /// What a command came to that was done.
-    fn done<R>(chain: Chain, host: Name, area: u64) -> Outcome<R>
+    fn done<R>(chain: Chain, host: Name, slots: Slots, area: u64) -> Outcome<Tip, R>
         requires some { EMPTY_AREA ≤ area }
         requires within { area ≤ longest_area }
-        ensures { result ≡ Outcome.Done (record { index = chain; host = host; area = area }) chain.tip }
+        requires limits { slots.limits ≡ SLOT_LIMITS }
+        ensures { result ≡ Outcome.Done (record { index = chain; host = host; slots = slots; area = area }) chain.tip }
     {
         let tip = chain.tip();
-        Outcome::Done(Store { chain, host, area }, tip)
+        Outcome::Done(Store::of(chain, host, slots, area), tip)
     }
 
     /// Connects a block: stages it, keeps it in the area, and then changes the index.
@@ -107,26 +116,45 @@ impl Store {
         disk: &mut D,
         bytes: &[u8],
         steps: &mut Steps<L>,
-    ) -> Outcome<Refusal>
+    ) -> Outcome<Tip, Refusal>
         requires short { length bytes.now ≤ LONGEST_BLOCK }
         requires on_disk { IsTrue D.tells → IsOn self (D.seen disk.old).moments.now }
         ensures connects { connecting.Connects longest_area self bytes.now result }
         ensures on_index { ConnectsOn (IsFullWith self.area longest_area (Connect bytes.now)) self.index bytes.now result }
         ensures undone { IfUndone (disk.new ≡ disk.old) result }
-        ensures leaves { LeavesDisk D.tells (D.seen disk.old) (D.seen disk.new) result }
-        ensures kept { KeepsOn D.tells self (Connect bytes.now) (D.seen disk.old) (D.seen disk.new) result }
+        ensures leaves { LeavesDisk D.tells (LeavesOthers (area_file self)) (D.seen disk.old) (D.seen disk.new) result }
+        ensures kept { KeepsOn D.tells self (Adds (Connect bytes.now)) (D.seen disk.old) (D.seen disk.new) result }
         ensures cost { connecting.IsCheapIfDone bytes.now result steps.old steps.new }
     {
-        let Store { chain, host, area } = self;
+        let Store {
+            chain,
+            host,
+            slots,
+            area,
+        } = self;
         let staged = match stage_bytes(alloc, chain, bytes, area, LONGEST_AREA, steps) {
             StageOutcome::Staged(staged) => staged,
             StageOutcome::Refused(chain, refusal) => {
-                return Outcome::Refused(Store { chain, host, area }, refusal);
+                let store = Store {
+                    chain,
+                    host,
+                    slots,
+                    area,
+                };
+                return Outcome::Refused(store, refusal);
             }
-            StageOutcome::NoMemory(chain) => return Outcome::NoMemory(Store { chain, host, area }),
+            StageOutcome::NoMemory(chain) => {
+                return Outcome::NoMemory(Store {
+                    chain,
+                    host,
+                    slots,
+                    area,
+                });
+            }
         };
-        match keep(disk, AREA_FILE, area, CONNECT, bytes) {
-            Ok(area) => Store::done(staged.commit(steps), host, area),
+        let file = slots.selected();
+        match keep(disk, file, area, CONNECT, bytes) {
+            Ok(area) => Store::done(staged.commit(steps), host, slots, area),
             Err(_) => {
                 let_go(staged);
                 Outcome::Faulted
@@ -143,25 +171,44 @@ impl Store {
         disk: &mut D,
         hash: Hash32,
         steps: &mut Steps<L>,
-    ) -> Outcome<BackRefusal>
+    ) -> Outcome<Tip, BackRefusal>
         requires on_disk { IsTrue D.tells → IsOn self (D.seen disk.old).moments.now }
         ensures disconnects { disconnecting.Disconnects longest_area self hash.0 result }
         ensures on_index { DisconnectsOn (IsFullWith self.area longest_area (Disconnect hash.0)) self.index hash result }
         ensures undone { IfUndone (disk.new ≡ disk.old) result }
-        ensures leaves { LeavesDisk D.tells (D.seen disk.old) (D.seen disk.new) result }
-        ensures kept { KeepsOn D.tells self (Disconnect hash.0) (D.seen disk.old) (D.seen disk.new) result }
+        ensures leaves { LeavesDisk D.tells (LeavesOthers (area_file self)) (D.seen disk.old) (D.seen disk.new) result }
+        ensures kept { KeepsOn D.tells self (Adds (Disconnect hash.0)) (D.seen disk.old) (D.seen disk.new) result }
         ensures cost { disconnecting.IsCheapIfDone self.index result steps.old steps.new }
     {
-        let Store { chain, host, area } = self;
+        let Store {
+            chain,
+            host,
+            slots,
+            area,
+        } = self;
         let staged = match stage_hash(alloc, chain, hash, area, LONGEST_AREA, steps) {
             BackOutcome::StagedBack(staged) => staged,
             BackOutcome::Refused(chain, refusal) => {
-                return Outcome::Refused(Store { chain, host, area }, refusal);
+                let store = Store {
+                    chain,
+                    host,
+                    slots,
+                    area,
+                };
+                return Outcome::Refused(store, refusal);
             }
-            BackOutcome::NoMemory(chain) => return Outcome::NoMemory(Store { chain, host, area }),
+            BackOutcome::NoMemory(chain) => {
+                return Outcome::NoMemory(Store {
+                    chain,
+                    host,
+                    slots,
+                    area,
+                });
+            }
         };
-        match keep(disk, AREA_FILE, area, DISCONNECT, &hash.0) {
-            Ok(area) => Store::done(staged.commit(steps), host, area),
+        let file = slots.selected();
+        match keep(disk, file, area, DISCONNECT, &hash.0) {
+            Ok(area) => Store::done(staged.commit(steps), host, slots, area),
             Err(_) => {
                 let_go_back(staged);
                 Outcome::Faulted

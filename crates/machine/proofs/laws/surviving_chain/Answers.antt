@@ -1,4 +1,4 @@
-use Rattle.machine.proofs.RunLemmas.{run_state, run_survives}
+use Rattle.machine.proofs.RunLemmas.{run_state, run_survives, run_keeps}
 use Rattle.machine.proofs.laws.surviving_chain.Goals as goal
 
 pub returns-clause-state : goal.returns-clause-state
@@ -6,3 +6,6 @@ returns-clause-state c = run_state
 
 pub returns-clause-chain : goal.returns-clause-chain
 returns-clause-chain c = run_survives
+
+pub returns-clause-saved : goal.returns-clause-saved
+returns-clause-saved c = run_keeps

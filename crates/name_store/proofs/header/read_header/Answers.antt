@@ -1,7 +1,7 @@
 use Rattle.std.proofs.Common.{List, ℕ, ◌<◌, subst}
 use Rattle.std.specs.Prelude.{slice_index}
 use Rattle.disk_model.specs.DiskSeen.{bytes_in}
-use Rattle.name_store.specs.Reading.{HeaderAnswer}
+use Rattle.name_store.specs.HeaderAnswers.{HeaderAnswer}
 use Rattle.name_store.proofs.HeaderLemmas.{front_byte, front_read, answer_up}
 use Rattle.name_store.proofs.header.read_header.Goals as goal
 

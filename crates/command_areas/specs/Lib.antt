@@ -1,0 +1,4 @@
+pub mod Commands
+pub mod Damage
+pub mod Reading
+pub mod Keeping

@@ -1,9 +1,0 @@
-use Rattle.disk_model.specs.DiskSeen.{bytes_in}
-use Rattle.name_store.specs.Commands.{Origin}
-use Rattle.name_store.proofs.ReadingLemmas.{followed_none}
-use Rattle.name_store.proofs.opening.follow_area.Goals as goal
-
-pub returns-clause-follows : goal.returns-clause-follows
-returns-clause-follows g c = λ front behind.
-    let first : Origin = record { front = front; index = c.args.first } in
-    c.read_all.ensures.follows first (followed_none g.D.Disk.tells first (bytes_in (g.D.Disk.seen c.args.disk.now) c.args.file) c.args.journal behind c.requires.area.within)
