@@ -12,11 +12,8 @@ use crate::feeding::feed_image;
 use chain_state::{Chain, Parts};
 use disk_model::Disk;
 use nmc_base::Base;
-use state_image::Loader;
+use state_image::{Loader, let_go};
 use std::alloc::Global;
-
-/// Lets go of parts, in a place of its own: such a place is dear to prove.
-fn let_go(_parts: Parts) {}
 
 /// The chain of parts that were read with their base, where this is the base.
 fn chain_on(read: Base, parts: Parts, base: &Base) -> Result<Chain, ReadFault>
