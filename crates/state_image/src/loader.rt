@@ -146,4 +146,10 @@ impl Loader {
             None => reading.settle(alloc),
         }
     }
+
+    /// Lets go of what was read. Call it where a loader isn't finished: each place that drops one itself is dear to prove.
+    pub fn let_go(self) {
+        let Loader { reading, .. } = self;
+        reading.let_go();
+    }
 }

@@ -66,7 +66,8 @@ fn judge(alloc: Global, version: Version, base: &Base, parts: &mut Parts) -> Res
     soundness(alloc, base, parts)
 }
 
-fn let_go(_parts: Parts) {}
+/// Lets go of parts. Call it where the parts of an image are of no use: each place that drops them itself is dear to prove.
+pub fn let_go(_parts: Parts) {}
 
 impl Reading {
     /// The base and the parts.
@@ -86,9 +87,14 @@ impl Reading {
     pub(crate) fn give_up(self, fault: ImageFault) -> Result<(Base, Parts), ImageFault>
         ensures { result ≡ Err fault }
     {
+        self.let_go();
+        Err(fault)
+    }
+
+    /// Lets go of what was read.
+    pub(crate) fn let_go(self) {
         let (_, parts) = self.split();
         let_go(parts);
-        Err(fault)
     }
 
     /// The base and the parts, where they are sound.
