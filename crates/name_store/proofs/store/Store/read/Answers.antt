@@ -85,7 +85,7 @@ returns-in-Err-read_area-clause-answer g c = λ told.
     let selected : HasSelected (old 0) slots.count = record {
       header = has.0;
       selections = subst (λ (n : ℕ). HasSelections (take n (old 0)) slots.count (old 0)) has.1.selections_is
-      (subst (λ (files : Files). HasSelections (take header.selections (files 0).bytes) slots.count (files 0).bytes) one (c.in-Ok-open.ensures.answer told));
+          (subst (λ (files : Files). HasSelections (take header.selections (files 0).bytes) slots.count (files 0).bytes) one (c.in-Ok-open.ensures.answer told));
       few = c.in-Ok-open.ensures.ok.2;
     } in
     area_bad tells old new slots.count fault selected

@@ -24,8 +24,10 @@ returns-in-Ok-clause-saves g c =
     let number = c.in-Ok.saved.number in
     let w = c.in-Ok.ensures.saves.answer in
     subst (λ (x : Stored). Saves c.args.self (Done x c.from.result)) (sym c.of-store.ensures) (subst (λ (x : Stored). Saves x (Done new c.from.result)) c.self.view_is
-    (λ run s. (none_refuses g.D.Disk.tells old limits before after on c.in-Ok.saved.image c.save_index.new.slots (Ok number) w run s,
-    save_answers g.D.Disk.tells old limits before after on c.in-Ok.saved.image c.save_index.new.slots number w c.from.result c.from.ensures run s)))
+    (λ run s. (
+      none_refuses g.D.Disk.tells old limits before after on c.in-Ok.saved.image c.save_index.new.slots (Ok number) w run s,
+      save_answers g.D.Disk.tells old limits before after on c.in-Ok.saved.image c.save_index.new.slots number w c.from.result c.from.ensures run s,
+    )))
 
 pub returns-in-Ok-clause-leaves : goal.returns-in-Ok-clause-leaves
 returns-in-Ok-clause-leaves g c =
