@@ -2,3 +2,4 @@ pub mod AreaLemmas
 pub mod ReadingLemmas
 pub mod KeepLemmas
 pub mod RecordLaws
+pub mod FollowedLemmas

@@ -62,7 +62,7 @@ fn follow_area<D: Disk, L: Ledger>(
 fn let_go(_index: Chain) {}
 
 /// What stands behind the last command of a reading.
-fn followed(reading: Reading) -> Followed
+fn end_of(reading: Reading) -> Followed
     ensures { result ≡ record { index = reading.chain; length = reading.journal.length } }
 {
     let Reading { journal, chain, .. } = reading;
@@ -94,9 +94,10 @@ pub fn follow_commands<D: Disk>(
 {
     match Journal::open(disk, file, gate, LONGEST_AREA) {
         Ok(journal) => {
-            let reading =
-                follow_area::<D, Brand>(alloc, disk, file, first, journal, Blank::new(1))?;
-            Ok(followed(reading))
+            match follow_area::<D, Brand>(alloc, disk, file, first, journal, Blank::new(1)) {
+                Ok(reading) => Ok(end_of(reading)),
+                Err(fault) => Err(fault),
+            }
         }
         Err(fault) => {
             let_go(first);

@@ -10,7 +10,7 @@ use Rattle.disk_model.specs.Changes.{Changes, AfterSync}
 use Rattle.disk_model.specs.DiskSeen.{DiskSeen, file_in, bytes_in}
 use Rattle.chain_state.specs.Chain.{Indexed}
 use Rattle.gate_journal.specs.Gate.{IsClosed}
-use Rattle.gate_journal.specs.Records.{HasRecords, IsArea}
+use Rattle.gate_journal.specs.Records.{HasRecords, IsArea, image_front}
 use Rattle.gate_journal.proofs.RecordLemmas.{area_unique}
 use Rattle.chain_commands.specs.Event.{Command}
 use Rattle.chain_commands.specs.RunState.{RunState, saved_chain, after_commands, chain_of, area_of, grown_by, longest_area}
@@ -23,23 +23,30 @@ use Rattle.image_slots.specs.Answers.{FaultAnswer}
 use Rattle.image_slots.specs.Damage as slot_damage
 use Rattle.image_files.specs.Fronts.{image_at, image_length_at}
 use Rattle.image_files.specs.Indexes.{BeginsWith, HasBadImage}
+use Rattle.image_files.specs.Reading.{IsReadFrom, ReadAnswer}
+use Rattle.image_files.specs.declared.fault.ReadFault.{ReadFault}
+use Rattle.image_files.specs.declared.fault.ReadFault.TheVariants as read_faults
+use Rattle.gate_journal.specs.declared.faults.JournalFault.{JournalFault}
+use Rattle.gate_journal.specs.declared.faults.JournalFault.TheVariants as journal_faults
 use Rattle.index_commands.specs.Standing as chains
 use Rattle.index_commands.specs.Records.{records_of}
 use Rattle.index_commands.proofs.SizeLemmas.{led_sizes, commands_told}
 use Rattle.index_commands.proofs.LeadLemmas.{led_base, led_taken, led_stands}
 use Rattle.command_areas.specs.Commands.{Origin, gate_behind}
 use Rattle.command_areas.specs.Damage.{HasBadRecord}
+use Rattle.command_areas.specs.Reading.{IsFrontOf, FollowedAnswer}
 use Rattle.command_areas.specs.declared.following.Followed.{Followed}
 use Rattle.command_areas.proofs.AreaLemmas.{area_size, all_read}
+use Rattle.command_areas.proofs.ReadingLemmas.{followed_all_same}
 use Rattle.command_areas.proofs.RecordLaws.{ended_well}
 use Rattle.name_store.specs.declared.faults.OpenFault.{OpenFault}
 use Rattle.name_store.specs.declared.faults.OpenFault.TheVariants as faults
 use Rattle.name_store.specs.declared.header.Header.{Header}
-use Rattle.name_store.specs.Faults.{of_slots}
+use Rattle.name_store.specs.Faults.{of_journal, of_slots, of_image}
 use Rattle.name_store.specs.Damage as damage
 use Rattle.name_store.specs.Damage.{HasSelected, BeginsAt, IsDamaged}
 use Rattle.name_store.specs.Header.{HasHeader, IsInitialised, magic, profile_byte, header_text, base_at, host_at, hash_at, host_length_at, height_at, selections_at}
-use Rattle.name_store.specs.HeaderAnswers.{IsHeaderOf}
+use Rattle.name_store.specs.HeaderAnswers.{IsHeaderOf, HeaderAnswer}
 use Rattle.name_store.specs.Host.{IsHostOf}
 use Rattle.name_store.specs.Opening.{IsSynced, IsFollowed, IsOpened, OpenAnswer, AreaAnswer}
 use Rattle.name_store.specs.Stands.{Bytes, Stands}
@@ -227,7 +234,47 @@ module _ (tells : Bool) (files : Files) (header : Header) (slots : Slotted) (fol
     follows = stands_so;
   }
 
+-- ---- the selected area
+
+-- its image was not read
+pub image_unread : (tells : Bool) (base : Base) (file : ℕ) (area : List ℕ) (fault : ReadFault) → ReadAnswer base area (Err fault) → AreaAnswer tells base file area (Err (of_image file fault))
+image_unread tells base file area (read_faults.Damaged at) is = (refl, inl is)
+image_unread tells base file area read_faults.DiskFault is = tt
+image_unread tells base file area read_faults.NoMemory is = tt
+
+-- its image was read, and then its commands in a file that is the same still
+module _ (tells : Bool) (told : IsTrue tells) (base : Base) (file : ℕ) (area mid : List ℕ) (same : mid ≡ area) (index : Indexed) (gate : ℕ) (r : IsReadFrom base area index gate) where
+  abbrev origin : Origin
+  origin = record { front = image_front (image_at area); index = index }
+
+  origin_begins : BeginsAt base area origin
+  origin_begins = record { front = r.front; front_is = refl; is_index = r.is_index }
+
+  pub front_stands : IsFrontOf (image_front (image_at area)) mid
+  front_stands = subst (IsFrontOf (image_front (image_at area))) (sym same) (record {
+    begins = ap (λ (n : ℕ). take n area) (sym r.gate_is) ∙ r.begins;
+    inside = subst (λ (n : ℕ). n < length area) r.gate_is r.inside;
+  })
+
+  pub area_followed : (followed : Followed) → FollowedAnswer tells origin mid (Ok followed) → IsFollowed tells base area followed
+  area_followed followed is = record { first = origin; begins = origin_begins; all = followed_all_same tells origin mid area (λ told. same) followed.index followed.length is }
+
+  pub area_unfollowed : (fault : JournalFault) → FollowedAnswer tells origin mid (Err fault) → AreaAnswer tells base file area (Err (of_journal file fault))
+  area_unfollowed (journal_faults.Damaged at) is = (
+    refl,
+    inr (record { first = origin; begins = origin_begins; bad = subst (λ (l : List ℕ). HasBadRecord origin longest_area l at) same (is told) }),
+  )
+  area_unfollowed journal_faults.DiskFault is = tt
+  area_unfollowed journal_faults.NoMemory is = tt
+
 -- ---- damage behind a header that is in order
+
+-- of the header
+pub header_bad : (old : Bytes) (new : Files) (fault : OpenFault) → HeaderAnswer (old 0) (Err fault) → OpenAnswer old new (Err fault)
+header_bad old new faults.Uninitialised is = is
+header_bad old new (faults.Damaged number at) is = damage.field is.0 is.1 is.2
+header_bad old new faults.DiskFault is = tt
+header_bad old new faults.NoMemory is = tt
 
 -- of the selections
 pub slots_bad : (old : Bytes) (new : Files) (header : Header) (fault : SlotFault) → HasHeader (old 0) → IsHeaderOf (old 0) header → FaultAnswer header.selections most_selections (old 0) fault

@@ -67,18 +67,23 @@ impl Store {
         ensures reads { (D.seen disk.new).changes ≡ (D.seen disk.old).changes }
         ensures ends { EndsWith OpenFault.DiskFault (D.seen disk.old) (D.seen disk.new) result }
     {
-        let header = read_header(disk)?;
+        let header = match read_header(disk) {
+            Ok(header) => header,
+            Err(fault) => return Err(fault),
+        };
         let slots = match Slots::open(alloc, disk, header.selections, SLOT_LIMITS) {
             Ok(slots) => slots,
             Err(fault) => return Err(OpenFault::of_slots(fault)),
         };
-        let followed = read_area(alloc, disk, slots.selected(), header.base)?;
-        Ok(Store::of(
-            followed.index,
-            header.host,
-            slots,
-            followed.length,
-        ))
+        match read_area(alloc, disk, slots.selected(), header.base) {
+            Ok(followed) => Ok(Store::of(
+                followed.index,
+                header.host,
+                slots,
+                followed.length,
+            )),
+            Err(fault) => Err(fault),
+        }
     }
 
     /// Opens the files: syncs them, reads the image of the selected area, and follows the commands behind it. Without a selection, and
@@ -93,7 +98,9 @@ impl Store {
         ensures reads { (D.seen disk.new).changes ≡ (D.seen disk.old).changes }
         ensures ends { EndsWith OpenFault.DiskFault (D.seen disk.old) (D.seen disk.new) result }
     {
-        sync_all(disk)?;
-        Store::read(alloc, disk)
+        match sync_all(disk) {
+            Ok(()) => Store::read(alloc, disk),
+            Err(fault) => Err(OpenFault::from(fault)),
+        }
     }
 }

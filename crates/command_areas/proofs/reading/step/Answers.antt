@@ -19,7 +19,7 @@ returns-in-Err-Refused-clause-steps_on g c = λ first some.
     (subst (λ (l : List ℕ). FollowsRecord c.args.reading.chain l (Err Refused)) c.as_slice.ensures
     (subst (λ (e : Unfollowed). FollowsRecord c.args.reading.chain c.as_slice.result.now (Err e)) c.in-Err-Refused.field-0-is c.in-Err-Refused.ensures)) _ (omega (arith, c.length-at.ensures))
 
-pub returns-in-Err-clause-steps_on : goal.returns-in-Err-clause-steps_on
-returns-in-Err-clause-steps_on g c = λ first some.
+pub returns-clause-steps_on : goal.returns-clause-steps_on
+returns-clause-steps_on g c = λ first some.
     fault_there g.D.Disk.tells (bytes_in (g.D.Disk.seen c.args.disk.now)) first c.args.file (record { journal = c.args.reading.journal; in_area = c.requires.area; index = c.args.reading.chain; some = some })
     c.next_record.new.self c.next_record.new.into c.in-Err.fault c.in-Err.ensures.answer

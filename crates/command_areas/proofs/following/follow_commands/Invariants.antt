@@ -1,4 +1,4 @@
-use Rattle.name_store.proofs.store.Store.open.Given as goal
+use Rattle.command_areas.proofs.following.follow_commands.Given as goal
 
 -- the ledger of the steps is the blank's
 abbrev pub ghosts-follow_area : goal.ghosts-follow_area
