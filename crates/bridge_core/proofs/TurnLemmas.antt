@@ -157,7 +157,7 @@ module _ {D T R M : Type 0} (t : Turn D) (request : Request T R M) where
         let is_zero : t.reply.code ≡ 0 = code_of t.reply (request.told_as told) same ∙ kind.code_is told in
         let lead : (run : RunState) → StandsFor t.old run → Leads request run new told = λ run s. kind.leads run new told (d.answers run s).1 in
         let step : (run : RunState) (s : StandsFor t.old run) → Step run request.event t.reply (lead run s).next = λ run s.
-            kind.steps run t.reply (lead run s).next (accepts (d.answers run s).0 (subst (λ (reply : Reply). request.LeavesOf run reply (lead run s).next) (sym same) (lead run s).leaves)) in
+        kind.steps run t.reply (lead run s).next (accepts (d.answers run s).0 (subst (λ (reply : Reply). request.LeavesOf run reply (lead run s).next) (sym same) (lead run s).leaves)) in
         record {
           step = λ run s. record { new = (lead run s).next; step = step run s; stands = (lead run s).stands };
           told = λ fault. absurd (omega (arith, is_zero, fault));

@@ -94,7 +94,7 @@ impl From<BackRefusal> for Answer {
 }
 
 /// The store that is handed back, if any, and the answer.
-pub(super) fn answer_of<R: Into<Answer>>(outcome: Outcome<R>) -> (Option<Store>, Answer) {
+pub(super) fn answer_of<R: Into<Answer>>(outcome: Outcome<Tip, R>) -> (Option<Store>, Answer) {
     match outcome {
         Outcome::Done(store, tip) => (Some(store), Answer::Done(tip)),
         Outcome::Refused(store, refusal) => (Some(store), refusal.into()),
