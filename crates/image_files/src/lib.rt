@@ -4,7 +4,11 @@
 mod drafting;
 mod law;
 mod pieces;
+mod saved;
+mod saving;
 mod writing;
 
 pub use law::images_of_a_save;
+pub use saved::{SaveFault, Saved};
+pub use saving::save_index;
 pub use writing::write_image;

@@ -87,6 +87,15 @@ impl Slots {
         self.count
     }
 
+    /// How many selections there may be, and how long an image may be.
+    pub fn limits(&self) -> SlotLimits
+        ensures value { result ≡ self.now.limits }
+        ensures few { self.now.count ≤ result.selections }
+        ensures short { result.image ≤ farthest }
+    {
+        self.limits
+    }
+
     /// Begins a draft of an image of so many bytes: empties the area that is not selected, and writes the image's length there.
     ///
     /// `CheckpointLimit` comes exactly where as many selections were made as may be, and otherwise `ImageLimit` exactly where the image

@@ -4,7 +4,6 @@ use Rattle.std.specs.Prelude.{None}
 use Rattle.chain_names.specs.Tables.{coins_in, names_in, queued_in, queue_of}
 use Rattle.name_tables.specs.Tables.{AreEmpty, AreFilled, maps_by}
 use Rattle.name_tables.specs.declared.tables.Tables.{Tables}
-use Rattle.state_image.specs.Accepting.{Accepts}
 use Rattle.state_image.specs.Standing.{BeginsAt, IsKept, AreUpTo, no_maps}
 use Rattle.state_image.specs.declared.next.Next.TheVariants.{Head, Coins}
 use Rattle.state_image.specs.declared.reading.Reading.{Reading}
@@ -22,9 +21,8 @@ empty_filled t empty =
     let same : record { coins = []; names = []; queue = [] } ≡ t = λ i. record { coins = sym empty.coins i; names = sym empty.names i; queue = sym empty.queue i } in
     subst AreFilled same (record { coins = λ point. refl; names = λ name. refl; queue = λ height point. refl })
 
-pub blank_kept : (r : Reading) → Accepts r.version → r.next ≡ Head → r.undos.items ≡ [] → r.last ≡ None → r.name ≡ None → AreEmpty r.tables → IsKept r
-blank_kept r version first undos last name empty = record {
-  version = version;
+pub blank_kept : (r : Reading) → r.next ≡ Head → r.undos.items ≡ [] → r.last ≡ None → r.name ≡ None → AreEmpty r.tables → IsKept r
+blank_kept r first undos last name empty = record {
   tables = record { queue = empty_queue r.tables empty; filled = empty_filled r.tables empty };
   begins = subst (λ n. BeginsAt n r) (sym first) (record { undos = undos; last = last; name = name; maps = empty_maps r.tables empty });
 }

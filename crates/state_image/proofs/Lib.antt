@@ -2,6 +2,8 @@ pub mod KeptLemmas
 pub mod QueueLemmas
 pub mod HistoryLemmas
 pub mod TurnLemmas
-pub mod TakenLemmas
+pub mod VersionedLemmas
 pub mod FormLemmas
+pub mod RegisteredLemmas
+pub mod WholeLemmas
 pub mod LoadLemmas

@@ -6,29 +6,28 @@ use Rattle.block_grammar.proofs.ReaderLaws.{ok_err}
 use Rattle.undo_records.specs.declared.fault.FaultKind.{FaultKind}
 use Rattle.undo_records.specs.declared.fault.FaultKind.TheVariants.{Cut, BadTag, Unsorted}
 use Rattle.undo_records.specs.declared.version.Version.{Version}
-use Rattle.image_grammar.specs.Image.{Image}
+use Rattle.image_grammar.specs.Answers.{IsWhole}
+use Rattle.image_grammar.specs.Image.{Image, image_told}
 use Rattle.image_grammar.specs.Resuming.{Answer, EndsEarly}
-use Rattle.image_grammar.specs.Stages.{Gathered, end_from}
-use Rattle.state_image.specs.Accepting.{left_from, taken_from}
+use Rattle.image_grammar.specs.Stages.{Gathered, end_from, image_from}
+use Rattle.image_grammar.proofs.WholeLaws.{text_again}
 use Rattle.state_image.specs.Answers.{IsSoundText, IsDamaged, IsImageAnswer, place_by}
 use Rattle.state_image.specs.Forming.{IsReadWhole}
 use Rattle.state_image.specs.Loading.{Loading, loading_of, HasRead, ShowsFault, Takes, IsLoading, StopsShort, TakesOn, stop_of, fault_unless, fault_or, fault_at}
 use Rattle.state_image.specs.Standing.{standing, standing_at}
 use Rattle.state_image.specs.Turning.{Waits}
+use Rattle.state_image.specs.Versioned.{Versioned, in_version, left_from, read_from}
 use Rattle.state_image.specs.declared.fault.ImageFault.{ImageFault}
 use Rattle.state_image.specs.declared.fault.ImageFault.TheVariants.{Damaged, NoMemory}
 use Rattle.state_image.specs.declared.next.Next.{Next}
 use Rattle.state_image.specs.declared.next.Next.TheVariants.{Head as at_head, Undos, Ops, ExpiredCount, Expired, CoinCount, Coins, NameCount, Names, Items}
 use Rattle.state_image.specs.declared.reading.Reading.{Reading}
-use Rattle.state_image.proofs.TakenLemmas.{again, taken_again}
+use Rattle.state_image.proofs.VersionedLemmas.{fault_read}
 
 -- ---- faults of form
 
-no_state : (text : List ℕ) (e : FaultKind × List ℕ) → taken_from text ≡ Err e → (version : Version) (image : Image) → IsSoundText text version image → ⊥
-no_state text e fault version image is =
-    let g = again version image is.has_text in
-    let taken : taken_from text ≡ Ok (g.g, []) = ap taken_from is.text_is ∙ taken_again version image is.has_text is.accepted (g.g, []) g.is in
-    ok_err (taken_from text) (g.g, []) e taken fault
+no_state : (text : List ℕ) (e : FaultKind × List ℕ) → image_from text ≡ Err e → (version : Version) (image : Image) → IsSoundText text version image → ⊥
+no_state text e fault version image is = subst (IsWhole (image_told version image)) (ap image_from (sym is.text_is) ∙ fault) (text_again version image is.has_text)
 
 place_of : (text more : List ℕ) (kind : FaultKind) (rest : List ℕ) (at : ℕ) → kind ≢ Cut → at ≡ length text - length rest → at ≡ place_by (text ++ more) (Err (kind, rest ++ more))
 place_of text more Cut rest at other is = absurd (other refl)
@@ -43,23 +42,24 @@ fault_damaged text at shows more = record {
 
 -- ---- the end
 
-ended : (g : Gathered) (pending : List ℕ) → (pending ≡ []) ⊎ EndsEarly (end_from g pending) → end_from g pending ≡ Ok (g, [])
-ended g [] waits = refl
-ended g (b ∷ pending) (inl none) = absurd cc
-ended g (b ∷ pending) (inr early) = absurd cc
+ended : (version : Version) (g : Gathered) (pending : List ℕ) → (pending ≡ []) ⊎ EndsEarly (in_version version (end_from g) pending)
+    → in_version version (end_from g) pending ≡ Ok ((version, g), [])
+ended version g [] waits = refl
+ended version g (b ∷ pending) (inl none) = absurd cc
+ended version g (b ∷ pending) (inr early) = absurd cc
 
 end_waits : (r : Reading) (pending : List ℕ) → r.next ≡ Names 0 → Waits r pending → (pending ≡ []) ⊎ EndsEarly (left_from (standing_at (Names 0) r) pending)
 end_waits r pending at (inl whole) = inl whole.1
 end_waits r pending at (inr early) = inr (subst (λ n. EndsEarly (left_from (standing_at n r) pending)) at early)
 
-read_end : (r : Reading) (pending : List ℕ) → r.next ≡ Names 0 → Waits r pending → left_from (standing r) pending ≡ Ok ((standing r).gathered, [])
+read_end : (r : Reading) (pending : List ℕ) → r.next ≡ Names 0 → Waits r pending → left_from (standing r) pending ≡ Ok ((r.version, (standing r).gathered), [])
 read_end r pending at waits =
-    ap (λ n. left_from (standing_at n r) pending) at ∙ ended (standing_at (Names 0) r).gathered pending (end_waits r pending at waits)
-    ∙ ap (λ n. Ok ((standing_at n r).gathered, [])) (sym at)
+    ap (λ n. left_from (standing_at n r) pending) at ∙ ended r.version (standing_at (Names 0) r).gathered pending (end_waits r pending at waits)
+    ∙ ap (λ n. Ok ((r.version, (standing_at n r).gathered), [])) (sym at)
 
 open_by : (r : Reading) (pending : List ℕ) → Waits r pending → (kind : FaultKind) (rest : List ℕ) → left_from (standing r) pending ≡ Err (kind, rest) → kind ≡ Cut
-open_by r pending (inl whole) kind rest e = absurd (ok_err (left_from (standing r) pending) ((standing r).gathered, []) (kind, rest) (read_end r pending whole.0 (inl whole)) e)
-open_by r pending (inr early) kind rest e = subst (λ (x : Answer Gathered). EndsEarly x) e early
+open_by r pending (inl whole) kind rest e = absurd (ok_err (left_from (standing r) pending) ((r.version, (standing r).gathered), []) (kind, rest) (read_end r pending whole.0 (inl whole)) e)
+open_by r pending (inr early) kind rest e = subst (λ (x : Answer Versioned). EndsEarly x) e early
 
 -- ---- one piece more
 
@@ -69,8 +69,8 @@ IsBytes-append (x ∷ xs) ys hx hy zero = hx 0
 IsBytes-append (x ∷ xs) ys hx hy (suc i) = IsBytes-append xs ys (λ j. hx (suc j)) hy i
 
 module _ (text bytes : List ℕ) (l : Loading) (has : HasRead text l) where
-  joined : (more : List ℕ) → taken_from ((text ++ bytes) ++ more) ≡ left_from (standing l.reading) ((l.pending ++ bytes) ++ more)
-  joined more = ap taken_from (append_assoc text bytes more) ∙ has.goes_on (bytes ++ more) ∙ ap (left_from (standing l.reading)) (sym (append_assoc l.pending bytes more))
+  joined : (more : List ℕ) → read_from ((text ++ bytes) ++ more) ≡ left_from (standing l.reading) ((l.pending ++ bytes) ++ more)
+  joined more = ap read_from (append_assoc text bytes more) ∙ has.goes_on (bytes ++ more) ∙ ap (left_from (standing l.reading)) (sym (append_assoc l.pending bytes more))
 
   fed_more : l.fed + length bytes ≡ length (text ++ bytes)
   fed_more = omega (arith, has.fed, length-append text bytes)
@@ -80,8 +80,8 @@ module _ (text bytes : List ℕ) (l : Loading) (has : HasRead text l) where
 
   loads : IsBytes bytes → (new : Reading) (pending : List ℕ) → TakesOn l.reading (l.pending ++ bytes) (l.fed + length bytes) new pending (Ok tt) → HasRead (text ++ bytes) (with_more new pending None)
   loads are new pending on =
-      let goes : (more : List ℕ) → taken_from ((text ++ bytes) ++ more) ≡ left_from (standing new) (pending ++ more) = λ more. joined more ∙ on.0 more in
-      let here : taken_from (text ++ bytes) ≡ left_from (standing new) pending = ap taken_from (sym (append-nil (text ++ bytes))) ∙ goes [] ∙ ap (left_from (standing new)) (append-nil pending) in
+      let goes : (more : List ℕ) → read_from ((text ++ bytes) ++ more) ≡ left_from (standing new) (pending ++ more) = λ more. joined more ∙ on.0 more in
+      let here : read_from (text ++ bytes) ≡ left_from (standing new) pending = ap read_from (sym (append-nil (text ++ bytes))) ∙ goes [] ∙ ap (left_from (standing new)) (append-nil pending) in
       record {
         bytes = IsBytes-append text bytes has.bytes are;
         fed = fed_more;
@@ -96,7 +96,7 @@ module _ (text bytes : List ℕ) (l : Loading) (has : HasRead text l) where
   shows at short = record {
     kind = short.kind;
     rest = short.rest;
-    stops = λ more. joined more ∙ short.stops more;
+    stops = λ more. fault_read ((text ++ bytes) ++ more) short.kind (short.rest ++ more) (joined more ∙ short.stops more);
     other = short.other;
     at_is = short.at_is ∙ ap (λ (n : ℕ). n - length short.rest) fed_more;
   }
@@ -115,8 +115,8 @@ module _ (text bytes : List ℕ) (l : Loading) (has : HasRead text l) where
 -- ---- all pieces
 
 module _ (text : List ℕ) (l : Loading) (has : HasRead text l) where
-  read_here : taken_from text ≡ left_from (standing l.reading) l.pending
-  read_here = ap taken_from (sym (append-nil text)) ∙ has.goes_on [] ∙ ap (left_from (standing l.reading)) (append-nil l.pending)
+  read_here : read_from text ≡ left_from (standing l.reading) l.pending
+  read_here = ap read_from (sym (append-nil text)) ∙ has.goes_on [] ∙ ap (left_from (standing l.reading)) (append-nil l.pending)
 
   pub read_whole : IsLoading l → l.reading.next ≡ Names 0 → IsReadWhole text l.reading
   read_whole is at = record {
@@ -133,10 +133,10 @@ module _ (text : List ℕ) (l : Loading) (has : HasRead text l) where
       early (inl whole) = absurd (on whole.0)
       early (inr e) = e
 
-      by : (r : Answer Gathered) → left_from (standing l.reading) l.pending ≡ r → EndsEarly r → IsDamaged text l.fed
+      by : (r : Answer Versioned) → left_from (standing l.reading) l.pending ≡ r → EndsEarly r → IsDamaged text l.fed
       by (Ok x) e end = absurd end
       by (Err (kind, rest)) e end =
-          let cut : taken_from text ≡ Err (Cut, rest) = read_here ∙ e ∙ ap (λ (k : FaultKind). Err (k, rest)) end in
+          let cut : image_from text ≡ Err (Cut, rest) = fault_read text Cut rest (read_here ∙ e ∙ ap (λ (k : FaultKind). Err (k, rest)) end) in
           record { none = no_state text (Cut, rest) cut; at_is = has.fed ∙ ap (place_by text) (sym cut) }
 
 -- ---- why it isn't whole

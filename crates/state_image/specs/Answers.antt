@@ -10,9 +10,8 @@ use Rattle.undo_records.specs.declared.fault.FaultKind.TheVariants.{Cut, BadTag,
 use Rattle.undo_records.specs.declared.version.Version.{Version}
 use Rattle.image_grammar.specs.Image.{Image, HasText, maps_listed}
 use Rattle.image_grammar.specs.Resuming.{Answer}
-use Rattle.image_grammar.specs.Stages.{Gathered}
+use Rattle.image_grammar.specs.Stages.{Gathered, image_from}
 use Rattle.image_grammar.specs.Text.{image_text}
-use Rattle.state_image.specs.Accepting.{Accepts, taken_from}
 use Rattle.state_image.specs.declared.fault.ImageFault.{ImageFault}
 use Rattle.state_image.specs.declared.fault.ImageFault.TheVariants.{Damaged, NoMemory}
 
@@ -22,9 +21,9 @@ use Rattle.state_image.specs.declared.fault.ImageFault.TheVariants.{Damaged, NoM
 abbrev pub IsSoundImage : Image → Type 0
 IsSoundImage image = IsSound image.base.profile image.base.height (image.base.height + length image.undos) (maps_listed image) (reverse image.undos)
 
--- the text is that of a sound state, in a version that is taken
+-- The text is that of a sound state, in this version. The registration heights, which one of version 1 leaves out, follow from the
+-- records: the image has them.
 pub record IsSoundText (text : List ℕ) (version : Version) (image : Image) : Type 0 where
-  pub accepted : Accepts version
   pub has_text : HasText image
   pub text_is : text ≡ image_text version image
   pub sound : IsSoundImage image
@@ -64,7 +63,7 @@ place_by text (Err (Unsorted, rest)) = length text - length rest
 -- no sound state has the text, and this is the place
 pub record IsDamaged (text : List ℕ) (at : ℕ) : Type 0 where
   pub none : (version : Version) (image : Image) → IsSoundText text version image → ⊥
-  pub at_is : at ≡ place_by text (taken_from text)
+  pub at_is : at ≡ place_by text (image_from text)
 
 -- what the whole text is
 abbrev pub IsImageAnswer : List ℕ → Result (Base × Parts) ImageFault → Type 0

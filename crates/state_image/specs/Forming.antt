@@ -9,8 +9,11 @@ use Rattle.name_tables.specs.Tables.{maps_by}
 use Rattle.name_tables.specs.declared.parts.Parts.{Parts}
 use Rattle.sound_states.specs.Walk.{HasFewCoins}
 use Rattle.states_below.specs.Walking.{IsWithin}
-use Rattle.state_image.specs.Accepting.{taken_from}
+use Rattle.undo_records.specs.declared.version.Version.{Version}
+use Rattle.state_image.specs.Answers.{IsSoundOn}
+use Rattle.state_image.specs.Registering.{AreRegistered}
 use Rattle.state_image.specs.Standing.{standing, IsKept}
+use Rattle.state_image.specs.Versioned.{read_from}
 use Rattle.state_image.specs.declared.fault.ImageFault.{ImageFault}
 use Rattle.state_image.specs.declared.fault.ImageFault.TheVariants.{Damaged, NoMemory}
 use Rattle.state_image.specs.declared.reading.Reading.{Reading}
@@ -27,7 +30,7 @@ pub record AreFormed (parts : Parts) : Type 0 where
 pub record IsReadWhole (text : List ℕ) (r : Reading) : Type 0 where
   pub bytes : (i : ℕ) → slice_index text i < 256
   pub few : length text ≤ 2 ^ 37
-  pub read : taken_from text ≡ Ok ((standing r).gathered, [])
+  pub read : read_from text ≡ Ok ((r.version, (standing r).gathered), [])
   pub kept : IsKept r
 
 -- the parts of what was read
@@ -41,3 +44,9 @@ abbrev pub TellsFault : Type 0 → Result (Unit {0}) ImageFault → Type 0
 TellsFault Sound (Ok done) = Sound
 TellsFault Sound (Err (Damaged at)) = (Sound → ⊥) × (at ≡ 0)
 TellsFault Sound (Err NoMemory) = Unit {0}
+
+-- the parts have their registration heights, and it is told whether they are sound then
+abbrev pub Judges : Version → Base → Parts → Parts → Result (Unit {0}) ImageFault → Type 0
+Judges version base old new (Ok done) = AreRegistered version old new × IsSoundOn base new
+Judges version base old new (Err (Damaged at)) = AreRegistered version old new × (IsSoundOn base new → ⊥) × (at ≡ 0)
+Judges version base old new (Err NoMemory) = Unit {0}

@@ -1,7 +1,8 @@
-pub mod Accepting
+pub mod Versioned
 pub mod Queueing
 pub mod Standing
 pub mod Turning
+pub mod Registering
 pub mod Forming
 pub mod Answers
 pub mod Loading

@@ -2,10 +2,11 @@
 use Rattle.std.specs.Prelude.{◌≡◌, ◌≢◌, ℕ, zero, ◌-◌, ◌<◌, ◌≤◌, ◌^◌, List, ◌++◌, length, slice_index, Option, Some, None, Result, Ok, Err}
 use Rattle.undo_records.specs.declared.fault.FaultKind.{FaultKind}
 use Rattle.undo_records.specs.declared.fault.FaultKind.TheVariants.{Cut}
-use Rattle.state_image.specs.Accepting.{left_from, taken_from}
+use Rattle.image_grammar.specs.Stages.{image_from}
 use Rattle.state_image.specs.Answers.{IsDamaged}
 use Rattle.state_image.specs.Standing.{standing, IsKept}
 use Rattle.state_image.specs.Turning.{GoesOn, StopsAt, Waits}
+use Rattle.state_image.specs.Versioned.{left_from, read_from}
 use Rattle.state_image.specs.declared.fault.ImageFault.{ImageFault}
 use Rattle.state_image.specs.declared.fault.ImageFault.TheVariants.{Damaged, NoMemory}
 use Rattle.state_image.specs.declared.next.Next.{Next}
@@ -30,16 +31,16 @@ pub record HasRead (text : List ℕ) (l : Loading) : Type 0 where
   pub bytes : (i : ℕ) → slice_index text i < 256
   pub fed : l.fed ≡ length text
   pub no_fault : l.stop ≡ None
-  pub goes_on : (more : List ℕ) → taken_from (text ++ more) ≡ left_from (standing l.reading) (l.pending ++ more)
+  pub goes_on : (more : List ℕ) → read_from (text ++ more) ≡ left_from (standing l.reading) (l.pending ++ more)
   pub waits : Waits l.reading l.pending
   pub kept : IsKept l.reading
-  pub open_end : (kind : FaultKind) (rest : List ℕ) → taken_from text ≡ Err (kind, rest) → kind ≡ Cut
+  pub open_end : (kind : FaultKind) (rest : List ℕ) → read_from text ≡ Err (kind, rest) → kind ≡ Cut
 
 -- reading the text stops at this place, which is that of a fault of its own whatever follows
 pub record ShowsFault (text : List ℕ) (at : ℕ) : Type 0 where
   pub kind : FaultKind
   pub rest : List ℕ
-  pub stops : (more : List ℕ) → taken_from (text ++ more) ≡ Err (kind, rest ++ more)
+  pub stops : (more : List ℕ) → image_from (text ++ more) ≡ Err (kind, rest ++ more)
   pub other : kind ≢ Cut
   pub at_is : at ≡ length text - length rest
 

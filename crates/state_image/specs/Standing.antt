@@ -12,7 +12,6 @@ use Rattle.chain_names.specs.Undo.{UndoRecord}
 use Rattle.name_tables.specs.Parts.{newest_first}
 use Rattle.name_tables.specs.Tables.{maps_by}
 use Rattle.image_grammar.specs.Stages.{Gathered, Stage, head, in_undos, in_ops, at_expired, in_expired, at_coins, in_coins, at_names, in_names, in_items, Standing, stands}
-use Rattle.state_image.specs.Accepting.{Accepts}
 use Rattle.state_image.specs.Queueing.{HasItsQueue}
 use Rattle.state_image.specs.declared.next.Next.{Next}
 use Rattle.state_image.specs.declared.next.Next.TheVariants.{Head, Undos, Ops, ExpiredCount, Expired, CoinCount, Coins, NameCount, Names, Items}
@@ -99,6 +98,5 @@ BeginsAt (Items items names) r = Unit {0}
 
 -- what is kept while an image is read
 pub record IsKept (r : Reading) : Type 0 where
-  pub version : Accepts r.version
   pub tables : HasItsQueue r.tables
   pub begins : BeginsAt r.next r

@@ -6,9 +6,10 @@ use Rattle.undo_records.specs.declared.fault.FaultKind.TheVariants.{Cut}
 use Rattle.undo_records.specs.declared.fault.Stop.{Stop}
 use Rattle.undo_records.specs.declared.fault.Stop.TheVariants.{At, NoMemory}
 use Rattle.image_grammar.specs.Resuming.{EndsEarly}
+use Rattle.image_grammar.specs.Stages.{step_from}
 use Rattle.image_grammar.specs.Work.{work_left}
-use Rattle.state_image.specs.Accepting.{left_from, turn_from}
 use Rattle.state_image.specs.Standing.{stage_of, standing}
+use Rattle.state_image.specs.Versioned.{left_from}
 use Rattle.state_image.specs.declared.next.Next.TheVariants.{Names}
 use Rattle.state_image.specs.declared.reading.Reading.{Reading}
 
@@ -21,9 +22,9 @@ IsFaultOf kind rest (Err NoMemory) = ⊥
 
 -- one step was taken, or more bytes are needed for it, or there is a fault
 abbrev pub Turns : Reading → List ℕ → Reading → Result (Option (Bor (List ℕ))) Stop → Type 0
-Turns old bytes new (Ok (Some rest)) = turn_from (standing old) bytes ≡ Ok (standing new, rest.now)
-Turns old bytes new (Ok None) = (new ≡ old) × EndsEarly (turn_from (standing old) bytes)
-Turns old bytes new (Err (At fault)) = (turn_from (standing old) bytes ≡ Err (fault.kind, fault.rest.now)) × (fault.kind ≢ Cut)
+Turns old bytes new (Ok (Some rest)) = step_from (standing old) bytes ≡ Ok (standing new, rest.now)
+Turns old bytes new (Ok None) = (new ≡ old) × EndsEarly (step_from (standing old) bytes)
+Turns old bytes new (Err (At fault)) = (step_from (standing old) bytes ≡ Err (fault.kind, fault.rest.now)) × (fault.kind ≢ Cut)
 Turns old bytes new (Err NoMemory) = Unit {0}
 
 -- ---- whatever follows

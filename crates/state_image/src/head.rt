@@ -1,14 +1,12 @@
 //! The readers of the head of an image.
 
-ghost use Rattle.std.specs.Prelude.{◌≡◌, drop};
+ghost use Rattle.std.specs.Prelude.{◌≡◌};
 ghost use Rattle.nmc_base.specs.declared.chain_ends.Base.{Base};
 ghost use Rattle.undo_records.specs.Fields.{seen};
 ghost use Rattle.image_grammar.specs.Reading.{first_other, exactly_from, version_from, profile_from, head_from};
 ghost use Rattle.image_grammar.specs.Stages.{opening_from};
 ghost use Rattle.image_grammar.specs.Text.{magic};
-ghost use Rattle.state_image.specs.Accepting.{accepted_from};
 
-use crate::accepting::accepts;
 use nmc_base::{Base, Hash32, Profile};
 use undo_records::Version;
 use undo_records::coins::bad_tag;
@@ -97,32 +95,10 @@ fn head_at<'a>(bytes: &'a [u8]) -> Result<(Version, Base, &'a [u8]), Fault<'a>>
 }
 
 /// The version, the base, and the number of records.
-fn opening_at<'a>(bytes: &'a [u8]) -> Result<(Version, Base, u32, &'a [u8]), Fault<'a>>
+pub(crate) fn opening_at<'a>(bytes: &'a [u8]) -> Result<(Version, Base, u32, &'a [u8]), Fault<'a>>
     ensures { seen (λ x. (((x.0, x.1), x.2), x.3.now)) result ≡ opening_from bytes.now }
 {
     let (version, base, rest) = head_at(bytes)?;
     let (undos, rest) = u32_at(rest)?;
     Ok((version, base, undos, rest))
-}
-
-/// The bytes from that of the version on.
-fn behind_magic<'a>(bytes: &'a [u8]) -> &'a [u8]
-    ensures { result.now ≡ drop 4 bytes.entry.now }
-{
-    match bytes.split_at_checked(MAGIC.len()) {
-        Some((_, rest)) => rest,
-        None => &[],
-    }
-}
-
-/// The same, in a version that is taken. Another is a fault at its byte.
-pub(crate) fn accepted_at<'a>(bytes: &'a [u8]) -> Result<(Version, Base, u32, &'a [u8]), Fault<'a>>
-    ensures { seen (λ x. (((x.0, x.1), x.2), x.3.now)) result ≡ accepted_from bytes.entry.now }
-{
-    let (version, base, undos, rest) = opening_at(bytes)?;
-    if accepts(version) {
-        Ok((version, base, undos, rest))
-    } else {
-        Err(bad_tag(behind_magic(bytes)))
-    }
 }

@@ -1,7 +1,6 @@
 //! Reading the image of a state that comes in pieces: its base, its records and its tables, where it is the text of a sound state; else the place of its first fault.
 #![tactic(auto)]
 
-mod accepting;
 mod fault;
 mod head;
 mod histories;

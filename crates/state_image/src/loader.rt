@@ -12,7 +12,10 @@ use std::alloc::Global;
 use std::marker::Model;
 use undo_records::fault::Stop;
 
-/// Reads the image of a state that comes in pieces.
+/// Reads the image of a state that comes in pieces, in either version.
+///
+/// A text of version 1 leaves out the registration heights. They follow from its records, and are set before it is asked whether the
+/// state is sound.
 ///
 /// It holds back the bytes of one value at most, some 1,700, and no piece. Memory is taken for what was read, and none for a
 /// number that stands in the text.
@@ -132,7 +135,7 @@ impl Loader {
         }
     }
 
-    /// The base and the parts, where the pieces are the text of a sound state.
+    /// The base and the parts, where the pieces are the text of a sound state in one of the versions.
     pub fn finish(self) -> Result<(Base, Parts), ImageFault>
         requires { self.fed ≡ self.total }
         ensures whole { (text : List ℕ) → HasRead text self → IsImageAnswer text result }

@@ -7,7 +7,7 @@ ghost use Rattle.image_grammar.specs.Stages.{in_undos, closed, stands};
 ghost use Rattle.state_image.specs.Standing.{IsKept, standing};
 ghost use Rattle.state_image.specs.Turning.{Turns};
 
-use crate::head::accepted_at;
+use crate::head::opening_at;
 use crate::next::Next;
 use crate::reading::{Reading, begun, fault_of};
 use crate::values::{held_at, undo_head_at};
@@ -54,7 +54,7 @@ impl Reading {
         ensures turns { Turns self.old bytes.entry.now self.new result }
         ensures kept { OnOk result (IsKept self.new) }
     {
-        match accepted_at(bytes) {
+        match opening_at(bytes) {
             Ok((version, base, undos, rest)) => {
                 self.version = version;
                 self.base = base;

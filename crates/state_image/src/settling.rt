@@ -1,15 +1,16 @@
 //! What becomes of what was read whole.
 
-ghost use Rattle.std.specs.Prelude.{◌≡◌, ℕ, List};
+ghost use Rattle.std.specs.Prelude.{ℕ, List, OnOk};
 ghost use Rattle.states_below.specs.Scan.{TellsWhether};
-ghost use Rattle.state_image.specs.Accepting.{Accepts};
 ghost use Rattle.state_image.specs.Answers.{IsSoundOn, IsImageAnswer};
-ghost use Rattle.state_image.specs.Forming.{AreFormed, IsReadWhole, AreOf, TellsFault};
+ghost use Rattle.state_image.specs.Forming.{AreFormed, IsReadWhole, AreOf, TellsFault, Judges};
+ghost use Rattle.state_image.specs.Registering.{AreRegistered};
 
 use crate::fault::ImageFault;
 use crate::reading::Reading;
 use name_tables::Parts;
 use nmc_base::{Base, HIGHEST_HEIGHT, NoMemory};
+use registrations::fill;
 use states_below::is_image_sound;
 use std::alloc::Global;
 use undo_records::Version;
@@ -46,33 +47,39 @@ fn soundness(alloc: Global, base: &Base, parts: &Parts) -> Result<(), ImageFault
     }
 }
 
-fn let_go(_parts: Parts) {}
-
-/// The parts with their registration heights. A text of version 2 has them.
-fn registered(version: Version, parts: Parts) -> Parts
-    requires { Accepts version }
-    ensures { result ≡ parts }
+/// Sets the registration heights that a text of this version leaves out.
+fn register(alloc: Global, version: Version, parts: &mut Parts) -> Result<(), NoMemory>
+    ensures { OnOk result (AreRegistered version parts.old parts.new) }
 {
     match version {
-        Version::One => unreachable!(),
-        Version::Two => parts,
+        Version::One => fill(alloc, &mut parts.names, &mut parts.undos),
+        Version::Two => Ok(()),
     }
 }
+
+/// Sets the registration heights, and tells the fault of parts that aren't sound on the base then.
+fn judge(alloc: Global, version: Version, base: &Base, parts: &mut Parts) -> Result<(), ImageFault>
+    requires { AreFormed parts.old }
+    ensures { Judges version base.now parts.old parts.new result }
+{
+    register(alloc, version, parts)?;
+    soundness(alloc, base, parts)
+}
+
+fn let_go(_parts: Parts) {}
 
 impl Reading {
     /// The base and the parts.
     fn split(self) -> (Base, Parts)
-        requires { Accepts self.version }
         ensures { AreOf self result.0 result.1 }
     {
         let Reading {
-            version,
             base,
             undos,
             tables,
             ..
         } = self;
-        (base, registered(version, Parts::of(tables, undos)))
+        (base, Parts::of(tables, undos))
     }
 
     /// The base and the parts, where they are sound.
@@ -80,8 +87,9 @@ impl Reading {
         requires { (text : List ℕ) × IsReadWhole text self }
         ensures { (text : List ℕ) → IsReadWhole text self → IsImageAnswer text result }
     {
-        let (base, parts) = self.split();
-        match soundness(alloc, &base, &parts) {
+        let version = self.version;
+        let (base, mut parts) = self.split();
+        match judge(alloc, version, &base, &mut parts) {
             Ok(()) => Ok((base, parts)),
             Err(fault) => {
                 let_go(parts);

@@ -4,7 +4,6 @@ pub returns-in_ok-add_item-in-Ok-clause-kept : goal.returns-in_ok-add_item-in-Ok
 returns-in_ok-add_item-in-Ok-clause-kept c =
     let kept = c.requires.kept.tables in
     record {
-      version = c.requires.kept.version;
       tables = record {
         queue = kept.queue;
         filled = record { coins = kept.filled.coins; names = c.in_ok-add_item-in-Ok.ensures.filled kept.filled.names; queue = kept.filled.queue };
