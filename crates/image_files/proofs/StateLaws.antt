@@ -104,7 +104,6 @@ module _ (version : Version) (base : Base) (undos : List UndoRecord) (maps : Map
 
   pub saved_sound : IsSoundText text version image
   saved_sound = record {
-    accepted = saved.accepted;
     has_text = saved.has_text;
     text_is = saved.is_text.text_is;
     sound = sound_image;

@@ -9,14 +9,12 @@ use Rattle.name_tables.specs.Tables.{maps_by, AreFilled}
 use Rattle.undo_records.specs.declared.version.Version.{Version}
 use Rattle.image_grammar.specs.Image.{HasText}
 use Rattle.image_grammar.specs.Text.{IsStateText}
-use Rattle.state_image.specs.Accepting.{Accepts}
 use Rattle.chain_state.specs.Chain.{Indexed, newest_hash}
 
--- The state is sound with the records that undo the blocks on this base, the newest first. This is its text, in a version that is
--- taken: that of an image that is read again.
+-- The state is sound with the records that undo the blocks on this base, the newest first. This is its text, in either version: that of
+-- an image that is read again.
 pub record IsSavedText (version : Version) (base : Base) (undos : List UndoRecord) (maps : Maps) (text : List ℕ) : Type 0 where
   pub is_text : IsStateText version base undos maps text
-  pub accepted : Accepts version
   pub has_text : HasText is_text.image
   pub tip : ℕ
   pub sound : IsSound base.profile base.height tip maps undos
