@@ -238,9 +238,9 @@ module _ (tells : Bool) (files : Files) (header : Header) (slots : Slotted) (fol
 
 -- its image was not read
 pub image_unread : (tells : Bool) (base : Base) (file : ℕ) (area : List ℕ) (fault : ReadFault) → ReadAnswer base area (Err fault) → AreaAnswer tells base file area (Err (of_image file fault))
-image_unread tells base file area (read_faults.Damaged at) is = (refl, inl is)
-image_unread tells base file area read_faults.DiskFault is = tt
-image_unread tells base file area read_faults.NoMemory is = tt
+image_unread tells on file l (read_faults.Damaged at) is = (refl, inl is)
+image_unread tells on file l read_faults.DiskFault is = tt
+image_unread tells on file l read_faults.NoMemory is = tt
 
 -- its image was read, and then its commands in a file that is the same still
 module _ (tells : Bool) (told : IsTrue tells) (base : Base) (file : ℕ) (area mid : List ℕ) (same : mid ≡ area) (index : Indexed) (gate : ℕ) (r : IsReadFrom base area index gate) where

@@ -66,6 +66,7 @@ module _ (chain : Chain) (valid : AreValid chain.base chain.start chain.blocks) 
 
   -- it is that of no other state
   pub text_stands : (index : Indexed) → BeginsWith chain.base text_is index → StandsFor index chain
+  unfolding image_saved
   text_stands index begins =
       state_stands chain.base chain.start chain.blocks saved.is_text.undos index valid saved.is_text.are_undos
       (state_index chain.base saved.is_text.undos maps saved.is_text.is_text.image index saved.is_text.is_text.image_is

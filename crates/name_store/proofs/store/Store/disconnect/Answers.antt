@@ -21,7 +21,7 @@ returns-in-Refused-clause-leaves g c =
     let old : Stored = record { index = c.self.inside.chain; host = c.self.inside.host; slots = c.self.inside.slots; area = c.self.inside.area } in
     let new : Stored = record { index = c.in-Refused.chain; host = c.self.inside.host; slots = c.self.inside.slots; area = c.self.inside.area } in
     subst (λ (x : Stored). LeavesDisk g.D.Disk.tells (LeavesOthers (area_file x)) disk disk (Refused new c.in-Refused.refusal)) c.self.view_is
-    (leaves_refused old new (record { base = refused_hash_base _ c.self.inside.chain c.args.hash c.in-Refused.refusal c.in-Refused.chain c.in-Refused.ensures.on_index; host = refl; slots = refl; area = refl }) g.D.Disk.tells disk (λ told. subst (λ (x : Stored). IsOn x disk.moments.now) (sym c.self.view_is) (c.requires.on_disk told)) c.in-Refused.refusal)
+    (leaves_refused old new (record { base = refused_hash_base _ c.self.inside.chain c.args.hash c.in-Refused.refusal c.in-Refused.chain c.in-Refused.ensures.on_index; host = refl; slots = refl; area = refl }) g.D.Disk.tells disk (λ told. subst (λ (x : Stored). IsOn x disk.moments.now) (sym c.self.view_is) (c.requires.on_disk told)) (LeavesOthers (area_file old)) (λ other differ. refl) c.in-Refused.refusal)
 
 pub returns-in-Refused-clause-kept : goal.returns-in-Refused-clause-kept
 returns-in-Refused-clause-kept g c =
@@ -38,7 +38,7 @@ returns-in-NoMemory-clause-leaves g c =
     let old : Stored = record { index = c.self.inside.chain; host = c.self.inside.host; slots = c.self.inside.slots; area = c.self.inside.area } in
     let new : Stored = record { index = c.in-NoMemory.chain; host = c.self.inside.host; slots = c.self.inside.slots; area = c.self.inside.area } in
     subst (λ (x : Stored). LeavesDisk g.D.Disk.tells (LeavesOthers (area_file x)) disk disk (NoMemory new)) c.self.view_is
-    (leaves_lacking old new (record { base = c.in-NoMemory.ensures.on_index.stays.base; host = refl; slots = refl; area = refl }) g.D.Disk.tells disk (λ told. subst (λ (x : Stored). IsOn x disk.moments.now) (sym c.self.view_is) (c.requires.on_disk told)))
+    (leaves_lacking old new (record { base = c.in-NoMemory.ensures.on_index.stays.base; host = refl; slots = refl; area = refl }) g.D.Disk.tells disk (λ told. subst (λ (x : Stored). IsOn x disk.moments.now) (sym c.self.view_is) (c.requires.on_disk told)) (LeavesOthers (area_file old)) (λ other differ. refl))
 
 pub returns-in-NoMemory-clause-kept : goal.returns-in-NoMemory-clause-kept
 returns-in-NoMemory-clause-kept g c =
