@@ -31,7 +31,7 @@ fn is_answered(
 /// Three replays over the same files: of each its input, and what it is answered with.
 static REPLAYS: &str = "\
 save save | saved 0100000000000000 saved 0200000000000000 | first save | accepted saved 0300000000000000 | first back | not-on-tip base
-first save | accepted saved 0100000000000000 | first save back save | not-on-tip saved 0200000000000000 base saved 0300000000000000 | first asked save | accepted told saved 0400000000000000
+first save | accepted saved 0100000000000000 | first save back save | not-on-tip saved 0200000000000000 base saved 0300000000000000 | first 030c000000 asked save | accepted 000c000000 told saved 0400000000000000
 first back save first | accepted base saved 0100000000000000 accepted | save back | saved 0200000000000000 base | back first | at-base accepted
 ";
 
