@@ -12,7 +12,6 @@ use Rattle.feed_frames.specs.Replies.{Reply}
 use Rattle.chain_commands.specs.Event.{Event, Do, Ask, Save, event_frame}
 use Rattle.chain_commands.specs.RunState.{RunState}
 use Rattle.machine.specs.Step.{Step, Run}
-use Rattle.machine.specs.Leaving.{IsDoneBy}
 use Rattle.machine.proofs.RunLemmas.{run_push, step_leaves}
 use Rattle.name_store.specs.Stands.{Bytes, Stands}
 use Rattle.name_store.specs.Stored.{Stored}
