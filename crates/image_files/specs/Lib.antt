@@ -2,4 +2,9 @@ pub mod Pieces
 pub mod Saving
 pub mod Selecting
 pub mod Crashes
+pub mod Faults
+pub mod Fronts
+pub mod Indexes
+pub mod Reading
+pub mod SavedTexts
 pub mod SavingIndex

@@ -8,9 +8,6 @@ use Rattle.chain_names.specs.Undo.{UndoRecord}
 use Rattle.chain_names.specs.UndoOf.{AreUndos, hash_in}
 use Rattle.chain_names.specs.Tables.{queue_of}
 use Rattle.chain_names.specs.Log.{Log}
-use Rattle.undo_records.specs.declared.version.Version.{Version}
-use Rattle.undo_records.specs.declared.version.Version.TheVariants.{One, Two}
-use Rattle.state_image.specs.Accepting.{Accepts}
 use Rattle.chain_state.specs.Chain.{Indexed, newest_hash}
 use Rattle.chain_state.specs.Standing.{AreValid, StandsForChain, hash_of, chain_maps}
 use Rattle.chain_state.proofs.SoundLemmas.{valid_sound}
@@ -21,16 +18,11 @@ use Rattle.chain_commands.specs.RunState.{RunState, on_base, after_command, afte
 use Rattle.index_commands.specs.Standing.{StandsFor}
 use Rattle.image_files.specs.Fronts.{HasFront, image_at}
 use Rattle.image_files.specs.Indexes.{BeginsWith, HasBadImage, no_front, damaged, other_base}
-use Rattle.image_files.specs.Saved as images
-use Rattle.image_files.specs.Saved.{IsIndexOfState}
+use Rattle.image_files.specs.SavedTexts as images
+use Rattle.image_files.specs.SavedTexts.{IsIndexOfState}
 use Rattle.image_files.proofs.AreaLaws.{saved_undamaged, saved_index, area_front, area_image}
 use Rattle.image_files.proofs.StateLaws.{state_index}
 use Rattle.name_store.specs.Stands.{IsSavedText, HasSaved, nothing, text, IsRunState}
-
--- texts of either version are taken
-taken : (version : Version) → Accepts version
-taken One = refl
-taken Two = refl
 
 -- ---- the index of a chain of blocks, by its state
 
@@ -67,11 +59,9 @@ module _ (chain : Chain) (valid : AreValid chain.base chain.start chain.blocks) 
   image_saved : images.IsSavedText saved.version chain.base saved.is_text.undos maps text_is
   image_saved = record {
     is_text = saved.is_text.is_text;
-    accepted = taken saved.version;
     has_text = saved.again;
     tip = chain.base.height + length chain.blocks;
     sound = valid_sound chain.base chain.start chain.blocks saved.is_text.undos valid saved.is_text.are_undos;
-    short = saved.short;
   }
 
   -- it is that of no other state

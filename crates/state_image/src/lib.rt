@@ -1,4 +1,4 @@
-//! Reading the image of a state that comes in pieces: its base, its records and its tables, where it is the text of a sound state; else the place of its first fault.
+//! Reading the image of a state, of either version, that comes in pieces: its base, its records and its tables, where it is the text of a sound state; else the place of its first fault.
 #![tactic(auto)]
 
 mod fault;

@@ -130,7 +130,7 @@ fn since(item: Option<&Item>) -> Option<u32> {
 }
 
 /// The registration height of the item before the operation of a record.
-fn before(undo: Option<&Undo>) -> Option<u32> {
+pub(crate) fn before(undo: Option<&Undo>) -> Option<u32> {
     match undo?.ops.item(0)? {
         UndoOp::New { .. } => None,
         UndoOp::First { before, .. } => since(before.as_ref()),

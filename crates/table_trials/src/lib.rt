@@ -12,6 +12,8 @@ mod histories;
 #[cfg(test)]
 mod images;
 #[cfg(test)]
+mod loading;
+#[cfg(test)]
 mod outputs;
 #[cfg(test)]
 mod queue;
