@@ -36,7 +36,7 @@ pub fn one_index_of_an_image()
 {}
 
 /// The law of saved states. An area with a journal behind an image has a front, and this image. Where the image is the text of a sound
-/// state on a base, in a version that is taken, it isn't damaged, and an index with which the area begins is that of the state.
+/// state on a base, in either version, it isn't damaged, and an index with which the area begins is that of the state.
 pub fn a_saved_index_is_read()
     ensures front { (image : List ℕ) (records : List (List ℕ)) (file : List ℕ) → length image ≤ 2 ^ 37 → IsArea image records file → HasFront file × (image_at file ≡ image) }
     ensures sound { (version : Version) (base : Base) (undos : List UndoRecord) (maps : Maps) (text : List ℕ)

@@ -12,11 +12,8 @@ use crate::feeding::feed_image;
 use chain_state::{Chain, Parts};
 use disk_model::Disk;
 use nmc_base::Base;
-use state_image::Loader;
+use state_image::{Loader, let_go};
 use std::alloc::Global;
-
-/// Lets go of parts, in a place of its own: such a place is dear to prove.
-fn let_go(_parts: Parts) {}
 
 /// The chain of parts that were read with their base, where this is the base.
 fn chain_on(read: Base, parts: Parts, base: &Base) -> Result<Chain, ReadFault>
@@ -44,9 +41,6 @@ fn end_loading(loader: Loader, base: &Base) -> Result<Chain, ReadFault>
     }
 }
 
-/// Lets go of a loader, in a place of its own.
-fn drop_loader(_loader: Loader) {}
-
 /// The index of the image of so many bytes with which the area in this file begins.
 fn load_index<D: Disk>(
     alloc: Global,
@@ -65,7 +59,7 @@ fn load_index<D: Disk>(
     match feed_image(disk, file, &mut loader, image) {
         Ok(()) => end_loading(loader, base),
         Err(fault) => {
-            drop_loader(loader);
+            loader.let_go();
             Err(fault)
         }
     }

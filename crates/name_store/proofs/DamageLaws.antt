@@ -25,7 +25,7 @@ use Rattle.name_store.specs.Damage.{HasBadField, HasSelected, BeginsAt, IsDamage
 use Rattle.name_store.specs.Stands.{Bytes, Stands}
 use Rattle.name_store.proofs.RunLemmas.{standing_base, standing_selected, one_count}
 use Rattle.name_store.proofs.StateLemmas.{area_is}
-use Rattle.name_store.proofs.SavedLemmas.{saved_stands, saved_front, saved_image, saved_not_bad}
+use Rattle.name_store.proofs.SavedLemmas.{saved_stands, saved_image, saved_not_bad}
 
 -- a header whose fields are in order has no bad one
 no_bad_field : (file : List ℕ) (at : ℕ) → HasFields file → HasBadField file at → ⊥

@@ -9,7 +9,7 @@ use Rattle.name_store.specs.declared.faults.OpenFault.{OpenFault}
 use Rattle.name_store.specs.declared.faults.OpenFault.TheVariants.{Uninitialised, Damaged, DiskFault, NoMemory}
 use Rattle.name_store.specs.declared.header.Header.{Header}
 use Rattle.name_store.specs.Host.{IsHostText, IsHostOf}
-use Rattle.name_store.specs.Header.{IsProfile, profile_of, magic_at, profile_at, height_at, hash_at, host_length_at, host_at, selections_at, HasHost, HasFields, IsInitialised}
+use Rattle.name_store.specs.Header.{IsProfile, profile_of, magic_at, profile_at, height_at, hash_at, host_length_at, host_at, HasHost, HasFields, IsInitialised}
 use Rattle.name_store.specs.Damage.{HasBadField, bad_magic, bad_profile, bad_height, bad_host}
 use Rattle.name_store.specs.HeaderAnswers.{HeaderAnswer, IsHeaderOf}
 

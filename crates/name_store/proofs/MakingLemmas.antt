@@ -16,7 +16,11 @@ use Rattle.gate_journal.proofs.RecordLemmas.{none_fit}
 use Rattle.chain_commands.specs.RunState.{RunState}
 use Rattle.name_store.specs.Header.{IsBegun, header_fields, header_text}
 use Rattle.image_slots.specs.Selections.{HasSelections}
-use Rattle.name_store.specs.Stands.{Bytes, nothing, IsRunState, Stands, EachStands, begun_on}
+use Rattle.undo_records.specs.declared.version.Version.{Version}
+use Rattle.image_grammar.specs.Image.{Image}
+use Rattle.image_grammar.specs.Text.{image_text}
+use Rattle.chain_commands.specs.Saving.{none_yet as nothing_saved}
+use Rattle.name_store.specs.Stands.{Bytes, IsRunState, Stands, EachStands, begun_on}
 use Rattle.name_store.specs.Making.{IsEmpty, EachIsBegun}
 use Rattle.name_store.specs.MakingSteps.{HasSettled, IsShort, empty_area, closed_header}
 
@@ -31,11 +35,16 @@ shut_begun run files settled shut = λ image is. inl (λ begun. let header = is 
 empty_holds : IsArea [] [] empty_area
 empty_holds = record { closed = closed_front _ [] 0 (omega arith); fit = none_fit }
 
+-- no image has an empty text
+no_text : (version : Version) (image : Image) → [] ≡ image_text version image → ⊥
+no_text version image e = omega (arith, ap length e)
+
 begun_state : (base : Base) (host : List ℕ) → IsBegun base host → IsRunState (begun_on base host)
 begun_state base host begun = record {
   begun = begun;
   start_is = refl;
-  has_saved = nothing refl refl refl;
+  has_saved = record { text_is = nothing_saved refl refl refl; short = omega arith; few = omega arith };
+  again = λ version is. absurd (no_text version is.is_text.image is.is_text.text_is);
   valid = record { low = begun.low; starts = record { makes = tt; few = omega arith } };
   allowed_before = tt;
   allowed = tt;

@@ -13,7 +13,7 @@ use Rattle.gate_journal.specs.Gate.{IsClosed}
 use Rattle.gate_journal.specs.Records.{HasRecords, IsArea, image_front}
 use Rattle.gate_journal.proofs.RecordLemmas.{area_unique}
 use Rattle.chain_commands.specs.Event.{Command}
-use Rattle.chain_commands.specs.RunState.{RunState, saved_chain, after_commands, chain_of, area_of, grown_by, longest_area}
+use Rattle.chain_commands.specs.RunState.{RunState, saved_chain, after_commands, grown_by, longest_area}
 use Rattle.chain_commands.specs.Saving.{most_selections}
 use Rattle.image_slots.specs.Selections.{HasSelections, selected_by}
 use Rattle.image_slots.specs.Slotted.{Slotted, AreOn}
@@ -238,9 +238,9 @@ module _ (tells : Bool) (files : Files) (header : Header) (slots : Slotted) (fol
 
 -- its image was not read
 pub image_unread : (tells : Bool) (base : Base) (file : ℕ) (area : List ℕ) (fault : ReadFault) → ReadAnswer base area (Err fault) → AreaAnswer tells base file area (Err (of_image file fault))
-image_unread tells base file area (read_faults.Damaged at) is = (refl, inl is)
-image_unread tells base file area read_faults.DiskFault is = tt
-image_unread tells base file area read_faults.NoMemory is = tt
+image_unread tells on file l (read_faults.Damaged at) is = (refl, inl is)
+image_unread tells on file l read_faults.DiskFault is = tt
+image_unread tells on file l read_faults.NoMemory is = tt
 
 -- its image was read, and then its commands in a file that is the same still
 module _ (tells : Bool) (told : IsTrue tells) (base : Base) (file : ℕ) (area mid : List ℕ) (same : mid ≡ area) (index : Indexed) (gate : ℕ) (r : IsReadFrom base area index gate) where

@@ -2,7 +2,7 @@
 use Rattle.std.proofs.Common.{◌≡◌, ℕ, ◌+◌, ◌<◌, ◌≤◌, Bool, List, length, Ok, Err, refl, sym, ◌∙◌, ap, subst, arith}
 use Rattle.std.specs.Prelude.{IsTrue, Result}
 use Rattle.nmc_base.specs.declared.limits.TheConstants.{LONGEST_BLOCK}
-use Rattle.disk_model.specs.Moments.{start}
+use Rattle.disk_model.specs.Moments.{Files, start}
 use Rattle.disk_model.specs.Changes.{LeavesOthers}
 use Rattle.image_slots.specs.Slotted.{Slotted}
 use Rattle.disk_model.specs.DiskSeen.{DiskSeen}
@@ -70,22 +70,22 @@ allows_disconnect hash long run is valid =
 
 module _ (old new : Stored) (back : IsAlike old new) where
   module _ {T R : Type 0} (tells : Bool) (disk : DiskSeen) (on : IsTrue tells → IsOn old disk.moments.now) where
-    pub leaves_refused : (refusal : R) → LeavesDisk {T = T} {R = R} tells (LeavesOthers (area_file old)) disk disk (Refused new refusal)
-    leaves_refused refusal = record {
+    pub leaves_refused : (Spares : Files → Files → Type 0) → Spares disk.moments.now disk.moments.now → (refusal : R) → LeavesDisk {T = T} {R = R} tells Spares disk disk (Refused new refusal)
+    leaves_refused Spares same refusal = record {
       later = record { count = omega arith; at_limit = λ is. is };
       worked = tt;
       failed = tt;
       still_on = λ told. on_again old new disk.moments.now back (on told);
-      others = λ told. start (λ other differ. refl);
+      others = λ told. start same;
     }
 
-    pub leaves_lacking : LeavesDisk {T = T} {R = R} tells (LeavesOthers (area_file old)) disk disk (NoMemory new)
-    leaves_lacking = record {
+    pub leaves_lacking : (Spares : Files → Files → Type 0) → Spares disk.moments.now disk.moments.now → LeavesDisk {T = T} {R = R} tells Spares disk disk (NoMemory new)
+    leaves_lacking Spares same = record {
       later = record { count = omega arith; at_limit = λ is. is };
       worked = tt;
       failed = tt;
       still_on = λ told. on_again old new disk.moments.now back (on told);
-      others = λ told. start (λ other differ. refl);
+      others = λ told. start same;
     }
 
     pub keeps_refused : (Makes : RunState → RunState → Type 0) (refusal : R) → KeepsOn {T = T} {R = R} tells old Makes disk disk (Refused new refusal)

@@ -16,13 +16,12 @@ use Rattle.domain_text.specs.Host.{HostText, IsHost, absolute, empty, at_sign, b
 use Rattle.gate_journal.specs.Records.{records_text}
 use Rattle.gate_journal.proofs.RecordLemmas.{begins_with}
 use Rattle.chain_commands.specs.RunState.{RunState}
-use Rattle.chain_commands.specs.Saving.{most_selections}
 use Rattle.image_slots.specs.Selections.{HasSelections, selections}
 use Rattle.image_slots.proofs.SelectionLemmas.{same_number}
 use Rattle.name_store.specs.Host.{IsHostText}
 use Rattle.name_store.specs.Header.{IsBegun, HasHeader, HasFields, magic, header_text, profile_byte, profile_of, magic_at, profile_at, base_at, host_at, hash_at, host_length_at, height_at, selections_at}
 use Rattle.name_store.specs.Damage.{HasSelected}
-use Rattle.name_store.specs.Stands.{Bytes, HasSaved, nothing, text as saved_as, IsRunState, Stands}
+use Rattle.name_store.specs.Stands.{Bytes, IsRunState, Stands}
 
 -- ---- a host has two bytes or more
 
@@ -164,16 +163,12 @@ module _ (files : Bytes) (run : RunState) (stands : Stands files run) where
   pub standing_host : host_at (files 0) ≡ run.host
   standing_host = host_told run.base run.host (files 0) begins_so state.begun
 
-  few : HasSaved run → run.selections ≤ most_selections
-  few (nothing none saved text) = omega (arith, none)
-  few (saved_as some most is) = most
-
   pub standing_selected : HasSelected (files 0) run.selections
   standing_selected = record {
     header = standing_header;
     selections = subst (λ (l : List ℕ). HasSelections l run.selections (files 0))
         (sym (ap (λ (n : ℕ). take n (files 0)) (selections_told run.base run.host (files 0) begins_so state.begun) ∙ begins_so.begins)) stands.selections;
-    few = few state.has_saved;
+    few = state.has_saved.few;
   }
 
 -- so many selections stand behind a header alone

@@ -1,8 +1,7 @@
 -- A save of the index of a store: the run state behind it, and what a crash leaves.
-use Rattle.std.proofs.Common.{◌≡◌, ◌⊎◌, inl, inr, ℕ, ◌+◌, ◌<◌, ◌≤◌, Bool, List, [], ◌++◌, length, Ok, Err, refl, sym, ◌∙◌, ap, subst, arith, length-append}
+use Rattle.std.proofs.Common.{◌≡◌, ◌⊎◌, inl, inr, ℕ, ◌+◌, ◌<◌, ◌≤◌, Bool, List, [], length, reverse, Ok, Err, refl, sym, ◌∙◌, ap, subst, arith, length-append}
 use Rattle.std.specs.Prelude.{IsTrue, Result}
 use Rattle.nmc_base.specs.declared.chain_ends.Base.{Base}
-use Rattle.disk_model.specs.FileState.{FileState}
 use Rattle.disk_model.specs.Moments.{Files, EachMoment, IsImage}
 use Rattle.disk_model.specs.DiskSeen.{DiskSeen, file_in, bytes_in}
 use Rattle.disk_model.specs.declared.disk.Failed.{Failed}
@@ -13,36 +12,38 @@ use Rattle.chain_names.specs.Coins.{Maps}
 use Rattle.chain_names.specs.Index.{index_maps}
 use Rattle.nmc_base.specs.Heights.{highest}
 use Rattle.name_tables.specs.Tables.{maps_by}
+use Rattle.undo_records.specs.declared.version.Version.{Version}
 use Rattle.undo_records.specs.declared.version.Version.TheVariants.{Two}
+use Rattle.image_grammar.specs.Image.{HasText, IsImageOf}
+use Rattle.chain_names.specs.Undo.{UndoRecord}
+use Rattle.chain_names.proofs.OneRecordLemmas.{one_undo-chain}
 use Rattle.image_grammar.specs.Text.{IsStateText}
 use Rattle.image_writer.specs.Whole.{IsReadAgain}
 use Rattle.chain_state.specs.Chain.{Indexed}
 use Rattle.chain_state.specs.Standing.{AreValid}
 use Rattle.chain_commands.specs.Chain.{Chain}
-use Rattle.chain_commands.specs.RunState.{RunState, on_base, after_commands, saved_chain, chain_of}
+use Rattle.chain_commands.specs.RunState.{RunState, on_base, saved_chain, chain_of}
 use Rattle.chain_commands.specs.Saving.{IsTextOf, HoldsSave, CheckpointLimit, ImageLimit, saves, saved_by, save_order, longest_image, most_selections}
 use Rattle.chain_commands.specs.Saving as machine
 use Rattle.chain_commands.specs.Refusals.{IsFirst, HasNoneBelow}
-use Rattle.chain_commands.proofs.SavingLemmas.{one_text, chain_of_all, saved_leaves}
+use Rattle.chain_commands.proofs.SavingLemmas.{one_text, chain_of_all, saved_leaves, saved_has}
 use Rattle.image_slots.specs.Selections.{HasSelections, selected_by, drafted_by}
 use Rattle.image_slots.specs.Slotted.{Slotted, AreOn, with_one_more}
-use Rattle.image_files.specs.Crashes.{LeavesOld, LeavesNew, LeavesOldOrNew}
 use Rattle.image_files.specs.Saving.{HasImage, SavesAt, WritesImage}
-use Rattle.image_files.specs.SavingIndex.{IsTextOfIndex, HasLongText}
+use Rattle.image_files.specs.SavingIndex.{IsTextOfIndex, HasLongText, WritesIndex}
 use Rattle.image_files.proofs.SaveLemmas.{crash_of}
 use Rattle.index_commands.specs.Standing as chains
 use Rattle.index_commands.specs.Records.{records_of}
 use Rattle.index_commands.proofs.LeadLemmas.{parts_allowed}
-use Rattle.command_areas.specs.Keeping.{HoldsRecords}
-use Rattle.name_store.specs.Header.{IsBegun, header_text, host_at}
-use Rattle.name_store.specs.Host.{IsHostOf}
-use Rattle.name_store.specs.Stands.{Bytes, IsSavedText, HasSaved, text as saved_as, IsRunState, Stands, EachStandsForEither}
+use Rattle.name_store.specs.Header.{IsBegun, header_text}
+use Rattle.name_store.specs.Stands.{Bytes, IsRunState, Stands, EachStandsForEither}
 use Rattle.name_store.specs.Stored.{Stored, StandsFor, IsOn, area_file}
-use Rattle.name_store.specs.Saves.{IsSavedAs}
-use Rattle.name_store.proofs.RunLemmas.{BeginsSo, host_told, begins_front}
+use Rattle.name_store.specs.Saves.{IsSavedAs, SparesSelected}
+use Rattle.name_store.specs.Outcomes.{LeavesDisk, KeepsOn}
+use Rattle.name_store.specs.declared.store.Outcome.TheVariants.{Done, Faulted}
+use Rattle.name_store.proofs.RunLemmas.{host_told, begins_front}
 use Rattle.name_store.proofs.SavedLemmas.{chain_base}
 use Rattle.name_store.proofs.StateLemmas.{front_size}
-use Rattle.name_store.proofs.StoreLemmas.{area_low}
 
 -- ---- the text
 
@@ -58,8 +59,13 @@ module _ (index : Indexed) (chain : Chain) (s : chains.StandsFor index chain) (t
   again : IsReadAgain chain.base index.undos (index_maps chain.base.profile chain.start chain.base.height chain.blocks) text
   again = subst (λ (maps : Maps). IsReadAgain chain.base index.undos maps text) s.maps (subst (λ (b : Base). IsReadAgain b index.undos (maps_by index.tables) text) s.base_is is.again)
 
-  pub saved_text : length text ≤ longest_image → IsSavedText chain text
-  saved_text short = record { version = Two; is_text = text_of; again = again short text_of.is_text.image text_of.is_text.image_is; short = short }
+  -- whichever version it is taken for, it is one that is read again
+  pub read_again : length text ≤ longest_image → (version : Version) (other : IsTextOf version chain text) → HasText other.is_text.image
+  unfolding text_of
+  read_again short version other =
+      let undos : other.undos ≡ index.undos = one_undo-chain chain.base.profile chain.start chain.base.height chain.blocks other.undos index.undos other.are_undos s.undos in
+      let maps = index_maps chain.base.profile chain.start chain.base.height chain.blocks in
+      again short other.is_text.image (subst (λ (l : List UndoRecord). IsImageOf chain.base (reverse l) maps other.is_text.image) undos other.is_text.image_is)
 
 -- ---- the refusals
 
@@ -106,7 +112,8 @@ module _ (store : Stored) (run : RunState) (s : StandsFor store run) (few : stor
   saved_state = record {
     begun = s.is_state.begun;
     start_is = s.is_state.start_is;
-    has_saved = saved_as (omega arith) (omega (arith, s.selections, few)) (of_all (λ chain. IsSavedText chain text) (saved_text store.index (chain_of run) s.index text is short));
+    has_saved = saved_has run text (omega (arith, s.selections, few)) (text_of store.index (chain_of run) s.index text is) short;
+    again = of_all (λ chain. (version : Version) (other : IsTextOf version chain text) → HasText other.is_text.image) (read_again store.index (chain_of run) s.index text is short);
     valid = of_all (λ chain. AreValid chain.base chain.start chain.blocks) s.index.valid;
     allowed_before = parts_allowed (on_base run.base run.start) run.since run.saved s.is_state.allowed_before s.is_state.allowed;
     allowed = tt;
@@ -207,3 +214,76 @@ module _ (tells : Bool) (told : IsTrue tells) (old : Stored) (before after : Dis
           area = subst (λ (n : ℕ). IsArea text [] (bytes_in after n)) (sym (turns run.selections)) (subst (λ (n : ℕ). IsArea text [] (bytes_in after (drafted_by n))) s.selections (wrote.area told).area);
           is_state = next;
         }
+
+-- ---- what a save of the store comes to
+
+-- the limits of a store's selections and images
+pub record HasLimits (store : Stored) : Type 0 where
+  pub selections : store.slots.limits.selections ≡ most_selections
+  pub image : store.slots.limits.image ≡ longest_image
+
+module _ (tells : Bool) (old : Stored) (limits : HasLimits old) (before after : DiskSeen) (on : IsTrue tells → IsOn old before.moments.now) (image : ℕ) (new : Slotted) where
+  abbrev saving : Result ℕ Failed → Type 0
+  saving result = WritesIndex tells old.index old.slots new image before after result
+
+  module _ (result : Result ℕ Failed) (w : saving result) where
+    pub few : old.slots.count < most_selections
+    few = omega (arith, w.room.room.one_more, limits.selections)
+
+    pub short : length w.text ≤ longest_image
+    short = omega (arith, w.room.room.short, limits.image)
+
+    pub none_refuses : (run : RunState) → StandsFor old run → HasNoneBelow (HoldsSave run) save_order 2
+    none_refuses run s = none_at_all old run s few w.text w.room.is_text short
+
+    next_state : (run : RunState) → StandsFor old run → IsRunState (saved_by run w.text)
+    next_state run s = saved_state old run s few w.text w.room.is_text short
+
+    pub is_saved : (run : RunState) → StandsFor old run → machine.IsSaved run (saved_by run w.text)
+    is_saved run s = record { text = w.text; is_text = text_of old.index (chain_of run) s.index w.text w.room.is_text; state_is = refl }
+
+    pub moments_of : IsTrue tells → (run : RunState) → StandsFor old run → Stands (bytes_in before) run → EachMoment (EachStandsForEither run (saved_by run w.text)) before.moments after.moments
+    moments_of told run s stands = save_moments tells told old before after (on told) w.text short run s stands (next_state run s) result new w.writes
+
+  -- it was made
+  module _ (number : ℕ) (w : saving (Ok number)) where
+    abbrev store : Stored
+    store = record { index = old.index; host = old.host; slots = new; area = 9 + image }
+
+    store_is : store ≡ record { index = old.index; host = old.host; slots = with_one_more old.slots; area = 9 + length w.text }
+    store_is = λ i. record { index = old.index; host = old.host; slots = w.writes.ok.1 i; area = 9 + w.room.image_is i }
+
+    pub save_answers : (told_number : ℕ) → told_number ≡ number → (run : RunState) → StandsFor old run → IsSavedAs run store told_number
+    save_answers told_number is_number run s =
+        subst (λ (x : Stored). IsSavedAs run x told_number) (sym store_is)
+        (saved_so old run s (few (Ok number) w) w.text w.room.is_text (short (Ok number) w) told_number (is_number ∙ w.writes.ok.0))
+
+    pub save_leaves : {R : Type 0} (told_number : ℕ) → LeavesDisk {T = ℕ} {R = R} tells (SparesSelected old) before after (Done store told_number)
+    save_leaves told_number = record {
+      later = w.writes.ends.later;
+      worked = w.writes.ends.worked;
+      failed = tt;
+      still_on = λ told. subst (λ (x : Stored). IsOn x after.moments.now) (sym store_is) (saved_on tells told old before after (on told) w.text (short (Ok number) w) number new w.writes);
+      others = w.writes.selected;
+    }
+
+    pub save_keeps : {R : Type 0} (told_number : ℕ) → KeepsOn {T = ℕ} {R = R} tells old machine.IsSaved before after (Done store told_number)
+    save_keeps told_number = λ told run s stands. record {
+      next = saved_by run w.text;
+      is_next = is_saved (Ok number) w run s;
+      done = save_done tells told old before after (on told) w.text (short (Ok number) w) run s stands (next_state (Ok number) w run s) number new w.writes;
+      any_moment = moments_of (Ok number) w told run s stands;
+    }
+
+  -- the disk failed
+  module _ (error : Failed) (w : saving (Err error)) where
+    pub fault_leaves : {R : Type 0} → LeavesDisk {T = ℕ} {R = R} tells (SparesSelected old) before after Faulted
+    fault_leaves = record { later = w.writes.ends.later; worked = tt; failed = w.writes.ends.failed; still_on = λ told. tt; others = w.writes.selected }
+
+    pub fault_keeps : {R : Type 0} → KeepsOn {T = ℕ} {R = R} tells old machine.IsSaved before after Faulted
+    fault_keeps = λ told run s stands. record {
+      next = saved_by run w.text;
+      is_next = is_saved (Err error) w run s;
+      done = tt;
+      any_moment = moments_of (Err error) w told run s stands;
+    }

@@ -5,7 +5,7 @@ use Rattle.nmc_base.specs.declared.hashes.Hash32.{Hash32}
 use Rattle.gate_journal.specs.Records.{IsArea}
 use Rattle.chain_names.specs.Coins.{Maps}
 use Rattle.chain_names.specs.Undo.{UndoRecord}
-use Rattle.chain_names.specs.UndoOf.{AreUndos, hash_in}
+use Rattle.chain_names.specs.UndoOf.{AreUndos}
 use Rattle.chain_names.specs.Tables.{queue_of}
 use Rattle.chain_names.specs.Log.{Log}
 use Rattle.chain_state.specs.Chain.{Indexed, newest_hash}
@@ -14,6 +14,9 @@ use Rattle.chain_state.proofs.SoundLemmas.{valid_sound}
 use Rattle.chain_state.proofs.StandingLemmas.{base_stands}
 use Rattle.chain_commands.specs.Chain.{Chain}
 use Rattle.chain_commands.specs.Event.{Command, Connect, Disconnect}
+use Rattle.undo_records.specs.declared.version.Version.{Version}
+use Rattle.image_grammar.specs.Image.{HasText}
+use Rattle.chain_commands.specs.Saving.{IsTextOf, IsSavedText, none_yet, of_chain}
 use Rattle.chain_commands.specs.RunState.{RunState, on_base, after_command, after_commands, saved_chain, chain_of}
 use Rattle.index_commands.specs.Standing.{StandsFor}
 use Rattle.image_files.specs.Fronts.{HasFront, image_at}
@@ -22,7 +25,7 @@ use Rattle.image_files.specs.SavedTexts as images
 use Rattle.image_files.specs.SavedTexts.{IsIndexOfState}
 use Rattle.image_files.proofs.AreaLaws.{saved_undamaged, saved_index, area_front, area_image}
 use Rattle.image_files.proofs.StateLaws.{state_index}
-use Rattle.name_store.specs.Stands.{IsSavedText, HasSaved, nothing, text, IsRunState}
+use Rattle.name_store.specs.Stands.{IsRunState}
 
 -- ---- the index of a chain of blocks, by its state
 
@@ -52,28 +55,29 @@ state_stands base start blocks undos index valid are is = record {
 
 -- ---- a text of a chain's index
 
-module _ (chain : Chain) (valid : AreValid chain.base chain.start chain.blocks) (text_is : List ℕ) (saved : IsSavedText chain text_is) where
+module _ (chain : Chain) (valid : AreValid chain.base chain.start chain.blocks) (version : Version) (text_is : List ℕ) (is : IsTextOf version chain text_is) (again : HasText is.is_text.image) where
   abbrev maps : Maps
   maps = chain_maps chain.base chain.start chain.blocks
 
-  image_saved : images.IsSavedText saved.version chain.base saved.is_text.undos maps text_is
+  image_saved : images.IsSavedText version chain.base is.undos maps text_is
   image_saved = record {
-    is_text = saved.is_text.is_text;
-    has_text = saved.again;
+    is_text = is.is_text;
+    has_text = again;
     tip = chain.base.height + length chain.blocks;
-    sound = valid_sound chain.base chain.start chain.blocks saved.is_text.undos valid saved.is_text.are_undos;
+    sound = valid_sound chain.base chain.start chain.blocks is.undos valid is.are_undos;
   }
 
   -- it is that of no other state
   pub text_stands : (index : Indexed) → BeginsWith chain.base text_is index → StandsFor index chain
+  unfolding image_saved
   text_stands index begins =
-      state_stands chain.base chain.start chain.blocks saved.is_text.undos index valid saved.is_text.are_undos
-      (state_index chain.base saved.is_text.undos maps saved.is_text.is_text.image index saved.is_text.is_text.image_is
-      (saved_index saved.version chain.base saved.is_text.undos maps text_is index image_saved begins))
+      state_stands chain.base chain.start chain.blocks is.undos index valid is.are_undos
+      (state_index chain.base is.undos maps is.is_text.image index is.is_text.image_is
+      (saved_index version chain.base is.undos maps text_is index image_saved begins))
 
   -- and not damaged
   pub text_undamaged : (file : List ℕ) (at : ℕ) → HasFront file → image_at file ≡ text_is → HasBadImage chain.base file at → ⊥
-  text_undamaged file at front is bad = saved_undamaged saved.version chain.base saved.is_text.undos maps text_is file at image_saved front is bad
+  text_undamaged file at front same bad = saved_undamaged version chain.base is.undos maps text_is file at image_saved front same bad
 
 -- an empty image is not damaged
 empty_undamaged : (base : Base) (file : List ℕ) (at : ℕ) → HasFront file → image_at file ≡ [] → HasBadImage base file at → ⊥
@@ -104,21 +108,17 @@ module _ (run : RunState) (is : IsRunState run) where
   none_saved none = λ i. after_commands (on_base run.base (is.start_is i)) (none i)
 
   -- an index with which its area begins is that of what is saved
-  begins_saved : HasSaved run → (index : Indexed) → BeginsWith run.base run.text index → StandsFor index (saved_chain run)
-  begins_saved (nothing no_selection none empty) index begins =
+  begins_saved : IsSavedText run → (index : Indexed) → BeginsWith run.base run.text index → StandsFor index (saved_chain run)
+  begins_saved (none_yet no_selection none empty) index begins =
       subst (StandsFor index) (sym (none_saved none)) (base_stands run.base [] index (subst (λ (l : List ℕ). BeginsWith run.base l index) empty begins))
-  begins_saved (text some few saved) index begins =
-      text_stands (saved_chain run) is.valid run.text saved index (subst (λ (b : Base). BeginsWith b run.text index) (sym base_of) begins)
+  begins_saved (of_chain version some is_text) index begins =
+      text_stands (saved_chain run) is.valid version run.text is_text (is.again version is_text) index (subst (λ (b : Base). BeginsWith b run.text index) (sym base_of) begins)
 
   pub saved_stands : (index : Indexed) → BeginsWith run.base run.text index → StandsFor index (saved_chain run)
-  saved_stands index begins = begins_saved is.has_saved index begins
-
-  short_saved : HasSaved run → length run.text ≤ 2 ^ 37
-  short_saved (nothing no_selection none empty) = omega (arith, ap length empty)
-  short_saved (text some few saved) = saved.short
+  saved_stands index begins = begins_saved is.has_saved.text_is index begins
 
   pub short_text : length run.text ≤ 2 ^ 37
-  short_text = short_saved is.has_saved
+  short_text = is.has_saved.short
 
   module _ (records : List (List ℕ)) (file : List ℕ) (area : IsArea run.text records file) where
     pub saved_front : HasFront file
@@ -127,10 +127,10 @@ module _ (run : RunState) (is : IsRunState run) where
     pub saved_image : image_at file ≡ run.text
     saved_image = area_image run.text records file short_text area
 
-    undamaged_by : HasSaved run → (at : ℕ) → HasBadImage run.base file at → ⊥
-    undamaged_by (nothing no_selection none empty) at bad = empty_undamaged run.base file at saved_front (saved_image ∙ empty) bad
-    undamaged_by (text some few saved) at bad =
-        text_undamaged (saved_chain run) is.valid run.text saved file at saved_front saved_image (subst (λ (b : Base). HasBadImage b file at) (sym base_of) bad)
+    undamaged_by : IsSavedText run → (at : ℕ) → HasBadImage run.base file at → ⊥
+    undamaged_by (none_yet no_selection none empty) at bad = empty_undamaged run.base file at saved_front (saved_image ∙ empty) bad
+    undamaged_by (of_chain version some is_text) at bad =
+        text_undamaged (saved_chain run) is.valid version run.text is_text (is.again version is_text) file at saved_front saved_image (subst (λ (b : Base). HasBadImage b file at) (sym base_of) bad)
 
     pub saved_not_bad : (at : ℕ) → HasBadImage run.base file at → ⊥
-    saved_not_bad at bad = undamaged_by is.has_saved at bad
+    saved_not_bad at bad = undamaged_by is.has_saved.text_is at bad

@@ -1,5 +1,5 @@
 -- A store on a disk, and what its files stand for while a command is kept.
-use Rattle.std.proofs.Common.{◌≡◌, ◌≢◌, ◌⊎◌, inl, inr, ℕ, ◌<◌, Bool, List, [], ◌∷◌, ◌++◌, length, Ok, sym, ◌∙◌, ap, subst, refl, arith, length-append}
+use Rattle.std.proofs.Common.{◌≡◌, ◌≢◌, ◌⊎◌, inl, inr, ℕ, ◌<◌, Bool, List, [], ◌∷◌, ◌++◌, length, Ok, sym, ◌∙◌, ap, subst, arith, length-append}
 use Rattle.std.specs.Prelude.{IsTrue, Result}
 use Rattle.nmc_base.specs.declared.chain_ends.Base.{Base}
 use Rattle.nmc_base.specs.declared.chain_ends.Tip.{Tip}

@@ -69,7 +69,7 @@ impl From<NoRoom> for OpenFault {
 
 impl OpenFault {
     /// The fault of the commands in this file.
-    pub(crate) fn of(file: u8, fault: JournalFault) -> OpenFault
+    pub(crate) fn of_journal(file: u8, fault: JournalFault) -> OpenFault
         ensures { result ≡ of_journal file fault }
     {
         match fault {

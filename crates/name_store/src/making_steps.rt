@@ -7,7 +7,7 @@ ghost use Rattle.name_store.specs.MakingSteps.{HasSettled, MakesArea, MakesGate,
 ghost use Rattle.name_store.specs.declared.host_text.TheConstants.{LONGEST_HOST};
 ghost use Rattle.name_store.specs.declared.making_steps.TheConstants.{LONGEST_FIELDS};
 
-use crate::limits::{FIRST_AREA, CLOSED, HEADER_FILE};
+use crate::limits::{CLOSED, FIRST_AREA, HEADER_FILE};
 use disk_model::{Disk, Failed};
 use nmc_base::{Base, Profile};
 

@@ -76,12 +76,7 @@ impl Store {
             Err(fault) => return Err(OpenFault::of_slots(fault)),
         };
         match read_area(alloc, disk, slots.selected(), header.base) {
-            Ok(followed) => Ok(Store::of(
-                followed.index,
-                header.host,
-                slots,
-                followed.length,
-            )),
+            Ok(followed) => Ok(Store::of(followed.index, header.host, slots, followed.length)),
             Err(fault) => Err(fault),
         }
     }

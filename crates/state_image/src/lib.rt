@@ -15,3 +15,4 @@ mod values;
 
 pub use fault::ImageFault;
 pub use loader::Loader;
+pub use settling::let_go;

@@ -78,8 +78,6 @@ fn stop_of(read: &Result<(), ImageFault>) -> Option<ImageFault>
     }
 }
 
-fn let_go(_loader: Loader) {}
-
 impl Loader {
     /// Nothing was fed of a text of so many bytes.
     pub fn new(alloc: Global, total: u64) -> Result<Loader, NoMemory>
@@ -141,15 +139,17 @@ impl Loader {
         ensures whole { (text : List ℕ) → HasRead text self → IsImageAnswer text result }
         ensures stays { (fault : ImageFault) → self.stop ≡ Some fault → result ≡ Err fault }
     {
-        match self.fault() {
-            Some(fault) => {
-                let_go(self);
-                Err(fault)
-            }
-            None => {
-                let Loader { alloc, reading, .. } = self;
-                reading.settle(alloc)
-            }
+        let fault = self.fault();
+        let Loader { alloc, reading, .. } = self;
+        match fault {
+            Some(fault) => reading.give_up(fault),
+            None => reading.settle(alloc),
         }
+    }
+
+    /// Lets go of what was read. Call it where a loader isn't finished: each place that drops one itself is dear to prove.
+    pub fn let_go(self) {
+        let Loader { reading, .. } = self;
+        reading.let_go();
     }
 }

@@ -1,6 +1,6 @@
 //! What becomes of what was read whole.
 
-ghost use Rattle.std.specs.Prelude.{ℕ, List, OnOk};
+ghost use Rattle.std.specs.Prelude.{◌≡◌, ℕ, List, Err, OnOk};
 ghost use Rattle.states_below.specs.Scan.{TellsWhether};
 ghost use Rattle.state_image.specs.Answers.{IsSoundOn, IsImageAnswer};
 ghost use Rattle.state_image.specs.Forming.{AreFormed, IsReadWhole, AreOf, TellsFault, Judges};
@@ -66,7 +66,8 @@ fn judge(alloc: Global, version: Version, base: &Base, parts: &mut Parts) -> Res
     soundness(alloc, base, parts)
 }
 
-fn let_go(_parts: Parts) {}
+/// Lets go of parts. Call it where the parts of an image are of no use: each place that drops them itself is dear to prove.
+pub fn let_go(_parts: Parts) {}
 
 impl Reading {
     /// The base and the parts.
@@ -80,6 +81,20 @@ impl Reading {
             ..
         } = self;
         (base, Parts::of(tables, undos))
+    }
+
+    /// Lets go of what was read, for this fault.
+    pub(crate) fn give_up(self, fault: ImageFault) -> Result<(Base, Parts), ImageFault>
+        ensures { result ≡ Err fault }
+    {
+        self.let_go();
+        Err(fault)
+    }
+
+    /// Lets go of what was read.
+    pub(crate) fn let_go(self) {
+        let (_, parts) = self.split();
+        let_go(parts);
     }
 
     /// The base and the parts, where they are sound.

@@ -1,4 +1,4 @@
-//! Trials of the tables of names and of what they are made of: coins, histories, the queue of what expires, verdicts, undo records, images that are sound, registration heights.
+//! Trials of the tables of names and of what they are made of: coins, histories, the queue of what expires, verdicts, undo records, images that are sound and that are read in pieces, registration heights.
 #![tactic(auto)]
 
 #[cfg(test)]

@@ -20,7 +20,7 @@ returns-in-Refused-clause-leaves g c =
     let old : Stored = record { index = c.self.inside.chain; host = c.self.inside.host; slots = c.self.inside.slots; area = c.self.inside.area } in
     let new : Stored = record { index = c.in-Refused.chain; host = c.self.inside.host; slots = c.self.inside.slots; area = c.self.inside.area } in
     subst (λ (x : Stored). LeavesDisk g.D.Disk.tells (LeavesOthers (area_file x)) disk disk (Refused new c.in-Refused.refusal)) c.self.view_is
-    (leaves_refused old new (record { base = refused_base _ c.self.inside.chain c.args.bytes.now c.in-Refused.refusal c.in-Refused.chain c.in-Refused.ensures.on_index; host = refl; slots = refl; area = refl }) g.D.Disk.tells disk (λ told. subst (λ (x : Stored). IsOn x disk.moments.now) (sym c.self.view_is) (c.requires.on_disk told)) c.in-Refused.refusal)
+    (leaves_refused old new (record { base = refused_base _ c.self.inside.chain c.args.bytes.now c.in-Refused.refusal c.in-Refused.chain c.in-Refused.ensures.on_index; host = refl; slots = refl; area = refl }) g.D.Disk.tells disk (λ told. subst (λ (x : Stored). IsOn x disk.moments.now) (sym c.self.view_is) (c.requires.on_disk told)) (LeavesOthers (area_file old)) (λ other differ. refl) c.in-Refused.refusal)
 
 pub returns-in-Refused-clause-kept : goal.returns-in-Refused-clause-kept
 returns-in-Refused-clause-kept g c =
@@ -37,7 +37,7 @@ returns-in-NoMemory-clause-leaves g c =
     let old : Stored = record { index = c.self.inside.chain; host = c.self.inside.host; slots = c.self.inside.slots; area = c.self.inside.area } in
     let new : Stored = record { index = c.in-NoMemory.chain; host = c.self.inside.host; slots = c.self.inside.slots; area = c.self.inside.area } in
     subst (λ (x : Stored). LeavesDisk g.D.Disk.tells (LeavesOthers (area_file x)) disk disk (NoMemory new)) c.self.view_is
-    (leaves_lacking old new (record { base = c.in-NoMemory.ensures.on_index.stays.base; host = refl; slots = refl; area = refl }) g.D.Disk.tells disk (λ told. subst (λ (x : Stored). IsOn x disk.moments.now) (sym c.self.view_is) (c.requires.on_disk told)))
+    (leaves_lacking old new (record { base = c.in-NoMemory.ensures.on_index.stays.base; host = refl; slots = refl; area = refl }) g.D.Disk.tells disk (λ told. subst (λ (x : Stored). IsOn x disk.moments.now) (sym c.self.view_is) (c.requires.on_disk told)) (LeavesOthers (area_file old)) (λ other differ. refl))
 
 pub returns-in-NoMemory-clause-kept : goal.returns-in-NoMemory-clause-kept
 returns-in-NoMemory-clause-kept g c =
@@ -71,7 +71,7 @@ returns-in-Ok-clause-connects g c =
     let old : Stored = record { index = c.self.inside.chain; host = c.self.inside.host; slots = c.self.inside.slots; area = c.self.inside.area } in
     let new : Stored = record { index = c.commit.result; host = c.self.inside.host; slots = c.self.inside.slots; area = c.in-Ok.area } in
     let longer : c.in-Ok.area ≡ c.self.inside.area + (6 + length c.args.bytes.now) = omega (arith, c.in-Ok.ensures.longer) in
-    subst (λ r. Connects longest_area c.args.self c.args.bytes.now r) (sym c.done.ensures) (subst (λ (x : Stored). Connects longest_area x c.args.bytes.now (Done new c.commit.result.tip)) c.self.view_is
+    subst (λ r. Connects longest_area c.args.self c.args.bytes.now r) (sym {b = Done new c.commit.result.tip} c.done.ensures) (subst (λ (x : Stored). Connects longest_area x c.args.bytes.now (Done new c.commit.result.tip)) c.self.view_is
     (λ run s. answers_done (a_block c.args.bytes.now c.requires.short old c.in-Staged.staged c.in-Staged.ensures.stages) refusal_of new (record { commits = c.commit.ensures.connected; host = refl; slots = refl; area = longer }) run s))
 
 pub returns-in-Ok-clause-leaves : goal.returns-in-Ok-clause-leaves
@@ -80,7 +80,7 @@ returns-in-Ok-clause-leaves g c =
     let after = g.D.Disk.seen c.keep.new.disk in
     let old : Stored = record { index = c.self.inside.chain; host = c.self.inside.host; slots = c.self.inside.slots; area = c.self.inside.area } in
     let new : Stored = record { index = c.commit.result; host = c.self.inside.host; slots = c.self.inside.slots; area = c.in-Ok.area } in
-    subst (λ r. LeavesDisk g.D.Disk.tells (LeavesOthers (area_file c.args.self)) before after r) (sym c.done.ensures)
+    subst (λ r. LeavesDisk g.D.Disk.tells (LeavesOthers (area_file c.args.self)) before after r) (sym {b = Done new c.commit.result.tip} c.done.ensures)
     (subst (λ (x : Stored). LeavesDisk g.D.Disk.tells (LeavesOthers (area_file x)) before after (Done new c.commit.result.tip)) c.self.view_is
     (leaves_done g.D.Disk.tells before after old (1 ∷ c.args.bytes.now) new new.index.tip
     (λ told. subst (λ (x : Stored). IsOn x before.moments.now) (sym c.self.view_is) (c.requires.on_disk told)) (subst (λ (f : ℕ). Keeps g.D.Disk.tells f c.self.inside.area (1 ∷ c.args.bytes.now) before after (Ok c.in-Ok.area)) c.selected-file.ensures c.in-Ok.ensures)
@@ -92,7 +92,7 @@ returns-in-Ok-clause-kept g c =
     let after = g.D.Disk.seen c.keep.new.disk in
     let old : Stored = record { index = c.self.inside.chain; host = c.self.inside.host; slots = c.self.inside.slots; area = c.self.inside.area } in
     let new : Stored = record { index = c.commit.result; host = c.self.inside.host; slots = c.self.inside.slots; area = c.in-Ok.area } in
-    subst (λ r. KeepsOn g.D.Disk.tells c.args.self (Adds (Connect c.args.bytes.now)) before after r) (sym c.done.ensures)
+    subst (λ r. KeepsOn g.D.Disk.tells c.args.self (Adds (Connect c.args.bytes.now)) before after r) (sym {b = Done new c.commit.result.tip} c.done.ensures)
     (subst (λ (x : Stored). KeepsOn g.D.Disk.tells x (Adds (Connect c.args.bytes.now)) before after (Done new c.commit.result.tip)) c.self.view_is
     (keeps_done (a_block c.args.bytes.now c.requires.short old c.in-Staged.staged c.in-Staged.ensures.stages) g.D.Disk.tells before after new new.index.tip
     (λ told. subst (λ (x : Stored). IsOn x before.moments.now) (sym c.self.view_is) (c.requires.on_disk told)) (subst (λ (f : ℕ). Keeps g.D.Disk.tells f c.self.inside.area (1 ∷ c.args.bytes.now) before after (Ok c.in-Ok.area)) c.selected-file.ensures c.in-Ok.ensures)))
@@ -101,6 +101,6 @@ pub returns-in-Ok-clause-on_index : goal.returns-in-Ok-clause-on_index
 returns-in-Ok-clause-on_index g c =
     let bytes = c.args.bytes.now in
     let new : Stored = record { index = c.commit.result; host = c.self.inside.host; slots = c.self.inside.slots; area = c.in-Ok.area } in
-    subst (λ r. ConnectsOn (IsFullWith c.args.self.area longest_area (Connect bytes)) c.args.self.index bytes r) (sym c.done.ensures)
+    subst (λ r. ConnectsOn (IsFullWith c.args.self.area longest_area (Connect bytes)) c.args.self.index bytes r) (sym {b = Done new c.commit.result.tip} c.done.ensures)
     (subst (λ (x : Stored). ConnectsOn (IsFullWith x.area longest_area (Connect bytes)) x.index bytes (Done new c.commit.result.tip)) c.self.view_is
     (record { takes = record { short = c.requires.short; staged = c.in-Staged.staged; takes = c.in-Staged.ensures.on_index; connected = c.commit.ensures.connected }; tip_is = refl }))
