@@ -1,6 +1,5 @@
 """What the scripts of this folder share: the built program, frames and replies, tables, and the count of what passed."""
 import contextlib
-import functools
 import pathlib
 import random
 import socket
@@ -43,22 +42,6 @@ def run_in(folder, words, given, output=subprocess.PIPE, **how):
     source = {"input": given} if isinstance(given, bytes) else {"stdin": given}
     run = subprocess.run([program(), *words], cwd=folder, stdout=output, stderr=subprocess.PIPE, timeout=SECONDS, **source, **how)
     return Run(run.stdout or b"", run.returncode, run.stderr.decode().strip())
-
-
-@functools.cache
-def takes_saves():
-    """Whether the program takes frames of kind 4, which ask for a save. Where it doesn't, a script tells that it leaves them out."""
-    if not PROGRAM.exists():
-        return False
-    with made_folder() as folder:
-        return run_in(folder, ["replay"], b"\x04" + bytes(4)).status == 0
-
-
-def leaves_saves_out(tally):
-    """Whether the program takes no saves yet; then that is told."""
-    if not takes_saves():
-        tally.leaves_out("saves", "the program takes none yet")
-    return not takes_saves()
 
 
 def replay(given, output=subprocess.PIPE):

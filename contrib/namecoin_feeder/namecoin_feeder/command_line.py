@@ -15,6 +15,7 @@ from .measures import Port
 from .node import Node
 from .pauses import Pauses
 from .progress import Progress
+from .saves import EVERY
 from .server import Server
 from .troubles import Status, Stop
 
@@ -114,7 +115,7 @@ def add_ways(group):
     text = "take so many blocks off that the node doesn't know, though no fork is known then (%(default)s)"
     group.add_argument("--unknown", default=0, help=text, **blocks)
     text = "ask the server for a save behind so many blocks, and once when it first stands at the tip; 0: never (%(default)s)"
-    group.add_argument("--save-every", default=0, help=text, **blocks)
+    group.add_argument("--save-every", default=EVERY, help=text, **blocks)
     text = "end where nothing went well for so long; 0: try for ever (%(default)s)"
     group.add_argument("--patience", default=0, help=text, **times)
     text = "behind a refused block, or what else would end it, try again so much later; 0: end (%(default)s)"

@@ -9,7 +9,7 @@ from .measures import Measures
 from .pauses import Calm, Waits
 from .progress import spoken
 from .replies import ACCEPTED, NOT_ON_TIP, reason
-from .saves import Saves
+from .saves import EVERY, Saves
 from .troubles import Moved, NodeTrouble, Status, Stop, Trouble
 
 # So often in a row the best chain may move before a block is taken; then there is a pause.
@@ -27,7 +27,7 @@ class Choices(typing.NamedTuple):
     base: int = 0
     unknown: int = 0
     again: float = 0.0
-    save_every: int = 0
+    save_every: int = EVERY
 
 
 class Follower:

@@ -5,6 +5,9 @@ from .progress import spoken
 from .replies import ACCEPTED, NO_MEMORY, SAVE_REFUSALS
 from .troubles import FeedEnded, ServerTrouble
 
+# From one save to the next, where no other number is wanted: five weeks of a chain with a block every ten minutes. A start follows
+# so many blocks in a second or two, where they are small; while a server gets its first blocks, they come within minutes.
+EVERY = 5_000
 # Blocks that take so many bytes are worth a save, however few they are: a start follows them in some ten seconds.
 MOST_BYTES = 256 << 20
 # What a block takes of the server's files beside its bytes, and what a disconnect takes.
@@ -63,6 +66,7 @@ class Saves:
         if reply.code == ACCEPTED:
             self.made(reply.number, height, self.clock() - begun)
         elif reply.code == NO_MEMORY:
+            self.measures.troubles += 1
             self.say(f"the server is out of memory for a save (code FE); the next one is tried in {spoken(self.failed())}")
         else:
             self.is_over = True

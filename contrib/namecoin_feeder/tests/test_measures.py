@@ -44,7 +44,7 @@ class OfARun(Case):
         run = self.begun("--again", "0.3")
         tip = self.chains.grow(self.chains.first, 40)
         self.reaches(tip)
-        self.tells(server_height=40, node_height=40, blocks_connected_total=40, reorganisations_total=0, waiting=0, saves_total=0)
+        self.tells(server_height=40, node_height=40, blocks_connected_total=40, reorganisations_total=0, waiting=0, saves_total=1)
         told = figures(self.port)
         self.assertGreater(told["blocks_per_second"], 0)
         self.assertLess(told["last_block_age_seconds"], 20)

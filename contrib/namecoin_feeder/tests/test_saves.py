@@ -1,15 +1,13 @@
 """When the server is asked for a save, and what comes of each reply to that: blocks go on all the same."""
-import subprocess
 import threading
 import time
 import unittest.mock
 
-from . import FEEDER
-from .case import SECONDS, Case, unittest
+from .case import Case, unittest
 from .test_words import Clock
 
 from blocks import SAVE
-from common import reply, takes_saves
+from common import reply
 from namecoin_feeder import saves
 from namecoin_feeder.blocks import Block
 from namecoin_feeder.measures import Measures
@@ -21,15 +19,9 @@ ACCEPTED, MADE = 0, (1).to_bytes(8, "little")
 
 
 class OverAFeed(Case):
-    # The model takes saves, and the program where it does.
-    has_program = staticmethod(takes_saves)
-
     def setUp(self):
         super().setUp()
         self.node.move(self.chains.grow(self.chains.first, 30))
-
-    def words(self, *more):
-        return super().words("--save-every", "5000", *more)
 
     def answers(self, *answers):
         """What the server answers to saves in the place of its own replies; it makes these saves all the same where that is None."""
@@ -50,11 +42,7 @@ class OverAFeed(Case):
         self.assert_same()
 
     def test_never(self):
-        for words in (Case.words(self, "--once"), self.words("--once", "--save-every", "0")):
-            self.node.move(self.chains.add(self.node.tip))
-            run = subprocess.run(words, cwd=FEEDER, stderr=subprocess.PIPE, text=True, timeout=SECONDS)
-            self.assertEqual(run.returncode, 0)
-            self.assertNotIn("save", run.stderr)
+        self.assertNotIn("save", self.feed("--save-every", "0"))
         self.assertEqual(self.server.saves, [])
         self.assert_same()
 

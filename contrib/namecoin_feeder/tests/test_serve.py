@@ -6,11 +6,8 @@ from .chains import name_of
 from .serving import Serve, initialised
 from .stand_in import is_built, surviving
 
-from common import takes_saves
 from images_model import ImageFault
 from stores import saves_of
-
-SAVES = ("--save-every", "20") if takes_saves() else ()
 
 
 @unittest.skipUnless(is_built(), "the program isn't built")
@@ -53,7 +50,6 @@ class OverServe(Case):
         name = next(iter(self.chains.blocks[self.node.tip].changed))
         self.assertEqual(self.ask(name_of(name)[2:])[3] & 0xF, 0)
 
-    @unittest.skipUnless(takes_saves(), "the program takes no saves yet")
     def test_blocks_leave_below_a_save(self):
         """Saved every so many blocks and started again: blocks leave that the image alone tells of."""
         run = self.start("--save-every", "10")
@@ -68,7 +64,7 @@ class OverServe(Case):
         self.assertIsNone(run.poll())
 
     def test_killed_and_started_again(self):
-        run = self.start(*SAVES)
+        run = self.start("--save-every", "20")
         self.node.move(self.chains.grow(self.chains.first, 300))
         for count in (40, 120, 250):
             self.waits_for("blocks", lambda: len(self.kept()) >= count)
