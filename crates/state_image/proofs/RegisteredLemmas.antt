@@ -12,12 +12,13 @@ use Rattle.sound_states.specs.Walk.{HasFewCoins}
 use Rattle.undo_records.specs.declared.version.Version.{Version}
 use Rattle.undo_records.specs.declared.version.Version.TheVariants.{One, Two}
 use Rattle.undo_records.specs.Versions.{told, without_heights}
-use Rattle.image_grammar.specs.Image.{Image, HasText, names_listed, maps_listed, item_told, history_told, image_told}
+use Rattle.image_grammar.specs.Image.{Image, HasText, coins_listed, names_listed, maps_listed, item_told, history_told, image_told}
 use Rattle.image_grammar.specs.Text.{image_text}
+use Rattle.image_grammar.proofs.OneLaws.{image_one, version_one}
 use Rattle.registrations.specs.Images.{AreWritable, IsRefilled, refilled}
 use Rattle.registrations.specs.Told.{Histories, names_without, TellSame}
 use Rattle.registrations.proofs.ImageLemmas.{told_alike, refilled_so}
-use Rattle.state_image.specs.Answers.{IsSoundImage, IsImageOfParts}
+use Rattle.state_image.specs.Answers.{IsSoundImage, IsSoundText, IsImageOfParts}
 use Rattle.state_image.specs.Forming.{AreFormed}
 use Rattle.state_image.specs.Registering.{HaveHeights, AreRegistered}
 
@@ -40,6 +41,9 @@ module _ (image : Image) (base : Base) (old new : Parts) (is : IsImageOfParts im
   histories : names_in old.names ≡ names_listed image.names
   histories = ap (λ (m : Maps). m.names) is.maps_are
 
+  coins_are : coins_in new.coins ≡ coins_listed image.coins
+  coins_are = ap coins_in heights.coins ∙ ap (λ (m : Maps). m.coins) is.maps_are
+
   tell : TellSame now (names_listed image.names) records (reverse image.undos)
   tell = record {
     names_told = heights.told.names_told ∙ ap names_without histories;
@@ -52,7 +56,6 @@ module _ (image : Image) (base : Base) (old new : Parts) (is : IsImageOfParts im
   refilled_read : (text : List ℕ) → HasText image → text ≡ image_text One image → AreRead One text base new
   refilled_read text has text_is =
       let so : IsRefilled image now records = refilled_so image now records has tell writable in
-      let coins = ap coins_in heights.coins ∙ ap (λ (m : Maps). m.coins) is.maps_are in
       record {
         image = refilled image now records;
         has_text = so.has_text;
@@ -60,7 +63,7 @@ module _ (image : Image) (base : Base) (old new : Parts) (is : IsImageOfParts im
         is = record {
           base_is = is.base_is;
           undos_are = sym so.undos_are;
-          maps_are = (λ i. record { coins = coins i; names = now }) ∙ sym so.maps_are;
+          maps_are = (λ i. record { coins = coins_are i; names = now }) ∙ sym so.maps_are;
         };
       }
 
@@ -73,7 +76,7 @@ module _ (image : Image) (base : Base) (old new : Parts) (is : IsImageOfParts im
         undos_told = alike.state_told.undos_told ∙ ap (map without_heights) (sym is.undos_are);
       } in
       let once = heights.only _ _ _ (maps_listed other) (reverse other.undos) sound told in
-      let coins = ap coins_in heights.coins ∙ ap (λ (m : Maps). m.coins) is.maps_are ∙ sym alike.coins_told in
+      let coins = coins_are ∙ sym alike.coins_told in
       record {
         base_is = is.base_is ∙ sym alike.base_told;
         undos_are = sym once.1;
@@ -98,12 +101,20 @@ pub registered_read : (version : Version) (text : List ℕ) (base : Base) (old n
 registered_read One text base old new heights read = refilled_read read.image base old new read.is heights text read.has_text read.text_is
 registered_read Two text base old new same read = subst (AreRead Two text base) (sym same) read
 
-pub registered_once : (version : Version) (image other : Image) (base : Base) (old new : Parts) → AreRegistered version old new → IsImageOfParts image base old → IsSoundImage other
+registered_once : (version : Version) (image other : Image) (base : Base) (old new : Parts) → AreRegistered version old new → IsImageOfParts image base old → IsSoundImage other
     → image_told version other ≡ image_told version image → IsImageOfParts other base new
 registered_once One image other base old new heights is sound same = told_once image base old new is heights other sound same
 registered_once Two image other base old new registered is sound same =
     subst (λ (parts : Parts). IsImageOfParts other base parts) (sym registered)
     (subst (λ (i : Image). IsImageOfParts i base old) (sym (told_whole image) ∙ sym same ∙ told_whole other) is)
+
+module _ (version : Version) (text : List ℕ) (base : Base) (old new : Parts) (read : AreRead version text base old) (registered : AreRegistered version old new) where
+  -- a sound state with the text is that of the parts
+  pub sound_once : (other_version : Version) (other : Image) → IsSoundText text other_version other → IsImageOfParts other base new
+  sound_once other_version other is =
+      let same : other_version ≡ version = version_one other_version version other read.image (sym is.text_is ∙ read.text_is) in
+      let texts : image_text version other ≡ image_text version read.image = ap (λ (v : Version). image_text v other) (sym same) ∙ sym is.text_is ∙ read.text_is in
+      registered_once version read.image other base old new registered read.is is.sound (image_one version other read.image is.has_text read.has_text texts)
 
 heights_formed : (old new : Parts) → HaveHeights old new → AreFormed old → AreFormed new
 heights_formed old new heights formed =

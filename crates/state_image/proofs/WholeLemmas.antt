@@ -9,13 +9,11 @@ use Rattle.name_tables.specs.declared.tables.Tables.{Tables}
 use Rattle.name_tables.specs.declared.parts.Parts.{Parts}
 use Rattle.undo_records.specs.declared.version.Version.{Version}
 use Rattle.image_grammar.specs.Answers.{IsTextOf}
-use Rattle.image_grammar.specs.Image.{Image, image_told}
 use Rattle.image_grammar.specs.Stages.{image_from}
 use Rattle.image_grammar.specs.Text.{image_text}
 use Rattle.image_grammar.proofs.FewLaws.{few_coins}
-use Rattle.image_grammar.proofs.OneLaws.{image_one, version_one}
 use Rattle.image_grammar.proofs.ReadLaws.{image_takes}
-use Rattle.state_image.specs.Answers.{IsSoundText, IsImageOfParts, IsSoundOn, IsLoaded, place_by, IsImageAnswer}
+use Rattle.state_image.specs.Answers.{IsImageOfParts, IsSoundOn, IsLoaded, place_by, IsImageAnswer}
 use Rattle.state_image.specs.Forming.{AreFormed, IsReadWhole, AreOf, Judges, TellsFault}
 use Rattle.state_image.specs.Registering.{AreRegistered}
 use Rattle.state_image.specs.Standing.{standing}
@@ -24,7 +22,7 @@ use Rattle.state_image.specs.declared.fault.ImageFault.{ImageFault}
 use Rattle.state_image.specs.declared.fault.ImageFault.TheVariants.{Damaged, NoMemory}
 use Rattle.state_image.specs.declared.reading.Reading.{Reading}
 use Rattle.state_image.proofs.FormLemmas.{formed, sound_image, sound_parts}
-use Rattle.state_image.proofs.RegisteredLemmas.{AreRead, AreQueued, registered_read, registered_once, registered_queued}
+use Rattle.state_image.proofs.RegisteredLemmas.{AreRead, AreQueued, registered_read, registered_queued, sound_once}
 use Rattle.state_image.proofs.VersionedLemmas.{image_read, version_read}
 
 -- once the registration heights are set
@@ -35,8 +33,11 @@ judged version base old new (Err (Damaged at)) registered fault = (registered, f
 judged version base old new (Err NoMemory) registered fault = tt
 
 module _ (text : List ℕ) (r : Reading) (whole : IsReadWhole text r) (base : Base) (parts : Parts) (are : AreOf r base parts) where
+  form : image_from text ≡ Ok ((standing r).gathered, [])
+  form = image_read text r.version (standing r).gathered [] whole.read
+
   text_of : IsTextOf text (standing r).gathered
-  text_of = image_takes text (standing r).gathered whole.bytes (image_read text r.version (standing r).gathered [] whole.read)
+  text_of = image_takes text (standing r).gathered whole.bytes form
 
   version_is : text_of.version ≡ r.version
   version_is =
@@ -80,16 +81,9 @@ module _ (text : List ℕ) (r : Reading) (whole : IsReadWhole text r) (base : Ba
           parts_are = record { sound = is.1; queue = tables.queue; filled = tables.filled };
         }
 
-    -- a sound state with the text would be that of the parts
-    no_sound : AreRegistered r.version parts new → (IsSoundOn base new → ⊥) → (version : Version) (image : Image) → IsSoundText text version image → ⊥
-    no_sound registered unsound version image is =
-        let same : version ≡ r.version = version_one version r.version image text_of.image (sym is.text_is ∙ text_is) in
-        let texts : image_text r.version image ≡ image_text r.version text_of.image = ap (λ (v : Version). image_text v image) (sym same) ∙ sym is.text_is ∙ text_is in
-        let told : image_told r.version image ≡ image_told r.version text_of.image = image_one r.version image text_of.image is.has_text text_of.has_text texts in
-        unsound (sound_parts image base new (registered_once r.version text_of.image image base parts new registered image_of is.sound told) is.sound)
-
     pub whole_fault : (fault : ImageFault) → Judges r.version base parts new (Err fault) → IsImageAnswer text (Err fault)
-    whole_fault (Damaged at) is =
-        let form : image_from text ≡ Ok ((standing r).gathered, []) = image_read text r.version (standing r).gathered [] whole.read in
-        record { none = no_sound is.0 is.1; at_is = is.2 ∙ ap (place_by text) (sym form) }
+    whole_fault (Damaged at) is = record {
+      none = λ version image sound. is.1 (sound_parts image base new (sound_once r.version text base parts new read is.0 version image sound) sound.sound);
+      at_is = is.2 ∙ ap (place_by text) (sym form);
+    }
     whole_fault NoMemory is = tt
