@@ -45,9 +45,10 @@ static HEADER_ROWS: [(usize, usize, Found); 10] = [
 ];
 
 /// The same of file 1.
-static AREA_ROWS: [(usize, usize, Found); 9] = [
-    // the length of the image
-    (0, 7, IMAGE),
+static AREA_ROWS: [(usize, usize, Found); 10] = [
+    // the length of the image: 255 bytes that are no image, or more than the file has
+    (0, 0, RECORD),
+    (1, 7, IMAGE),
     // the gate before the record
     (8, 8, Found::Base),
     // the record's length, and its head

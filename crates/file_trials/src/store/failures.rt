@@ -17,10 +17,10 @@ const NOT_OPENED: Answer = Answer::NotOpened(OpenFault::DiskFault);
 /// of which the files are one then.
 static FAILURES: [(u64, u64, (u8, Answer), (Found, Found)); 6] = [
     (1, 12, (0, NOT_MADE), (NONE, Found::Base)),
-    (13, 19, (1, NOT_OPENED), (Found::Base, Found::Base)),
-    (20, 23, (1, Answer::Faulted), (Found::Base, Found::First)),
-    (24, 33, (2, NOT_OPENED), (Found::First, Found::First)),
-    (34, 37, (2, Answer::Faulted), (Found::First, Found::Base)),
+    (13, 22, (1, NOT_OPENED), (Found::Base, Found::Base)),
+    (23, 26, (1, Answer::Faulted), (Found::Base, Found::First)),
+    (27, 39, (2, NOT_OPENED), (Found::First, Found::First)),
+    (40, 43, (2, Answer::Faulted), (Found::First, Found::Base)),
     // no call has this number
     (
         99,

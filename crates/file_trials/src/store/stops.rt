@@ -14,15 +14,15 @@ static STOPS: [(usize, usize, Found, Found); 6] = [
     // while the files are made
     (0, 11, NONE, Found::Base),
     // they are made, and opened
-    (12, 19, Found::Base, Found::Base),
+    (12, 22, Found::Base, Found::Base),
     // while the block is connected
-    (20, 22, Found::Base, Found::First),
+    (23, 25, Found::Base, Found::First),
     // it is connected, and the files are opened again
-    (23, 33, Found::First, Found::First),
+    (26, 39, Found::First, Found::First),
     // while it is disconnected
-    (34, 36, Found::First, Found::Base),
+    (40, 42, Found::First, Found::Base),
     // it is disconnected; the last number is above those of all calls
-    (37, 38, Found::Base, Found::Base),
+    (43, 44, Found::Base, Found::Base),
 ];
 
 fn leaves_each(rt: &impl Abort, alloc: Global, disk: &MemoryDisk) -> Result<(), Fail> {
