@@ -101,15 +101,10 @@ fn a_saved_name_is_reported_as_before(rt: HostRuntime) -> Result<(), Fail> {
 /// What came of a replay.
 #[derive(Clone, Copy, PartialEq, Eq)]
 enum Came {
-    Uninitialised,
-    /// The files weren't opened, for a fault of the disk.
-    Unopened,
     /// The save's reply told a fault of the disk, which ended the replay.
     Faulted,
     /// The save was made, and had number 1.
     Saved,
-    /// The block wasn't there, and was accepted; then the save had number 1.
-    Connected,
     /// The block was there, and the save had number 1, or 2.
     NotYet,
     SavedBefore,
@@ -117,16 +112,9 @@ enum Came {
 }
 
 /// Each status and output that may come.
-static CAMES: [(Status, &str, Came); 7] = [
-    (Status::Uninitialised, "", Came::Uninitialised),
-    (Status::DiskFault, "", Came::Unopened),
+static CAMES: [(Status, &str, Came); 4] = [
     (Status::DiskFault, "fd00000000", Came::Faulted),
     (Status::Done, "saved 0100000000000000", Came::Saved),
-    (
-        Status::Done,
-        "accepted saved 0100000000000000",
-        Came::Connected,
-    ),
     (
         Status::Done,
         "not-on-tip saved 0100000000000000",
@@ -164,10 +152,12 @@ fn save_of(alloc: Global, outside: &mut Outside, fail: u64) -> Result<Came, NoMe
     Ok(Came::Other)
 }
 
-/// So many calls make files with the first block, and no run over the files of these tests makes more calls than this.
-const WITH_BLOCK: usize = 31;
+/// So many calls make files with the first block and open them again: twelve make them, ten open them, four connect the block, and
+/// thirteen open them again.
+const OPENED: usize = 39;
 
-const MANY: usize = 80;
+/// Behind those a save of the block, and what comes behind it, makes fewer than seventeen.
+const MANY: usize = 56;
 
 /// Whether files that were stopped after so many calls of a save may be those of which this comes: saved or not, and behind all calls
 /// saved.
@@ -198,7 +188,7 @@ fn is_right_always(
     after: &mut Outside,
     choice: Choice,
 ) -> Result<bool, NoMemory> {
-    for calls in WITH_BLOCK..MANY + 1 {
+    for calls in OPENED..MANY + 1 {
         if !is_right_after(alloc, disk, after, calls, choice)? {
             return Ok(false);
         }
@@ -232,35 +222,33 @@ fn opens_as_before_or_saved_wherever_it_stops(rt: HostRuntime) -> Result<(), Fai
 /// Where this call fails. The files open again then, saved or not.
 fn fails_at(alloc: Global, outside: &mut Outside, call: usize) -> Result<Came, NoMemory> {
     let came = save_of(alloc, outside, call as u64)?;
+    if came == Came::Saved {
+        return Ok(came);
+    }
     match replay_of(alloc, outside, "first save")? {
         Came::NotYet | Came::SavedBefore => Ok(came),
         _ => Ok(Came::Other),
     }
 }
 
-/// How many calls fail before the files are open, and how many in the save; None where another thing came of one.
-fn failing(alloc: Global, outside: &mut Outside) -> Result<Option<(u8, u8)>, NoMemory> {
-    let mut unopened = 0u8;
+/// How many calls of a save fail; None where another thing came of one.
+fn failing(alloc: Global, outside: &mut Outside) -> Result<Option<u8>, NoMemory> {
     let mut faulted = 0u8;
-    for call in WITH_BLOCK + 1..MANY {
+    for call in OPENED + 1..MANY {
         match fails_at(alloc, outside, call)? {
-            Came::Unopened => unopened = unopened.saturating_add(1),
             Came::Faulted => faulted = faulted.saturating_add(1),
             Came::Saved => {}
             _ => return Ok(None),
         }
     }
-    Ok(Some((unopened, faulted)))
+    Ok(Some(faulted))
 }
 
 struct EachCall;
 
 impl Trial for EachCall {
     fn is_right(alloc: Global, outside: &mut Outside, _row: &str) -> Result<bool, NoMemory> {
-        match failing(alloc, outside)? {
-            Some((unopened, faulted)) => Ok(unopened > 3 && faulted == 9),
-            None => Ok(false),
-        }
+        Ok(failing(alloc, outside)? == Some(9))
     }
 }
 
