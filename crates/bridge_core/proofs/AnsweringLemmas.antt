@@ -31,10 +31,12 @@ asked_answers tells seen disk old reply message ready step no_fault = record {
   step = step;
   told = no_fault;
   untouched = λ asks. refl;
-  leaves = record { later = NeverFell_refl (seen disk).faults; ends = tt; others = λ tell. start (λ other differ. refl); still_on = ready };
+  leaves = record { later = NeverFell_refl (seen disk).faults; ends = tt; others = λ tell. start refl; still_on = ready };
   kept = λ tell run s stands. record {
-    any_moment = moments_of old (seen disk) (ready tell) run stands;
-    done = λ zero. files_of old (seen disk) (ready tell) run stands;
-    undone = λ not_zero other. files_of old (seen disk) (ready tell) run stands;
+    next = run;
+    is_next = record { made = λ either. refl; same = λ undone. refl };
+    any_moment = moments_of old (seen disk) (ready tell) run s stands;
+    done = λ is_zero. files_of old (seen disk) (ready tell) run s stands;
+    undone = λ undone. files_of old (seen disk) (ready tell) run s stands;
   };
 }

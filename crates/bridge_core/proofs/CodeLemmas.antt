@@ -7,10 +7,11 @@ use Rattle.chain_names.specs.Refusals.{number_of}
 use Rattle.chain_commands.specs.Connecting.{Refusal, BadBlock, NotOnTip, HeightLimit, MerkleMismatch, Rule, JournalFull, refusal_reply}
 use Rattle.chain_commands.specs.Disconnecting as back
 use Rattle.chain_commands.specs.Disconnecting.{BackRefusal, AtBase, NotTip, back_reply}
+use Rattle.chain_commands.specs.Saving.{SaveRefusal, CheckpointLimit, ImageLimit, save_refusal_reply}
 use Rattle.chain_commands.proofs.CommandLemmas.{coded, coded_back}
 use Rattle.chain_commands.proofs.RefusalLemmas.{code_of}
-use Rattle.bridge_core.specs.Bridge.{fault_code}
-use Rattle.bridge_core.proofs.TurnLemmas.{IsOther}
+use Rattle.chain_commands.proofs.SavingLemmas.{coded_save}
+use Rattle.bridge_core.specs.Bridge.{IsUndone, fault_code}
 
 -- a rule's number
 numbered : (r : RuleRefusal) → number_of r ≤ 28
@@ -47,18 +48,23 @@ back_small AtBase = omega arith
 back_small (NotTip tip) = omega arith
 back_small back.JournalFull = omega arith
 
-no_fault : (a b : Reply) → a ≡ b → b.code ≤ 28 → a.code ≡ fault_code → ⊥
-no_fault a b e small is = let same = code_of a b e in omega arith
+pub save_small : (r : SaveRefusal) → (save_refusal_reply r).code ≤ 30
+save_small CheckpointLimit = omega arith
+save_small ImageLimit = omega arith
+
+no_fault : (a b : Reply) → a ≡ b → b.code ≤ 30 → a.code ≡ fault_code → ⊥
+no_fault a b e small is = let same = code_of a b e in omega (arith, small, same, is)
 
 module _ (reply : Reply) where
-  pub refused_is_other : (r : Refusal) → reply ≡ refusal_reply r → IsOther reply
-  refused_is_other r e = record {
-    not_done = λ done. coded r (sym (code_of reply (refusal_reply r) e) ∙ done);
-    no_fault = λ is. no_fault reply (refusal_reply r) e (refusal_small r) is;
-  }
+  pub refused_undone : (r : Refusal) → reply ≡ refusal_reply r → IsUndone reply
+  refused_undone r e =
+      let small = refusal_small r in
+      (λ done. coded r (sym (code_of reply (refusal_reply r) e) ∙ done), no_fault reply (refusal_reply r) e (omega (arith, small)))
 
-  pub back_is_other : (r : BackRefusal) → reply ≡ back_reply r → IsOther reply
-  back_is_other r e = record {
-    not_done = λ done. coded_back r (sym (code_of reply (back_reply r) e) ∙ done);
-    no_fault = λ is. no_fault reply (back_reply r) e (back_small r) is;
-  }
+  pub back_undone : (r : BackRefusal) → reply ≡ back_reply r → IsUndone reply
+  back_undone r e =
+      let small = back_small r in
+      (λ done. coded_back r (sym (code_of reply (back_reply r) e) ∙ done), no_fault reply (back_reply r) e (omega (arith, small)))
+
+  pub save_undone : (r : SaveRefusal) → reply ≡ save_refusal_reply r → IsUndone reply
+  save_undone r e = (λ done. coded_save r (sym (code_of reply (save_refusal_reply r) e) ∙ done), no_fault reply (save_refusal_reply r) e (save_small r))

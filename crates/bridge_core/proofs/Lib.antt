@@ -1,4 +1,5 @@
 pub mod CodeLemmas
+pub mod DoneLemmas
 pub mod FileLemmas
 pub mod TurnLemmas
 pub mod ReachedLemmas

@@ -7,9 +7,9 @@ use Rattle.disk_model.specs.Moments as moments
 use Rattle.disk_model.specs.DiskSeen.{DiskSeen, HasFailed, bytes_in}
 use Rattle.disk_model.proofs.MomentLemmas.{weaken}
 use Rattle.disk_model.proofs.ImageLemmas.{KeepsSettled-images}
-use Rattle.gate_journal.specs.Gate.{ClosedAfter}
 use Rattle.gate_journal.specs.Records.{IsArea}
-use Rattle.chain_commands.specs.RunState.{RunState, saved_text}
+use Rattle.chain_commands.specs.RunState.{RunState}
+use Rattle.image_slots.specs.Selections.{HasSelections, selected_by}
 use Rattle.index_commands.specs.Records.{records_of}
 use Rattle.name_store.specs.Header.{header_text}
 use Rattle.name_store.specs.Opening.{IsSynced, OpenAnswer, OpensFor}
@@ -27,15 +27,15 @@ use Rattle.bridge_core.proofs.ReachedLemmas.{front_of_all}
 -- what reads give of the files stands for the run state where they are alike
 stands_alike : (old new : DiskSeen) (run : RunState) → IsSynced old new → Stands (bytes_in old) run → Stands (bytes_in new) run
 stands_alike old new run synced stands = record {
-  header = subst (ClosedAfter (header_text run.base run.host)) (sym (synced.alike 0 (omega arith))) stands.header;
-  area = subst (IsArea (saved_text run) (records_of run.since)) (sym (synced.alike 1 (omega arith))) stands.area;
+  selections = subst (HasSelections (header_text run.base run.host) run.selections) (sym (synced.alike 0 (omega arith))) stands.selections;
+  area = subst (IsArea run.text (records_of run.since)) (sym (synced.alike (selected_by run.selections) (omega arith))) stands.area;
   is_state = stands.is_state;
 }
 
 module _ {D : Type 0} (tells : Bool) (seen : D → DiskSeen) (begun : Beginning D) (o : HasOpened tells begun.before (seen begun.opened) begun.bridge) where
   files_first : (run : RunState) → Begins tells begun run → IsTrue tells → AreFilesOf run (seen begun.opened).moments.now
   files_first run b told =
-      files_of begun.bridge (seen begun.opened) (o.opened told).on_disk run (stands_alike begun.before (seen begun.opened) run (o.synced told) (b.files told))
+      files_of begun.bridge (seen begun.opened) (o.opened told).on_disk run b.stands (stands_alike begun.before (seen begun.opened) run (o.synced told) (b.files told))
 
   abbrev no_turn : Passes tells seen begun [] [] begun.bridge begun.opened
   no_turn = none_yet

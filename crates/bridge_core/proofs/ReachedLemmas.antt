@@ -1,23 +1,24 @@
 -- A run goes on by one turn, or a fault of the disk ends it.
-use Rattle.std.proofs.Common.{◌≡◌, inl, inr, true, false, eqb, ◌==◌, if◌then◌else◌, ℕ, ◌+◌, ◌≤◌, Bool, List, [], ◌∷◌, ◌++◌, length, map, Some, None, Option, refl, sym, ap, subst, ◌∙◌, append_assoc, length-append, arith}
+use Rattle.std.proofs.Common.{◌≡◌, inl, inr, ℕ, ◌+◌, ◌≤◌, Bool, List, [], ◌∷◌, ◌++◌, length, map, Some, None, Option, refl, sym, ap, subst, ◌∙◌, append_assoc, length-append, arith}
 use Rattle.std.specs.Prelude.{IsTrue}
 use Rattle.std.proofs.lemmas.List.{append-nil}
-use Rattle.std.proofs.lemmas.Bool.{cases_eq, eq-eqb, ne_eqb}
+use Rattle.std.proofs.lemmas.Bool.{cases_eq}
 use Rattle.fault_counts.proofs.FaultLemmas.{NeverFell_trans, stayed_then_Rose}
 use Rattle.disk_model.specs.Moments.{Files, EachMoment, start}
 use Rattle.disk_model.specs.DiskSeen.{DiskSeen, HasFailed}
 use Rattle.disk_model.proofs.MomentLemmas.{last_moment, weaken, join}
 use Rattle.feed_frames.specs.Frames.{Frame}
 use Rattle.feed_frames.specs.Replies.{Reply}
-use Rattle.chain_commands.specs.Event.{Command, Event, Do, Ask, event_frame}
-use Rattle.chain_commands.specs.RunState.{RunState, accepted, all_accepted}
+use Rattle.chain_commands.specs.Event.{Event, Do, Ask, Save, event_frame}
+use Rattle.chain_commands.specs.RunState.{RunState}
 use Rattle.machine.specs.Step.{Step, Run}
-use Rattle.machine.proofs.RunLemmas.{run_push, run_state}
+use Rattle.machine.proofs.RunLemmas.{run_push, step_leaves}
 use Rattle.name_store.specs.Stands.{Bytes, Stands}
 use Rattle.name_store.specs.Stored.{Stored}
-use Rattle.bridge_core.specs.Bridge.{accepted_by, AsksNothing, AnswersEvent, AreFilesOf, OutlivesCrashes, LeavesDisk}
-use Rattle.bridge_core.specs.Reached.{Beginning, Begins, Passes, none_yet, one_more, StandsForFront, StandsForAsked, Asked, asked, LeavesFront, LeavesOldOrFront, HoldsAnswered, LeadsTo, IsReached, BreaksAt, IsBroken}
+use Rattle.bridge_core.specs.Bridge.{fault_code, IsUndone, AsksNothing, AnswersEvent, AreFilesOf, OutlivesCrashes, LeavesDisk}
+use Rattle.bridge_core.specs.Reached.{Beginning, Begins, Passes, none_yet, one_more, StandsForFront, StandsForAsked, Asked, asked, LeavesFront, LeavesOldOrFront, HoldsAnswered, LeadsTo, IsReached, KeepsNext, BreaksAt, IsBroken}
 use Rattle.bridge_core.specs.declared.bridge.Turned.TheVariants.{On, Ended}
+use Rattle.bridge_core.proofs.DoneLemmas.{done_once}
 
 pub frames_push : (events : List Event) (event : Event) → map event_frame events ++ event_frame event ∷ [] ≡ map event_frame (events ++ event ∷ [])
 frames_push [] event = refl
@@ -99,19 +100,25 @@ module _ (run : RunState) where
         holds_more few many most mid now before (omega (arith, here)) more turn held.1,
       )
 
--- ---- the state behind one step
+-- ---- what one event does
 
-abbrev if_accepted : Command → Reply → List Command
-if_accepted command_is reply = if reply.code == 0 then command_is ∷ [] else []
+-- it is done, and its reply has code 0; or the state stays, and the disk wasn't asked
+pub data Comes (old new : RunState) (reply : Reply) (Same : Type 0) : Type 0 where
+  does : reply.code ≡ 0 → Comes old new reply Same
+  remains : new ≡ old → Same → Comes old new reply Same
 
-step_state : (old new : RunState) (last : Command) (reply : Reply) → Step old (Do last) reply new → new ≡ all_accepted old (if_accepted last reply)
-step_state old new last reply step = run_state old new (Do last ∷ []) (reply ∷ []) (new, step, refl)
+comes_by : (old new : RunState) (event : Event) (reply : Reply) (Same : Type 0) → Step old event reply new → (AsksNothing event reply → Same) → (IsUndone reply → AsksNothing event reply)
+    → ¬ (reply.code ≡ fault_code) → Comes old new reply Same
+comes_by old new event reply Same step untouched asks no_fault = elim (cases_eq reply.code 0) [
+  | inl is_zero ↦ does is_zero
+  | inr undone ↦ remains ((step_leaves old new event reply step).undone undone) (untouched (asks (undone, no_fault)))
+]
 
-step_done : (old new : RunState) (last : Command) (reply : Reply) → Step old (Do last) reply new → eqb reply.code 0 ≡ true → new ≡ accepted old last
-step_done old new last reply step done = step_state old new last reply step ∙ ap (λ (b : Bool). all_accepted old (if b then last ∷ [] else [])) done
-
-step_undone : (old new : RunState) (last : Command) (reply : Reply) → Step old (Do last) reply new → eqb reply.code 0 ≡ false → new ≡ old
-step_undone old new last reply step undone = step_state old new last reply step ∙ ap (λ (b : Bool). all_accepted old (if b then last ∷ [] else [])) undone
+-- a message, a command and a save that weren't done ask nothing
+asks_nothing : (event : Event) (reply : Reply) → IsUndone reply → AsksNothing event reply
+asks_nothing (Do command) reply undone = undone
+asks_nothing (Ask message) reply undone = tt
+asks_nothing Save reply undone = undone
 
 -- ---- a turn
 
@@ -133,32 +140,21 @@ module _ {D : Type 0} (tells : Bool) (seen : D → DiskSeen) (begun : Beginning 
     runs_next : Run run (r.events ++ event ∷ []) (replies ++ reply ∷ []) next
     runs_next = run_push run r.events replies led.new (record { event = event; reply = reply; next = next; step = (a.step led.new led.stands).step }) led.runs
 
-    -- what came of the event in the run state, and on the disk
-    data Came : Type 0 where
-      joins : next ≡ accepted_by led.new event → reply.code ≡ 0 → Came
-      leaves : next ≡ led.new → after ≡ before → Came
-
-    came_of : (e : Event) → event ≡ e → Came
-    came_of (Do last) is =
-        let step : Step led.new (Do last) reply next = subst (λ (x : Event). Step led.new x reply next) is (a.step led.new led.stands).step in
-        elim (cases_eq reply.code 0) [
-          | inl done ↦ joins (step_done led.new next last reply step (eq-eqb reply.code 0 done) ∙ ap (accepted_by led.new) (sym is)) done
-          | inr undone ↦ leaves (step_undone led.new next last reply step (ne_eqb reply.code 0 undone)) (a.untouched (subst (λ (x : Event). AsksNothing x reply) (sym is) (undone, a.told)))
-        ]
-    came_of (Ask message) is =
-        let step : Step led.new (Ask message) reply next = subst (λ (x : Event). Step led.new x reply next) is (a.step led.new led.stands).step in
-        leaves step.unchanged (a.untouched (subst (λ (x : Event). AsksNothing x reply) (sym is) tt))
-
     crashes : IsTrue tells → OutlivesCrashes led.new event (seen before) (seen after) reply
     crashes told = a.kept told led.new led.stands (led.files told).read
 
-    files_by : IsTrue tells → Came → AreFilesOf next (seen after).moments.now
-    files_by told (joins new-is done) = subst (λ (x : RunState). AreFilesOf x (seen after).moments.now) (sym new-is) ((crashes told).done done)
-    files_by told (leaves new-is same) =
-        subst (λ (x : RunState). AreFilesOf x (seen after).moments.now) (sym new-is) (subst (λ (d : D). AreFilesOf led.new (seen d).moments.now) (sym same) (led.files told))
+    -- what came of the event in the run state, and on the disk
+    came : Comes led.new next reply (after ≡ before)
+    came = comes_by led.new next event reply (after ≡ before) (a.step led.new led.stands).step a.untouched (asks_nothing event reply) a.told
 
-    abbrev before_event : (least : ℕ) → Files → Type 0
-    before_event least = LeavesFront run least with_event
+    -- what was kept is what the machine did
+    kept_is : (told : IsTrue tells) → reply.code ≡ 0 → next ≡ (crashes told).next
+    kept_is told is_zero = done_once led.new event reply next (crashes told).next (a.step led.new led.stands).step is_zero ((crashes told).is_next.made (inl is_zero))
+
+    files_by : IsTrue tells → Comes led.new next reply (after ≡ before) → AreFilesOf next (seen after).moments.now
+    files_by told (does is_zero) = subst (λ (x : RunState). AreFilesOf x (seen after).moments.now) (sym (kept_is told is_zero)) ((crashes told).done is_zero)
+    files_by told (remains new-is same) =
+        subst (λ (x : RunState). AreFilesOf x (seen after).moments.now) (sym new-is) (subst (λ (d : D). AreFilesOf led.new (seen d).moments.now) (sym same) (led.files told))
 
     of_old : (image_is : Bytes) → Stands image_is led.new → StandsForAsked run (length r.events) with_event image_is
     of_old image_is stands = inl (front_more run event reply (front_of_all run (length r.events) (omega arith) led.runs stands))
@@ -166,18 +162,15 @@ module _ {D : Type 0} (tells : Bool) (seen : D → DiskSeen) (begun : Beginning 
     of_new : (image_is : Bytes) → Stands image_is next → StandsForAsked run (length r.events) with_event image_is
     of_new image_is stands = inl (front_of_all run (length r.events) (omega (arith, length-append r.events (event ∷ []))) runs_next stands)
 
-    moments_by : IsTrue tells → Came → EachMoment (LeavesFront run (length r.events) with_event) (seen before).moments (seen after).moments
-    moments_by told (joins new-is done) =
+    moments_by : IsTrue tells → Comes led.new next reply (after ≡ before) → EachMoment (LeavesFront run (length r.events) with_event) (seen before).moments (seen after).moments
+    moments_by told (does is_zero) =
         weaken (LeavesFront run (length r.events) with_event) (λ files each image_is is. elim (each image_is is) [
           | inl stands ↦ of_old image_is stands
-          | inr stands ↦ of_new image_is (subst (λ (x : RunState). Stands image_is x) (sym new-is) stands)
+          | inr stands ↦ of_new image_is (subst (λ (x : RunState). Stands image_is x) (sym (kept_is told is_zero)) stands)
         ]) (crashes told).any_moment
-    moments_by told (leaves new-is same) =
+    moments_by told (remains new-is same) =
         subst (λ (d : D). EachMoment (LeavesFront run (length r.events) with_event) (seen before).moments (seen d).moments) (sym same)
         (start (λ image_is is. of_old image_is ((led.files told).each image_is is)))
-
-    came : Came
-    came = came_of event refl
 
     leads_next : LeadsTo (one_more event reply new after r.passes a) run
     leads_next = record {
@@ -213,39 +206,45 @@ module _ {D : Type 0} (tells : Bool) (seen : D → DiskSeen) (begun : Beginning 
   module _ (a : AnswersEvent tells seen old before event reply Ended after) where
     failed : HasFailed (seen before) (seen after)
     failed = ends_with_it event refl a.leaves where
-      ends_with_it : (e : Event) → event ≡ e → LeavesDisk tells (seen before) (seen after) event reply Ended → HasFailed (seen before) (seen after)
+      ends_with_it : (e : Event) → event ≡ e → LeavesDisk tells old (seen before) (seen after) event reply Ended → HasFailed (seen before) (seen after)
       ends_with_it e is l = l.ends
 
     module _ (run : RunState) (b : Begins tells begun run) where
       abbrev led_to : LeadsTo r.passes run
       led_to = r.each run b
 
-      abbrev keeping : Asked
-      keeping = asked r.events replies (Some (accepted_by led_to.new event))
+      module _ (told : IsTrue tells) where
+        broken : OutlivesCrashes led_to.new event (seen before) (seen after) reply
+        broken = a.kept told led_to.new led_to.stands (led_to.files told).read
 
-      moments_broken : IsTrue tells → EachMoment (LeavesFront run (length r.events) keeping) (seen before).moments (seen after).moments
-      moments_broken told =
-          weaken (LeavesFront run (length r.events) keeping) (λ files each image_is is. elim (each image_is is) [
-            | inl stands ↦ inl (front_of_all run (length r.events) (omega arith) led_to.runs stands)
-            | inr stands ↦ inr stands
-          ]) (a.kept told led_to.new led_to.stands (led_to.files told).read).any_moment
+        abbrev keeping : Asked
+        keeping = asked r.events replies (Some broken.next)
+
+        moments_broken : EachMoment (LeavesFront run (length r.events) keeping) (seen before).moments (seen after).moments
+        moments_broken =
+            weaken (LeavesFront run (length r.events) keeping) (λ files each image_is is. elim (each image_is is) [
+              | inl stands ↦ inl (front_of_all run (length r.events) (omega arith) led_to.runs stands)
+              | inr stands ↦ inr stands
+            ]) broken.any_moment
+
+        keeps_next : KeepsNext r.passes event after run led_to.new
+        keeps_next = record {
+          kept = broken.next;
+          is_kept = broken.is_next.made (inr (ap (λ (x : Reply). x.code) a.told));
+          files = last_moment broken.any_moment;
+          any_moment =
+              join (weaken (LeavesOldOrFront begun.before run keeping) (λ files leaves image_is is. elim (leaves image_is is) [
+                | inl there ↦ inl there
+                | inr so ↦ inr (elim so [ inl f ↦ inl f | inr none ↦ absurd none ])
+              ]) (led_to.any_moment told))
+              (weaken (LeavesOldOrFront begun.before run keeping) (λ files leaves image_is is. inr (leaves_fewer run keeping (omega arith) files leaves image_is is)) moments_broken);
+          acknowledged =
+              holds_more run (asked r.events replies None) keeping (length r.events) (seen before) (seen after) r.passes (omega arith) (λ least files leaves. leaves_kept run keeping.kept files leaves)
+              moments_broken (led_to.acknowledged told);
+        }
 
       breaks_at : BreaksAt r.passes event after run
-      breaks_at = record {
-        new = led_to.new;
-        runs = led_to.runs;
-        valid = a.step led_to.new led_to.stands;
-        files = λ told. last_moment (a.kept told led_to.new led_to.stands (led_to.files told).read).any_moment;
-        any_moment = λ told.
-            join (weaken (LeavesOldOrFront begun.before run keeping) (λ files leaves image_is is. elim (leaves image_is is) [
-              | inl there ↦ inl there
-              | inr so ↦ inr (elim so [ inl f ↦ inl f | inr none ↦ absurd none ])
-            ]) (led_to.any_moment told))
-            (weaken (LeavesOldOrFront begun.before run keeping) (λ files leaves image_is is. inr (leaves_fewer run keeping (omega arith) files leaves image_is is)) (moments_broken told));
-        acknowledged = λ told.
-            holds_more run (asked r.events replies None) keeping (length r.events) (seen before) (seen after) r.passes (omega arith) (λ least files leaves. leaves_kept run keeping.kept files leaves)
-            (moments_broken told) (led_to.acknowledged told);
-      }
+      breaks_at = record { new = led_to.new; runs = led_to.runs; valid = a.step led_to.new led_to.stands; crashes = λ told. keeps_next told }
 
     pub broken_by : IsBroken tells seen begun (frames ++ event_frame event ∷ []) (replies ++ reply ∷ []) after
     broken_by = record {

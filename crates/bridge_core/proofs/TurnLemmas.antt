@@ -1,26 +1,34 @@
--- A turn of a bridge by what came of the command in its store: of a connect and of a disconnect alike.
+-- A turn of a bridge by what came of the request in its store: of a connect, of a disconnect and of a save alike.
 use Rattle.std.proofs.Common.{◌≡◌, ℕ, List, ◌++◌, refl, sym, ap, subst, ◌∙◌, arith}
-use Rattle.std.specs.Prelude.{Bool}
-use Rattle.std.specs.Int.{w32, to_le_bytes}
+use Rattle.std.specs.Prelude.{Bool, IsFalse}
+use Rattle.std.specs.Int.{w32, w64, to_le_bytes}
 use Rattle.disk_model.specs.DiskSeen.{DiskSeen, bytes_in}
 use Rattle.feed_frames.specs.Replies.{Reply}
 use Rattle.nmc_base.specs.declared.chain_ends.Tip.{Tip}
 use Rattle.chain_commands.specs.Chain.{Chain, height_of}
-use Rattle.chain_commands.specs.Event.{Command, Do}
+use Rattle.chain_commands.specs.Event.{Command, Event, Do, Ask, Save}
 use Rattle.chain_commands.specs.RunState.{RunState, chain_of, accepted}
 use Rattle.chain_commands.specs.Reply.{accepted_reply, no_memory_reply}
-use Rattle.chain_commands.specs.Refusals.{Refusals, HasNoneBelow, Answers, accepts, declines, lacks_memory}
+use Rattle.chain_commands.specs.Refusals.{Refusals, HasNoneBelow, Answers, accepts, declines, lacks_memory, LeavesDone}
+use Rattle.chain_commands.specs.Saving as saving
 use Rattle.chain_commands.proofs.RefusalLemmas.{code_of}
+use Rattle.machine.specs.Leaving.{IsDoneBy}
 use Rattle.machine.specs.Step.{Step}
 use Rattle.name_store.specs.Outcomes as store
-use Rattle.name_store.specs.Outcomes.{AnswersFor, IfUndone, KeepsOn}
+use Rattle.name_store.specs.Outcomes.{AnswersFor, IfUndone, IsDone, KeepsOn}
+use Rattle.name_store.specs.declared.saving.SaveRefusal.{SaveRefusal}
 use Rattle.name_store.specs.declared.store.Outcome.{Outcome}
 use Rattle.name_store.specs.declared.store.Outcome.TheVariants.{Done, Refused, NoMemory, Faulted}
+use Rattle.name_store.specs.Saves.{IsSavedAs, save_refusal_of}
 use Rattle.name_store.specs.Stands.{Stands}
 use Rattle.name_store.specs.Stored.{Stored, StandsFor, IsTipOf}
-use Rattle.bridge_core.specs.Bridge.{IsValidEvent, fault_code, fault_reply, AnswersEvent, Moves}
+use Rattle.bridge_core.specs.Bridge.{IsValidEvent, IsUndone, AsksNothing, EndsOn, SparesFiles, fault_code, fault_reply, AnswersEvent}
+use Rattle.bridge_core.specs.declared.bridge.Turned.{Turned}
 use Rattle.bridge_core.specs.declared.bridge.Turned.TheVariants.{On, Ended}
-use Rattle.bridge_core.proofs.FileLemmas.{files_of, crashes_done, crashes_undone}
+use Rattle.bridge_core.proofs.DoneLemmas.{done_once}
+use Rattle.bridge_core.proofs.FileLemmas.{files_of, crashes_done, crashes_undone, crashes_faulted}
+
+-- ---- what is told
 
 abbrev pub told_tip : Tip → Reply
 told_tip tip = record { code = 0; payload = to_le_bytes w32 tip.height ++ tip.hash.0 }
@@ -31,92 +39,183 @@ tip_told tip chain is =
     ap (λ (n : ℕ). record { code = 0; payload = to_le_bytes w32 n ++ tip.hash.0 }) is.height
     ∙ ap (λ (hash : List ℕ). record { code = 0; payload = to_le_bytes w32 (height_of chain) ++ hash }) is.hash
 
--- a code that is none of an acceptance and none of a fault
-pub record IsOther (reply : Reply) : Type 0 where
-  pub not_done : reply.code ≡ 0 → ⊥
-  pub no_fault : reply.code ≡ fault_code → ⊥
+abbrev pub told_number : ℕ → Reply
+told_number number = record { code = 0; payload = to_le_bytes w64 number }
 
--- ---- a command, whose refusals are looked for so
+-- ---- requests
 
-module _ {D : Type 0} (tells : Bool) (seen : D → DiskSeen) {R M : Type 0} (refusals : Refusals M) (HoldsOf : RunState → M → Type 0) (view : R → M) (command_is : Command) where
-  abbrev lacking : Stored → Outcome R
+-- A request in the store and in the machine: its refusals with the condition of each, and the store's as the machine's; what it does in
+-- the store and what it leaves in the machine where it is done; how what the store tells is told; and its event.
+pub record Request (T R M : Type 0) : Type 1 where
+  pub refusals : Refusals M
+  pub HoldsOf : RunState → M → Type 0
+  pub view : R → M
+  pub DoesOf : RunState → Stored → T → Type 0
+  pub LeavesOf : RunState → Reply → RunState → Type 0
+  pub told_as : T → Reply
+  pub event : Event
+
+-- the run state that the machine leaves, which the store stands for
+pub record Leads {T R M : Type 0} (request : Request T R M) (run : RunState) (new : Stored) (told : T) : Type 0 where
+  pub next : RunState
+  pub leaves : request.LeavesOf run (request.told_as told) next
+  pub stands : StandsFor new next
+
+-- It is no message; where it is done, code 0 is told and the machine leaves what the store stands for; an answer of the machine is
+-- its step; and without a refusal it is valid.
+pub record IsKind {T R M : Type 0} (request : Request T R M) : Type 0 where
+  pub asks : (reply : Reply) → AsksNothing request.event reply → IsUndone reply
+  pub code_is : (told : T) → (request.told_as told).code ≡ 0
+  pub leads : (run : RunState) (new : Stored) (told : T) → request.DoesOf run new told → Leads request run new told
+  pub steps : (run : RunState) (reply : Reply) (new : RunState) → Answers request.refusals (request.HoldsOf run) (request.LeavesOf run) run reply new
+      → Step run request.event reply new
+  pub valid : (run : RunState) → HasNoneBelow (request.HoldsOf run) request.refusals.order request.refusals.places → IsValidEvent run request.event
+
+abbrev pub a_command : {R M : Type 0} → Refusals M → (RunState → M → Type 0) → (R → M) → Command → Request Tip R M
+a_command refusals HoldsOf view command = record {
+  refusals = refusals;
+  HoldsOf = HoldsOf;
+  view = view;
+  DoesOf = λ run new tip. IsDone run command new tip;
+  LeavesOf = λ run reply new. LeavesDone run command reply new;
+  told_as = told_tip;
+  event = Do command;
+}
+
+pub is_command : {R M : Type 0} (refusals : Refusals M) (HoldsOf : RunState → M → Type 0) (view : R → M) (command : Command)
+    → ((run : RunState) (reply : Reply) (new : RunState) → Answers refusals (HoldsOf run) (LeavesDone run command) run reply new → Step run (Do command) reply new)
+    → ((run : RunState) → HasNoneBelow (HoldsOf run) refusals.order refusals.places → IsValidEvent run (Do command)) → IsKind (a_command refusals HoldsOf view command)
+is_command refusals HoldsOf view command steps valid = record {
+  asks = λ reply asks. asks;
+  code_is = λ tip. refl;
+  leads = λ run new tip did. record {
+    next = accepted run command;
+    leaves = record { state_is = refl; told = tip_told tip (chain_of (accepted run command)) did.tip_is };
+    stands = did.stands;
+  };
+  steps = steps;
+  valid = valid;
+}
+
+abbrev pub a_save : Request ℕ SaveRefusal saving.SaveRefusal
+a_save = record {
+  refusals = saving.saves;
+  HoldsOf = saving.HoldsSave;
+  view = save_refusal_of;
+  DoesOf = IsSavedAs;
+  LeavesOf = saving.LeavesSaved;
+  told_as = told_number;
+  event = Save;
+}
+
+pub is_save : IsKind a_save
+is_save = record {
+  asks = λ reply asks. asks;
+  code_is = λ number. refl;
+  leads = λ run new number did. record { next = did.next; leaves = record { is_saved = did.is_saved; told = ap told_number did.number_is }; stands = did.stands };
+  steps = λ run reply new answers. answers;
+  valid = λ run none. none;
+}
+
+-- ---- a turn
+
+pub ends_on : (before after : DiskSeen) (event : Event) (reply : Reply) (new : Stored) → (reply.code ≡ 0 → IsFalse after.failed) → EndsOn before after event reply (On new)
+ends_on before after (Do command) reply new worked = worked
+ends_on before after (Ask message) reply new worked = tt
+ends_on before after Save reply new worked = worked
+
+-- the bridge and its disk at a turn, and its reply
+pub record Turn (D : Type 0) : Type 0 where
+  pub tells : Bool
+  pub seen : D → DiskSeen
+  pub old : Stored
+  pub before : D
+  pub after : D
+  pub reply : Reply
+
+module _ {D T R M : Type 0} (t : Turn D) (request : Request T R M) where
+  abbrev lacking : Stored → Outcome T R
   lacking new = NoMemory new
 
   -- what the store's call says
-  pub record Did (old : Stored) (before after : D) (outcome : Outcome R) : Type 0 where
-    pub answers : (run : RunState) → StandsFor old run → AnswersFor refusals (HoldsOf run) view run command_is outcome
-    pub undone : IfUndone (after ≡ before) outcome
-    pub leaves : store.LeavesDisk tells (seen before) (seen after) outcome
-    pub kept : KeepsOn tells old command_is (seen before) (seen after) outcome
+  pub record Did (outcome : Outcome T R) : Type 0 where
+    pub answers : (run : RunState) → StandsFor t.old run → AnswersFor request.refusals (request.HoldsOf run) request.view (request.DoesOf run) run outcome
+    pub undone : IfUndone (t.after ≡ t.before) outcome
+    pub leaves : store.LeavesDisk t.tells (SparesFiles t.old request.event) (t.seen t.before) (t.seen t.after) outcome
+    pub kept : KeepsOn t.tells t.old (λ run next. IsDoneBy run request.event next) (t.seen t.before) (t.seen t.after) outcome
 
-  -- an answer of the machine is its step, and a command without a refusal is valid
-  pub record IsKind : Type 0 where
-    pub steps : (run : RunState) (reply : Reply) (new : RunState) → Answers refusals (HoldsOf run) run (accepted run command_is) reply new → Step run (Do command_is) reply new
-    pub valid : (run : RunState) → HasNoneBelow (HoldsOf run) refusals.order refusals.places → IsValidEvent run (Do command_is)
+  abbrev pub Answered : Turned → Type 0
+  Answered turned = AnswersEvent t.tells t.seen t.old t.before request.event t.reply turned t.after
 
-  module _ (kind : IsKind) (old : Stored) (before after : D) (reply : Reply) where
-    pub command_done : (new : Stored) (tip : Tip) → Did old before after (Done new tip) → reply ≡ told_tip tip
-        → AnswersEvent tells seen old before (Do command_is) reply (On new) after
-    command_done new tip d told =
-        let zero : reply.code ≡ 0 = code_of reply (told_tip tip) told in
+  -- the machine's step stays where it is, and so does what the store stands for
+  abbrev Stays : Stored → Type 0
+  Stays new = (run : RunState) → StandsFor t.old run → Step run request.event t.reply run × StandsFor new run
+
+  module _ (kind : IsKind request) where
+    pub request_done : (new : Stored) (told : T) → Did (Done new told) → t.reply ≡ request.told_as told → Answered (On new)
+    request_done new told d same =
+        let is_zero : t.reply.code ≡ 0 = code_of t.reply (request.told_as told) same ∙ kind.code_is told in
+        let lead : (run : RunState) → StandsFor t.old run → Leads request run new told = λ run s. kind.leads run new told (d.answers run s).1 in
+        let step : (run : RunState) (s : StandsFor t.old run) → Step run request.event t.reply (lead run s).next = λ run s.
+        kind.steps run t.reply (lead run s).next (accepts (d.answers run s).0 (subst (λ (reply : Reply). request.LeavesOf run reply (lead run s).next) (sym same) (lead run s).leaves)) in
         record {
-          step = λ run s.
-              let on = d.answers run s in
-              record {
-                new = accepted run command_is;
-                step = kind.steps run reply (accepted run command_is) (accepts on.0 refl (told ∙ tip_told tip (chain_of (accepted run command_is)) on.1.tip_is));
-                stands = on.1.stands;
-              };
-          told = λ fault. absurd (omega (arith, zero, fault));
-          untouched = λ asks. absurd (asks.0 zero);
-          leaves = record { later = d.leaves.later; ends = λ is. d.leaves.worked; others = d.leaves.others; still_on = d.leaves.still_on };
+          step = λ run s. record { new = (lead run s).next; step = step run s; stands = (lead run s).stands };
+          told = λ fault. absurd (omega (arith, is_zero, fault));
+          untouched = λ asks. absurd ((kind.asks t.reply asks).0 is_zero);
+          leaves = record {
+            later = d.leaves.later;
+            ends = ends_on (t.seen t.before) (t.seen t.after) request.event t.reply new (λ is. d.leaves.worked);
+            others = d.leaves.others;
+            still_on = d.leaves.still_on;
+          };
           kept = λ tell run s stands.
-              let crashes = d.kept tell run s stands in
-              crashes_done run (Do command_is) (seen before) (seen after) reply crashes.any_moment zero (files_of new (seen after) (d.leaves.still_on tell) (accepted run command_is) crashes.done);
+              let k = d.kept tell run s stands in
+              let stands_next = subst (StandsFor new) (done_once run request.event t.reply (lead run s).next k.next (step run s) is_zero k.is_next) (lead run s).stands in
+              crashes_done run request.event (t.seen t.before) (t.seen t.after) t.reply (record { next = k.next; any_moment = k.any_moment }) is_zero k.is_next
+              (files_of new (t.seen t.after) (d.leaves.still_on tell) k.next stands_next k.done);
         }
 
     -- the store is as it was, and the disk wasn't asked
-    command_not_done : (new : Stored) → IsOther reply → after ≡ before
-        → ((run : RunState) → StandsFor old run → Moves run (Do command_is) reply new)
-        → store.LeavesDisk tells (seen before) (seen after) (lacking new) → KeepsOn tells old command_is (seen before) (seen after) (lacking new)
-        → AnswersEvent tells seen old before (Do command_is) reply (On new) after
-    command_not_done new other same step leaves kept = record {
-      step = step;
-      told = other.no_fault;
+    request_undone : (new : Stored) → IsUndone t.reply → t.after ≡ t.before → Stays new
+        → store.LeavesDisk t.tells (SparesFiles t.old request.event) (t.seen t.before) (t.seen t.after) (lacking new)
+        → KeepsOn t.tells t.old (λ run next. IsDoneBy run request.event next) (t.seen t.before) (t.seen t.after) (lacking new) → Answered (On new)
+    request_undone new undone same stays leaves kept = record {
+      step = λ run s. record { new = run; step = (stays run s).0; stands = (stays run s).1 };
+      told = undone.1;
       untouched = λ asks. same;
-      leaves = record { later = leaves.later; ends = λ zero. absurd (other.not_done zero); others = leaves.others; still_on = leaves.still_on };
+      leaves = record {
+        later = leaves.later;
+        ends = ends_on (t.seen t.before) (t.seen t.after) request.event t.reply new (λ is_zero. absurd (undone.0 is_zero));
+        others = leaves.others;
+        still_on = leaves.still_on;
+      };
       kept = λ tell run s stands.
-          crashes_undone run (Do command_is) (seen before) (seen after) reply (kept tell run s stands).any_moment other.not_done
-          (files_of new (seen after) (leaves.still_on tell) run (subst (λ (d : D). Stands (bytes_in (seen d)) run) (sym same) stands));
+          let k = kept tell run s stands in
+          crashes_undone run request.event (t.seen t.before) (t.seen t.after) t.reply (record { next = k.next; any_moment = k.any_moment }) undone k.is_next
+          (files_of new (t.seen t.after) (leaves.still_on tell) run (stays run s).1 (subst (λ (d : D). Stands (bytes_in (t.seen d)) run) (sym same) stands));
     }
 
-    pub command_refused : (new : Stored) (refusal : R) → Did old before after (Refused new refusal) → reply ≡ refusals.reply_of (view refusal) → IsOther reply
-        → AnswersEvent tells seen old before (Do command_is) reply (On new) after
-    command_refused new refusal d told other =
-        command_not_done new other d.undone (λ run s.
-        let on = d.answers run s in
-        record { new = run; step = kind.steps run reply run (declines (view refusal) on.0 refl told); stands = on.1 })
+    pub request_refused : (new : Stored) (refusal : R) → Did (Refused new refusal) → t.reply ≡ request.refusals.reply_of (request.view refusal) → IsUndone t.reply → Answered (On new)
+    request_refused new refusal d told undone =
+        request_undone new undone d.undone (λ run s. (kind.steps run t.reply run (declines (request.view refusal) (d.answers run s).0 refl told), (d.answers run s).1))
         (record { later = d.leaves.later; worked = tt; failed = tt; still_on = d.leaves.still_on; others = d.leaves.others })
-        (λ tell run s stands. let k = d.kept tell run s stands in record { done = tt; any_moment = k.any_moment })
+        (λ tell run s stands. let k = d.kept tell run s stands in record { next = k.next; is_next = k.is_next; done = tt; any_moment = k.any_moment })
 
-    pub command_lacking : (new : Stored) → Did old before after (NoMemory new) → reply ≡ no_memory_reply → AnswersEvent tells seen old before (Do command_is) reply (On new) after
-    command_lacking new d told =
-        let code = code_of reply no_memory_reply told in
-        command_not_done new (record { not_done = λ zero. omega (arith, code, zero); no_fault = λ fault. omega (arith, code, fault) }) d.undone (λ run s.
-        let on = d.answers run s in
-        record { new = run; step = kind.steps run reply run (lacks_memory on.0 refl told); stands = on.1 }) d.leaves d.kept
+    pub request_lacking : (new : Stored) → Did (NoMemory new) → t.reply ≡ no_memory_reply → Answered (On new)
+    request_lacking new d told =
+        let code = code_of t.reply no_memory_reply told in
+        request_undone new (λ is_zero. omega (arith, code, is_zero), λ fault. omega (arith, code, fault)) d.undone
+        (λ run s. (kind.steps run t.reply run (lacks_memory (d.answers run s).0 refl told), (d.answers run s).1)) d.leaves d.kept
 
-    pub command_faulted : Did old before after Faulted → reply ≡ fault_reply → AnswersEvent tells seen old before (Do command_is) reply Ended after
-    command_faulted d told =
-        let code = code_of reply fault_reply told in
+    pub request_faulted : Did Faulted → t.reply ≡ fault_reply → Answered Ended
+    request_faulted d told =
+        let code : t.reply.code ≡ fault_code = code_of t.reply fault_reply told in
         record {
           step = λ run s. kind.valid run (d.answers run s);
           told = told;
-          untouched = λ asks. absurd (asks.1 code);
+          untouched = λ asks. absurd ((kind.asks t.reply asks).1 code);
           leaves = record { later = d.leaves.later; ends = d.leaves.failed; others = d.leaves.others; still_on = λ tell. tt };
-          kept = λ tell run s stands. record {
-            any_moment = (d.kept tell run s stands).any_moment;
-            done = λ zero. absurd (omega (arith, zero, code));
-            undone = λ not_zero no_fault. absurd (no_fault code);
-          };
+          kept = λ tell run s stands.
+              let k = d.kept tell run s stands in
+              crashes_faulted run request.event (t.seen t.before) (t.seen t.after) t.reply (record { next = k.next; any_moment = k.any_moment }) code k.is_next;
         }

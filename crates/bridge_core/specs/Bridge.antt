@@ -1,41 +1,40 @@
 -- What the turn of a bridge does, of every run state that the bridge stands for.
-use Rattle.std.specs.Prelude.{◌≡◌, ◌≢◌, ℕ, [], Bool, IsTrue, IsFalse}
+use Rattle.std.specs.Prelude.{◌≡◌, ◌≢◌, ◌⊎◌, ℕ, [], Bool, IsTrue, IsFalse}
 use Rattle.fault_counts.specs.Faults.{NeverFell}
 use Rattle.feed_frames.specs.Replies.{Reply}
 use Rattle.disk_model.specs.Moments.{Files, EachMoment}
-use Rattle.disk_model.specs.Changes.{LeavesOthers}
+use Rattle.disk_model.specs.Changes.{LeavesOthers, Unchanged}
 use Rattle.disk_model.specs.DiskSeen.{DiskSeen, HasFailed, bytes_in}
 use Rattle.index_commands.specs.Costs.{IsCheap}
-use Rattle.name_store.specs.Damage.{area_file}
-use Rattle.chain_commands.specs.Event.{Command, Event, Connect, Disconnect, Do, Ask}
-use Rattle.chain_commands.specs.RunState.{RunState, chain_of, IsFull, accepted}
+use Rattle.chain_commands.specs.Event.{Command, Event, Connect, Disconnect, Do, Ask, Save}
+use Rattle.chain_commands.specs.RunState.{RunState, chain_of, IsFull}
+use Rattle.chain_commands.specs.Refusals.{HasNoneBelow}
 use Rattle.chain_commands.specs.Connecting.{IsValid}
 use Rattle.chain_commands.specs.Disconnecting.{IsValidBack}
+use Rattle.chain_commands.specs.Saving.{HoldsSave, saves}
 use Rattle.machine.specs.Step.{Step}
+use Rattle.machine.specs.Leaving.{IsDoneBy}
 use Rattle.name_store.specs.Stands.{Stands, EachStands, EachStandsForEither}
-use Rattle.name_store.specs.Stored.{Stored, StandsFor, IsOn}
+use Rattle.name_store.specs.Stored.{Stored, StandsFor, IsOn, area_file}
+use Rattle.name_store.specs.Saves.{SparesSelected}
 use Rattle.bridge_core.specs.declared.bridge.Turned.{Turned}
 use Rattle.bridge_core.specs.declared.bridge.Turned.TheVariants.{On, Ended}
 
 -- ---- what the turn answers
 
--- the disk failed while the command was kept
+-- the disk failed while the command or the save was kept
 abbrev pub fault_code : ℕ
 fault_code = 0xFD
 
 abbrev pub fault_reply : Reply
 fault_reply = record { code = fault_code; payload = [] }
 
--- the command of the event has no refusal
+-- the event is a command or a save, and has no refusal
 abbrev pub IsValidEvent : RunState → Event → Type 0
 IsValidEvent run (Do (Connect block)) = IsValid (IsFull run (Connect block)) (chain_of run) block
 IsValidEvent run (Do (Disconnect hash)) = IsValidBack (IsFull run (Disconnect hash)) (chain_of run) hash
 IsValidEvent run (Ask message) = ⊥
-
--- what the event leaves where it is accepted
-abbrev pub accepted_by : RunState → Event → RunState
-accepted_by run (Do command) = accepted run command
-accepted_by run (Ask message) = run
+IsValidEvent run Save = HasNoneBelow (HoldsSave run) saves.order saves.places
 
 -- one step of the machine gives the reply, and the bridge stands for the run state behind it
 pub record Moves (old : RunState) (event : Event) (reply : Reply) (bridge : Stored) : Type 0 where
@@ -58,29 +57,41 @@ TellsFault reply Ended = reply ≡ fault_reply
 
 -- ---- what it asks of the disk
 
--- Of a message nothing is asked of the disk, whatever it is answered; nor of a command that is refused, or wants memory.
+-- neither done nor broken off by a fault: it was refused, or wanted memory
+abbrev pub IsUndone : Reply → Type 0
+IsUndone reply = (reply.code ≢ 0) × (reply.code ≢ fault_code)
+
+-- Of a message nothing is asked of the disk, whatever it is answered; nor of a command or a save that is refused, or wants memory.
 abbrev pub AsksNothing : Event → Reply → Type 0
 AsksNothing (Ask message) reply = Unit {0}
-AsksNothing (Do command) reply = (reply.code ≢ 0) × (reply.code ≢ fault_code)
+AsksNothing (Do command) reply = IsUndone reply
+AsksNothing Save reply = IsUndone reply
 
 -- the disk failed, in the last call that was made of it, where the bridge has ended; and where it goes on with a command that
--- was accepted, the last call worked
+-- was accepted, or a save that was made, the last call worked
 abbrev pub EndsOn : (before after : DiskSeen) → Event → Reply → Turned → Type 0
 EndsOn before after event reply Ended = HasFailed before after
 EndsOn before after (Ask message) reply (On bridge) = Unit {0}
 EndsOn before after (Do command) reply (On bridge) = reply.code ≡ 0 → IsFalse after.failed
+EndsOn before after Save reply (On bridge) = reply.code ≡ 0 → IsFalse after.failed
 
 -- the bridge is on the disk, where it goes on
 abbrev pub IsStillOn : Turned → Files → Type 0
 IsStillOn (On bridge) files = IsOn bridge files
 IsStillOn Ended files = Unit {0}
 
--- No count of faults fell, and how the turn ended on the disk. Of one that tells its files: no file but the area has changed at any
--- moment, and the bridge is on it.
-pub record LeavesDisk (tells : Bool) (before after : DiskSeen) (event : Event) (reply : Reply) (turned : Turned) : Type 0 where
+-- a command changes no file but the selected area, a save leaves that one as it was, and a message leaves each
+abbrev pub SparesFiles : Stored → Event → (before after : Files) → Type 0
+SparesFiles old (Do command) = LeavesOthers (area_file old)
+SparesFiles old (Ask message) = Unchanged
+SparesFiles old Save = SparesSelected old
+
+-- No count of faults fell, and how the turn ended on the disk. Of one that tells its files: what the event spares of them was the same
+-- at each moment, and the bridge is on it.
+pub record LeavesDisk (tells : Bool) (old : Stored) (before after : DiskSeen) (event : Event) (reply : Reply) (turned : Turned) : Type 0 where
   pub later : NeverFell before.faults after.faults
   pub ends : EndsOn before after event reply turned
-  pub others : IsTrue tells → EachMoment (LeavesOthers area_file before.moments.now) before.moments after.moments
+  pub others : IsTrue tells → EachMoment (SparesFiles old event before.moments.now) before.moments after.moments
   pub still_on : IsTrue tells → IsStillOn turned after.moments.now
 
 -- as read, and whatever a crash leaves, the files stand for the run state
@@ -88,12 +99,20 @@ pub record AreFilesOf (run : RunState) (files : Files) : Type 0 where
   pub read : Stands (λ file. (files file).bytes) run
   pub each : EachStands files run
 
--- Whatever a crash leaves at any moment stands for the run state before the event, or for that with it. At the end it stands
--- for the one with it where the reply has code 0, and for the one before where it has another code but FD.
+-- The run state that may stand on the disk besides: one that the event makes, where it was done or the disk failed, and else the
+-- one before.
+pub record IsNext (run : RunState) (event : Event) (reply : Reply) (next : RunState) : Type 0 where
+  pub made : (reply.code ≡ 0) ⊎ (reply.code ≡ fault_code) → IsDoneBy run event next
+  pub same : IsUndone reply → next ≡ run
+
+-- Whatever a crash leaves at any moment stands for the run state before the event, or for the next one. At the end it stands
+-- for the next one where the reply has code 0, and for the one before where it has another code but FD.
 pub record OutlivesCrashes (run : RunState) (event : Event) (before after : DiskSeen) (reply : Reply) : Type 0 where
-  pub any_moment : EachMoment (EachStandsForEither run (accepted_by run event)) before.moments after.moments
-  pub done : reply.code ≡ 0 → AreFilesOf (accepted_by run event) after.moments.now
-  pub undone : reply.code ≢ 0 → reply.code ≢ fault_code → AreFilesOf run after.moments.now
+  pub next : RunState
+  pub is_next : IsNext run event reply next
+  pub any_moment : EachMoment (EachStandsForEither run next) before.moments after.moments
+  pub done : reply.code ≡ 0 → AreFilesOf next after.moments.now
+  pub undone : IsUndone reply → AreFilesOf run after.moments.now
 
 -- of each run state that the bridge stood for, and the files
 abbrev pub Keeps : Bool → Stored → Event → (before after : DiskSeen) → Reply → Type 0
@@ -107,7 +126,7 @@ pub record AnswersEvent {D : Type 0} (tells : Bool) (seen : D → DiskSeen) (old
   pub step : MakesStep old event reply turned
   pub told : TellsFault reply turned
   pub untouched : AsksNothing event reply → after ≡ before
-  pub leaves : LeavesDisk tells (seen before) (seen after) event reply turned
+  pub leaves : LeavesDisk tells old (seen before) (seen after) event reply turned
   pub kept : Keeps tells old event (seen before) (seen after) reply
 
 -- ---- costs

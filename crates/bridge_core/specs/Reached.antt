@@ -8,9 +8,10 @@ use Rattle.feed_frames.specs.Replies.{Reply}
 use Rattle.chain_commands.specs.Event.{Event, event_frame}
 use Rattle.chain_commands.specs.RunState.{RunState}
 use Rattle.machine.specs.Step.{Run}
+use Rattle.machine.specs.Leaving.{IsDoneBy}
 use Rattle.name_store.specs.Stands.{Bytes, Stands, EachStandsForEither}
 use Rattle.name_store.specs.Stored.{Stored, StandsFor, IsOn}
-use Rattle.bridge_core.specs.Bridge.{fault_reply, IsValidEvent, accepted_by, AnswersEvent, AreFilesOf}
+use Rattle.bridge_core.specs.Bridge.{fault_reply, IsValidEvent, AnswersEvent, AreFilesOf}
 use Rattle.bridge_core.specs.declared.bridge.Turned.{Turned}
 use Rattle.bridge_core.specs.declared.bridge.Turned.TheVariants.{On, Ended}
 
@@ -107,17 +108,23 @@ pub record IsReached {D : Type 0} (tells : Bool) (seen : D → DiskSeen) (start 
 
 -- ---- a bridge that a fault of the disk has ended
 
--- Of a run state that it began at: the machine gives all but the last event their replies, the last is a command without a refusal,
--- and whatever a crash leaves stands for what those lead to, or for that with it.
+-- Behind events that led to the run state `mid`: whatever a crash leaves stands for that, or for one that the last event makes of it.
+pub record KeepsNext {D : Type 0} {tells : Bool} {seen : D → DiskSeen} {start : Beginning D} {events : List Event} {replies : List Reply} {bridge : Stored} {before : D}
+    (passes : Passes tells seen start events replies bridge before) (last : Event) (disk : D) (run mid : RunState) : Type 0 where
+  pub kept : RunState
+  pub is_kept : IsDoneBy mid last kept
+  pub files : EachStandsForEither mid kept (seen disk).moments.now
+  pub any_moment : EachMoment (LeavesOldOrFront start.before run (asked events replies (Some kept))) start.before.moments (seen disk).moments
+  pub acknowledged : HoldsAnswered run (asked events replies (Some kept)) (seen disk) passes
+
+-- Of a run state that it began at: the machine gives all but the last event their replies, and the last is a command or a save without
+-- a refusal. Of what crashes leave.
 pub record BreaksAt {D : Type 0} {tells : Bool} {seen : D → DiskSeen} {start : Beginning D} {events : List Event} {replies : List Reply} {bridge : Stored} {before : D}
     (passes : Passes tells seen start events replies bridge before) (last : Event) (disk : D) (run : RunState) : Type 0 where
   pub new : RunState
   pub runs : Run run events replies new
   pub valid : IsValidEvent new last
-  pub files : IsTrue tells → EachStandsForEither new (accepted_by new last) (seen disk).moments.now
-  pub any_moment : IsTrue tells
-      → EachMoment (LeavesOldOrFront start.before run (asked events replies (Some (accepted_by new last)))) start.before.moments (seen disk).moments
-  pub acknowledged : IsTrue tells → HoldsAnswered run (asked events replies (Some (accepted_by new last))) (seen disk) passes
+  pub crashes : IsTrue tells → KeepsNext passes last disk run new
 
 -- The frames are events. All but the last were answered, and in the turn of the last, which got the reply of a fault, the disk failed:
 -- the last call that was made of it.

@@ -4,8 +4,10 @@ use Rattle.nmc_base.specs.declared.limits.TheConstants.{LONGEST_BLOCK}
 use Rattle.chain_commands.specs.Event as machine
 use Rattle.bridge_core.specs.declared.event.ChainCommand.{ChainCommand}
 use Rattle.bridge_core.specs.declared.event.ChainCommand.TheVariants.{Connect, Disconnect}
+use Rattle.bridge_core.specs.declared.answering.Request.{Request}
+use Rattle.bridge_core.specs.declared.answering.Request.TheVariants as requests
 use Rattle.bridge_core.specs.declared.event.Event.{Event}
-use Rattle.bridge_core.specs.declared.event.Event.TheVariants.{Do, Ask}
+use Rattle.bridge_core.specs.declared.event.Event.TheVariants.{Do, Ask, Save}
 
 abbrev pub command_of : ChainCommand → machine.Command
 command_of (Connect block) = machine.Connect block.now
@@ -14,6 +16,11 @@ command_of (Disconnect hash) = machine.Disconnect hash.0
 abbrev pub event_of : Event → machine.Event
 event_of (Do command_is) = machine.Do (command_of command_is)
 event_of (Ask message) = machine.Ask message.now
+event_of Save = machine.Save
+
+abbrev pub request_of : Request → machine.Event
+request_of (requests.Command command_is) = machine.Do (command_of command_is)
+request_of requests.Save = machine.Save
 
 -- a block has at most the greatest length
 abbrev pub IsWithinLimits : ChainCommand → Type 0
@@ -24,3 +31,8 @@ IsWithinLimits (Disconnect hash) = ⊤
 abbrev pub IsReadable : Event → Type 0
 IsReadable (Do command_is) = IsWithinLimits command_is
 IsReadable (Ask message) = ⊤
+IsReadable Save = ⊤
+
+abbrev pub IsRequestWithinLimits : Request → Type 0
+IsRequestWithinLimits (requests.Command command_is) = IsWithinLimits command_is
+IsRequestWithinLimits requests.Save = ⊤

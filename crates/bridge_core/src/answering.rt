@@ -1,9 +1,12 @@
+ghost use Rattle.std.specs.Prelude.{IsTrue};
 ghost use Rattle.frame_loop.specs.Turns as loops;
-ghost use Rattle.chain_commands.specs.Event.{Ask, Do, event_frame};
+ghost use Rattle.chain_commands.specs.Event.{Ask, event_frame};
+ghost use Rattle.name_store.specs.Stored.{IsOn};
+ghost use Rattle.bridge_core.specs.Bridge.{AnswersEvent};
 ghost use Rattle.bridge_core.specs.Reached.{Ready, Reached, Broken};
-ghost use Rattle.bridge_core.specs.Views.{command_of, IsWithinLimits};
+ghost use Rattle.bridge_core.specs.Views.{request_of, IsRequestWithinLimits};
 
-use crate::bridge::Turned;
+use crate::bridge::{Bridge, Turned};
 use crate::event::{ChainCommand, Event, read_event};
 use disk_model::Disk;
 use feed_frames::Frame;
@@ -13,22 +16,48 @@ use std::alloc::Global;
 use std::mem;
 use std::sync::ledger::Ledger;
 
-/// Has a bridge do a command. It is moved, as that needs; what a fault of the disk has ended stays so.
+/// What moves a bridge.
+#[derive(Clone, Copy)]
+enum Request<'a> {
+    Command(ChainCommand<'a>),
+    Save,
+}
+
+/// The bridge does what it is asked for.
+fn act<D: Disk, L: Ledger>(
+    bridge: Bridge,
+    alloc: Global,
+    disk: &mut D,
+    request: Request<'_>,
+    reply: &mut ReplyBuf,
+    steps: &mut Steps<L>,
+) -> Turned
+    requires within { IsRequestWithinLimits request }
+    requires on_disk { IsTrue D.tells → IsOn bridge (D.seen disk.old).moments.now }
+    ensures { AnswersEvent D.tells D.seen bridge disk.old (request_of request.entry) reply.new result disk.new }
+{
+    match request {
+        Request::Command(command) => bridge.turn(alloc, disk, command, reply, steps),
+        Request::Save => bridge.save(alloc, disk, reply),
+    }
+}
+
+/// Has a bridge do a command or a save. It is moved, as that needs; what a fault of the disk has ended stays so.
 fn deal<D: Disk, L: Ledger>(
     turned: &mut Turned,
     alloc: Global,
     disk: &mut D,
-    command: ChainCommand<'_>,
+    request: Request<'_>,
     reply: &mut ReplyBuf,
     steps: &mut Steps<L>,
 ) -> Result<(), Over>
-    requires within { IsWithinLimits command }
+    requires within { IsRequestWithinLimits request }
     requires ready { Ready D.tells D.seen (turned.old, disk.old) }
-    ensures { loops.Turns (Ready D.tells D.seen) (Reached D.tells D.seen) (Broken D.tells D.seen) (turned.old, disk.old) (event_frame (Do (command_of command.entry))) reply.new (turned.new, disk.new) result }
+    ensures { loops.Turns (Ready D.tells D.seen) (Reached D.tells D.seen) (Broken D.tells D.seen) (turned.old, disk.old) (event_frame (request_of request.entry)) reply.new (turned.new, disk.new) result }
 {
     match mem::replace(turned, Turned::Ended) {
         Turned::Ended => Err(Over),
-        Turned::On(bridge) => match bridge.turn(alloc, disk, command, reply, steps) {
+        Turned::On(bridge) => match act(bridge, alloc, disk, request, reply, steps) {
             Turned::Ended => Err(Over),
             Turned::On(next) => {
                 *turned = Turned::On(next);
@@ -64,7 +93,7 @@ impl<D: Disk> Answerer<D> for Turned {
     ghost use Rattle.chain_commands.specs.Event.{last_kind};
     ghost use Rattle.bridge_core.specs.Reached.{Beginning, Ready, Reached, Broken};
 
-    const KINDS: u8 = 3;
+    const KINDS: u8 = 4;
 
     ghost KINDS = { last_kind };
 
@@ -86,7 +115,8 @@ impl<D: Disk> Answerer<D> for Turned {
     ) -> Result<(), Over> {
         match read_event(frame) {
             Event::Ask(message) => ask(self, alloc, disk, message, reply),
-            Event::Do(command) => deal(self, alloc, disk, command, reply, steps),
+            Event::Do(command) => deal(self, alloc, disk, Request::Command(command), reply, steps),
+            Event::Save => deal(self, alloc, disk, Request::Save, reply, steps),
         }
     }
 }

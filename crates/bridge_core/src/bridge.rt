@@ -3,7 +3,7 @@ ghost use Rattle.nmc_base.specs.declared.limits.TheConstants.{LONGEST_BLOCK};
 ghost use Rattle.disk_model.specs.Changes.{KeepsSettled};
 ghost use Rattle.disk_model.specs.Moments.{EachMoment};
 ghost use Rattle.disk_model.specs.DiskSeen.{EndsWith, bytes_in};
-ghost use Rattle.chain_commands.specs.Event.{Ask, Connect, Disconnect, Do};
+ghost use Rattle.chain_commands.specs.Event.{Ask, Connect, Disconnect, Do, Save};
 ghost use Rattle.chain_commands.specs.RunState.{RunState};
 ghost use Rattle.name_report.specs.Report.{Reports, reported_by};
 ghost use Rattle.name_store.specs.Opening.{IsSynced, OpenAnswer};
@@ -14,7 +14,9 @@ ghost use Rattle.bridge_core.specs.Views.{command_of, IsWithinLimits};
 
 use crate::event::ChainCommand;
 use crate::querying::answer_query;
-use crate::replies::{accept, lack_memory, refuse, refuse_back, tell_fault};
+use crate::replies::{
+    accept, lack_memory, refuse, refuse_back, refuse_save, tell_fault, tell_saved,
+};
 use byte_io::Sink;
 use disk_model::Disk;
 use frame_loop::ReplyBuf;
@@ -25,7 +27,7 @@ use std::alloc::Global;
 use std::marker::Model;
 use std::sync::ledger::Ledger;
 
-/// The bridge over a chain of blocks, whose commands are kept in the files of a disk. Contracts see its store. It holds no
+/// The bridge over a chain of blocks, whose commands and saves are kept in the files of a disk. Contracts see its store. It holds no
 /// disk.
 #[derive(Drop)]
 pub struct Bridge {
@@ -149,7 +151,7 @@ impl Bridge {
     ///
     /// Code FD, a fault of the disk, ends the bridge: the last call of the disk failed. A crash at any moment, and such a fault,
     /// leave files that stand for what was there before the command, or for that with it; behind code 0 they stand for that with
-    /// it. No file but the area has changed.
+    /// it. No file but the selected area has changed.
     pub fn turn<D: Disk, L: Ledger>(
         self,
         alloc: Global,
@@ -166,6 +168,41 @@ impl Bridge {
         match command {
             ChainCommand::Connect(bytes) => self.connect(alloc, disk, bytes, reply, steps),
             ChainCommand::Disconnect(hash) => self.disconnect(alloc, disk, hash, reply, steps),
+        }
+    }
+
+    /// Saves the index, so that the files need none of the blocks that were connected so far, and writes the one reply: code 0, and
+    /// how many saves were selected since the files were made, in 8 bytes, low byte first.
+    ///
+    /// Code 29 answers where as many saves were selected as may be, and then code 30 an image that is longer than may be. Code FE,
+    /// want of memory, may stand in the place of codes 0 and 30. Then nothing has changed, and the disk wasn't asked, as with each
+    /// refusal.
+    ///
+    /// Code FD, a fault of the disk, ends the bridge: the last call of the disk failed. A crash at any moment, and such a fault,
+    /// leave files that stand for what was there before the save, or for what it makes of that; behind code 0 they stand for the
+    /// latter. Both have the same chain, and the area that was selected before stays as it was. It writes the whole index: meanwhile
+    /// nothing else is answered.
+    pub fn save<D: Disk>(self, alloc: Global, disk: &mut D, reply: &mut ReplyBuf) -> Turned
+        requires on_disk { IsTrue D.tells → IsOn self (D.seen disk.old).moments.now }
+        ensures { AnswersEvent D.tells D.seen self disk.old Save reply.new result disk.new }
+    {
+        match self.store.save(alloc, disk) {
+            Outcome::Done(store, number) => {
+                tell_saved(reply, number);
+                Turned::On(Bridge { store })
+            }
+            Outcome::Refused(store, refusal) => {
+                refuse_save(reply, refusal);
+                Turned::On(Bridge { store })
+            }
+            Outcome::NoMemory(store) => {
+                lack_memory(reply);
+                Turned::On(Bridge { store })
+            }
+            Outcome::Faulted => {
+                tell_fault(reply);
+                Turned::Ended
+            }
         }
     }
 

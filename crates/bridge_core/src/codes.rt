@@ -1,6 +1,6 @@
 //! The codes of replies. The definitions have each as a number, so that one that is changed here alone is refused.
 
-/// The command was accepted, or the message has a reply.
+/// The command was accepted, the message has a reply, or the index was saved.
 pub(crate) const DONE: u8 = 0;
 /// The bytes are no block.
 pub(crate) const BAD_BLOCK: u8 = 1;
@@ -16,6 +16,10 @@ pub(crate) const JOURNAL_FULL: u8 = 5;
 pub(crate) const NOT_TIP: u8 = 6;
 /// No block stands on the base.
 pub(crate) const AT_BASE: u8 = 7;
+/// As many saves were selected as may be.
+pub(crate) const CHECKPOINT_LIMIT: u8 = 29;
+/// The image of the index is longer than may be.
+pub(crate) const IMAGE_LIMIT: u8 = 30;
 /// The disk failed.
 pub(crate) const DISK_FAULT: u8 = 0xFD;
 /// Memory ran out.

@@ -24,10 +24,15 @@ pub enum Event<'a> {
     Do(ChainCommand<'a>),
     /// A message of DNS that is to be answered.
     Ask(&'a [u8]),
+    /// The index is to be saved.
+    Save,
 }
 
 /// The kind of a connect's frame.
 const CONNECT: u8 = 1;
+
+/// The kind of a save's frame, which is empty.
+const SAVE: u8 = 4;
 
 /// The event of a whole frame.
 pub(crate) fn read_event(frame: Frame<'_>) -> Event<'_>
@@ -40,6 +45,9 @@ pub(crate) fn read_event(frame: Frame<'_>) -> Event<'_>
     }
     if frame.kind == QUERY {
         return Event::Ask(frame.payload);
+    }
+    if frame.kind == SAVE {
+        return Event::Save;
     }
     match frame.payload.as_array() {
         Some(hash) => Event::Do(ChainCommand::Disconnect(Hash32(*hash))),

@@ -90,9 +90,9 @@ fn replay_counted<S: Source, K: Sink, D: Disk, L: Ledger>(
 /// Opens the files of the disk, and then reads frames from the source, at most `limit` bytes, and answers each on the sink.
 ///
 /// The source is read in pieces of at most 65,536 bytes, each only where every whole frame before it was answered. Want
-/// of memory ends it before anything is read; in a command it is the reply's code FE. A fault of the disk in a command is
-/// its reply's code FD, and ends the replay. A crash at any moment leaves files that stand for the commands accepted so far,
-/// or for these and the one that was being kept.
+/// of memory ends it before anything is read; in a command or a save it is the reply's code FE. A fault of the disk in one is
+/// its reply's code FD, and ends the replay. A crash at any moment leaves files that stand for what was accepted and saved so far,
+/// or for that with what was being kept.
 pub fn replay<S: Source, K: Sink, D: Disk>(
     alloc: Global,
     source: &mut S,

@@ -1,16 +1,19 @@
-//! The replies to connects and disconnects.
+//! The replies to commands and saves.
 
 ghost use Rattle.std.specs.Prelude.{◌≡◌, ◌++◌};
-ghost use Rattle.std.specs.Int.{w32, to_le_bytes};
+ghost use Rattle.std.specs.Int.{w32, w64, to_le_bytes};
 ghost use Rattle.chain_commands.specs.Reply.{no_memory_reply};
 ghost use Rattle.chain_commands.specs.Connecting.{refusal_reply};
 ghost use Rattle.chain_commands.specs.Disconnecting.{back_reply};
+ghost use Rattle.chain_commands.specs.Saving.{save_refusal_reply};
 ghost use Rattle.index_commands.specs.Views.{refusal_of, back_refusal_of};
+ghost use Rattle.name_store.specs.Saves.{save_refusal_of};
 ghost use Rattle.bridge_core.specs.Bridge.{fault_reply};
 
 use crate::codes;
 use chain_state::{BackRefusal, Refusal};
 use frame_loop::ReplyBuf;
+use name_store::SaveRefusal;
 use nmc_base::Tip;
 
 /// Code 0, and the height and hash of the tip that the event left.
@@ -42,6 +45,23 @@ pub(crate) fn refuse_back(reply: &mut ReplyBuf, refusal: &BackRefusal)
         BackRefusal::AtBase => reply.set(codes::AT_BASE, &[], &[]),
         BackRefusal::NotTip { tip } => reply.set(codes::NOT_TIP, &tip.0, &[]),
         BackRefusal::JournalFull => reply.set(codes::JOURNAL_FULL, &[], &[]),
+    }
+}
+
+/// Code 0, and how many saves were selected since the files were made.
+pub(crate) fn tell_saved(reply: &mut ReplyBuf, number: u64)
+    ensures { reply.new ≡ record { code = 0; payload = to_le_bytes w64 number } }
+{
+    reply.set(codes::DONE, &number.to_le_bytes(), &[]);
+}
+
+/// The code of a save's refusal.
+pub(crate) fn refuse_save(reply: &mut ReplyBuf, refusal: SaveRefusal)
+    ensures { reply.new ≡ save_refusal_reply (save_refusal_of refusal) }
+{
+    match refusal {
+        SaveRefusal::CheckpointLimit => reply.set(codes::CHECKPOINT_LIMIT, &[], &[]),
+        SaveRefusal::ImageLimit => reply.set(codes::IMAGE_LIMIT, &[], &[]),
     }
 }
 

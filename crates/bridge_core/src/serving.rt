@@ -77,9 +77,9 @@ fn serve_counted<D: Disk, P: Port, L: Ledger>(
 /// Opens the files of the disk, binds the port, and then makes polls, each dealt with before the next.
 ///
 /// A datagram is answered to its client, and each frame of the feed to the feed. A poll or a send that fails is dealt with.
-/// Want of memory ends it before the port is bound; in a command it is the reply's code FE. A fault of the disk in a command
-/// is its reply's code FD, and ends the run. A crash at any moment leaves files that stand for the commands accepted so far,
-/// or for these and the one that was being kept.
+/// Want of memory ends it before the port is bound; in a command or a save it is the reply's code FE. A fault of the disk in one
+/// is its reply's code FD, and ends the run. A crash at any moment leaves files that stand for what was accepted and saved so far,
+/// or for that with what was being kept.
 pub(crate) fn serve<D: Disk, P: Port>(
     alloc: Global,
     disk: &mut D,

@@ -1,5 +1,5 @@
 //! Trials of the program's words over streams, files and a port in memory: each of their calls fails in turn, each stop of the disk,
-//! a name that a feed registers, and reports for a sink whose writes fail.
+//! a name that a feed registers, saves, and reports for a sink whose writes fail.
 #![tactic(auto)]
 
 #[cfg(test)]
@@ -16,6 +16,8 @@ mod registering;
 mod replays;
 #[cfg(test)]
 mod reports;
+#[cfg(test)]
+mod saves;
 #[cfg(test)]
 mod statuses;
 #[cfg(test)]

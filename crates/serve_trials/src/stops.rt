@@ -53,7 +53,7 @@ fn replay_first(alloc: Global, outside: &mut Outside) -> Result<Came, NoMemory> 
 }
 
 /// New files with the first block, on a disk of which this call fails; 0 is the number of none.
-fn make(alloc: Global, outside: &mut Outside, fail: u64) -> Result<Status, NoMemory> {
+pub(crate) fn make(alloc: Global, outside: &mut Outside, fail: u64) -> Result<Status, NoMemory> {
     outside.disk = MemoryDisk::new(alloc, &[fail])?;
     Ok(end_of(alloc, outside, INIT))
 }
@@ -65,7 +65,7 @@ fn is_made(alloc: Global, outside: &mut Outside) -> Result<bool, NoMemory> {
 
 // ---- stops
 
-static CHOICES: [Choice; 5] = [
+pub(crate) static CHOICES: [Choice; 5] = [
     Choice::Old,
     Choice::New,
     Choice::Fill(0),

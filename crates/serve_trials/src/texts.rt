@@ -38,7 +38,7 @@ fn digit(letter: u8) -> u8 {
 }
 
 /// The words that aren't digits, each with the bytes that it stands for, in two parts.
-static WORDS: [(&str, &[u8], &[u8]); 9] = [
+static WORDS: [(&str, &[u8], &[u8]); 12] = [
     ("block", &FIRST_BLOCK, &[]),
     ("zeros", &[0; 32], &[]),
     // the frame of the first block, and the reply that accepts it: code 0, a length of 36, and height 1
@@ -49,6 +49,10 @@ static WORDS: [(&str, &[u8], &[u8]); 9] = [
     // the frame of the disconnect of the first block, and its reply
     ("back", &[2, 32, 0, 0, 0], &FIRST_HASH),
     ("base", &[0, 36, 0, 0, 0, 0, 0, 0, 0], &[0; 32]),
+    ("at-base", &[7, 0, 0, 0, 0], &[]),
+    // the frame of a save, and its reply before the number
+    ("save", &[4, 0, 0, 0, 0], &[]),
+    ("saved", &[0, 8, 0, 0, 0], &[]),
     // a message that asks nothing, and the reply to it
     ("asked", &[0x12, 0x34, 1, 0], &[0; 8]),
     ("told", &[0x12, 0x34, 0x81, 1], &[0; 8]),

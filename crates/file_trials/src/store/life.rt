@@ -9,7 +9,7 @@ use super::making::made;
 use chain_state::{BackRefusal, Refusal};
 use disk_model::Disk;
 use memory_disk::{Choice, MemoryDisk};
-use name_store::{CreateFault, OpenFault, Outcome, Store};
+use name_store::{CreateFault, OpenFault, Outcome, SaveRefusal, Store};
 use nmc_base::{Hash32, NoMemory, Steps, Tip};
 use std::alloc::Global;
 use std::marker::Brand;
@@ -17,13 +17,16 @@ use std::process::Abort;
 use std::sync::ledger::{Blank, Ledger};
 use std::test::Fail;
 
-/// What came of a command, or of making the files.
+/// What came of a command or a save, or of making the files.
 #[derive(Clone, Copy, Debug, PartialEq, Eq)]
 pub(super) enum Answer {
     /// It was done, and the tip is this.
     Done(Tip),
+    /// The index was saved, and this is the number of the save.
+    Saved(u64),
     Refused(Refusal),
     RefusedBack(BackRefusal),
+    RefusedSave(SaveRefusal),
     NoMemory,
     /// The disk failed in the command.
     Faulted,
@@ -93,10 +96,30 @@ impl From<BackRefusal> for Answer {
     }
 }
 
+impl From<SaveRefusal> for Answer {
+    fn from(refusal: SaveRefusal) -> Self {
+        Answer::RefusedSave(refusal)
+    }
+}
+
+impl From<Tip> for Answer {
+    fn from(tip: Tip) -> Self {
+        Answer::Done(tip)
+    }
+}
+
+impl From<u64> for Answer {
+    fn from(number: u64) -> Self {
+        Answer::Saved(number)
+    }
+}
+
 /// The store that is handed back, if any, and the answer.
-pub(super) fn answer_of<R: Into<Answer>>(outcome: Outcome<R>) -> (Option<Store>, Answer) {
+pub(super) fn answer_of<T: Into<Answer>, R: Into<Answer>>(
+    outcome: Outcome<T, R>,
+) -> (Option<Store>, Answer) {
     match outcome {
-        Outcome::Done(store, tip) => (Some(store), Answer::Done(tip)),
+        Outcome::Done(store, told) => (Some(store), told.into()),
         Outcome::Refused(store, refusal) => (Some(store), refusal.into()),
         Outcome::NoMemory(store) => (Some(store), Answer::NoMemory),
         Outcome::Faulted => (None, Answer::Faulted),

@@ -56,6 +56,16 @@ fn disconnect_twice<D: Disk, L: Ledger>(
     }
 }
 
+/// Saves a store that is on the disk, and the one that is handed back for want of memory.
+fn save_twice<D: Disk>(store: Store, alloc: Global, disk: &mut D) -> (Option<Store>, Answer)
+    requires on_disk { IsTrue D.tells → IsOn store (D.seen disk.old).moments.now }
+{
+    match store.save(alloc, disk) {
+        Outcome::NoMemory(again) => answer_of(again.save(alloc, disk)),
+        outcome => answer_of(outcome),
+    }
+}
+
 fn connect_again<D: Disk>(alloc: Global, disk: &mut D) -> Answer {
     match Store::open(alloc, disk) {
         Ok(store) => {
@@ -80,7 +90,25 @@ fn disconnect_again<D: Disk>(alloc: Global, disk: &mut D) -> Answer {
     }
 }
 
-/// How many of the three commands were done, and what the last one that was begun got.
+fn save<D: Disk>(alloc: Global, disk: &mut D) -> Answer {
+    match Store::open(alloc, disk) {
+        Ok(store) => {
+            let (left, answer) = save_twice(store, alloc, disk);
+            let_go(left);
+            answer
+        }
+        Err(fault) => Answer::NotOpened(fault),
+    }
+}
+
+fn save_again<D: Disk>(alloc: Global, disk: &mut D) -> Answer {
+    match save(alloc, disk) {
+        Answer::NotOpened(OpenFault::NoMemory) => save(alloc, disk),
+        answer => answer,
+    }
+}
+
+/// How many of the three commands and the save between them were done, and what the last one that was begun got.
 fn live_again<D: Disk>(alloc: Global, disk: &mut D) -> (u8, Answer) {
     let answer = make(disk);
     if answer != Answer::Done(BASE_TIP) {
@@ -90,17 +118,21 @@ fn live_again<D: Disk>(alloc: Global, disk: &mut D) -> (u8, Answer) {
     if answer != Answer::Done(FIRST_TIP) {
         return (1, answer);
     }
-    let answer = disconnect_again(alloc, disk);
-    if answer != Answer::Done(BASE_TIP) {
+    let answer = save_again(alloc, disk);
+    if answer != Answer::Saved(1) {
         return (2, answer);
     }
-    (3, answer)
+    let answer = disconnect_again(alloc, disk);
+    if answer != Answer::Done(BASE_TIP) {
+        return (3, answer);
+    }
+    (4, answer)
 }
 
 /// Whether the life came to its end, or a call of the disk found no memory.
 fn is_end_or_fault(end: (u8, Answer)) -> bool {
     match end.1 {
-        Answer::Done(_) => end.0 == 3,
+        Answer::Done(_) => end.0 == 4,
         Answer::Faulted => true,
         Answer::NotOpened(fault) => fault == OpenFault::DiskFault,
         Answer::NotMade(fault) => fault == CreateFault::DiskFault,
@@ -108,12 +140,12 @@ fn is_end_or_fault(end: (u8, Answer)) -> bool {
     }
 }
 
-/// Whether the files are what so many commands leave, or one more. None where there was no memory to say so.
+/// Whether the files are what so many of them leave, or one more. None where there was no memory to say so.
 fn is_left(found: Found, done: u8) -> Option<bool> {
     match found {
         // whatever is done, the base may be there: before the block, or where it was disconnected
         Found::Base => Some(true),
-        Found::First => Some(done == 1 || done == 2),
+        Found::First => Some(1 <= done && done <= 3),
         Found::Other(_) => Some(false),
         Found::Not(OpenFault::Uninitialised) => Some(done == 0),
         Found::Not(OpenFault::Damaged { .. }) => Some(false),
@@ -121,7 +153,7 @@ fn is_left(found: Found, done: u8) -> Option<bool> {
     }
 }
 
-/// How many of the three commands were done, and whether the files of the disk and an image of it are what these leave, or
+/// How many of them were done, and whether the files of the disk and an image of it are what these leave, or
 /// one more. None where there was no memory to say so.
 fn lived_again(alloc: Global, disk: &mut MemoryDisk) -> Option<(u64, bool)> {
     let end = live_again(alloc, disk);
@@ -146,5 +178,5 @@ fn a_store_without_memory_stands_as_before(rt: HostRuntime) {
 
 #[test]
 fn with_memory_each_command_is_done(rt: HostRuntime) {
-    ends(&rt, with_any_memory(rt.alloc()), 3);
+    ends(&rt, with_any_memory(rt.alloc()), 4);
 }

@@ -1,25 +1,26 @@
-use Rattle.std.proofs.Common.{List, ℕ, Bool}
-use Rattle.disk_model.specs.DiskSeen.{DiskSeen}
+use Rattle.std.proofs.Common.{List, ℕ, subst}
+use Rattle.nmc_base.specs.declared.chain_ends.Tip.{Tip}
 use Rattle.chain_state.specs.declared.stage.Refusal as stage
-use Rattle.chain_commands.specs.Connecting.{Refusal}
-use Rattle.std.proofs.Common.{subst}
+use Rattle.chain_commands.specs.Connecting.{Refusal, Holds, connects}
 use Rattle.chain_commands.specs.Event.{Connect, Do}
 use Rattle.chain_commands.specs.RunState.{RunState, chain_of, IsFull}
-use Rattle.chain_commands.specs.Connecting.{Holds, connects}
 use Rattle.index_commands.specs.Views.{refusal_of}
 use Rattle.name_store.specs.Stored.{Stored}
 use Rattle.bridge_core.specs.Bridge.{AnswersEvent}
 use Rattle.bridge_core.specs.declared.bridge.Turned.TheVariants.{On, Ended}
-use Rattle.bridge_core.proofs.CodeLemmas.{refused_is_other}
-use Rattle.bridge_core.proofs.TurnLemmas.{IsKind, command_done, command_refused, command_lacking, command_faulted}
+use Rattle.bridge_core.proofs.CodeLemmas.{refused_undone}
+use Rattle.bridge_core.proofs.TurnLemmas.{Request, IsKind, a_command, is_command, request_done, request_refused, request_lacking, request_faulted}
 use Rattle.bridge_core.proofs.bridge.Bridge.connect.Goals as goal
 
 -- the refusals are looked for so
 abbrev looks : List ℕ → RunState → Refusal → Type 0
 looks bytes run = Holds (IsFull run (Connect bytes)) (chain_of run) bytes
 
-kind : {D : Type 0} (tells : Bool) (seen : D → DiskSeen) (bytes : List ℕ) → IsKind tells seen {R = stage.Refusal} connects (looks bytes) refusal_of (Connect bytes)
-kind tells seen bytes = record { steps = λ run reply new answers. answers; valid = λ run none. none }
+abbrev a_block : List ℕ → Request Tip stage.Refusal Refusal
+a_block bytes = a_command connects (looks bytes) refusal_of (Connect bytes)
+
+is_block : (bytes : List ℕ) → IsKind (a_block bytes)
+is_block bytes = is_command connects (looks bytes) refusal_of (Connect bytes) (λ run reply new answers. answers) (λ run none. none)
 
 pub returns-in-Done-clause-answers : goal.returns-in-Done-clause-answers
 returns-in-Done-clause-answers g c =
@@ -28,7 +29,7 @@ returns-in-Done-clause-answers g c =
     let bytes = c.args.bytes.now in
     let by = c.in-Done.ensures in
     subst (λ (old : Stored). AnswersEvent tells seen old c.args.disk.now (Do (Connect bytes)) c.accept.new.reply (On c.in-Done.store) c.connect.new.disk) c.self.view_is
-    (command_done tells seen connects (looks bytes) refusal_of (Connect bytes) (kind tells seen bytes) c.self.inside.store c.args.disk.now c.connect.new.disk c.accept.new.reply c.in-Done.store c.in-Done.tip
+    (request_done (record { tells = tells; seen = seen; old = c.self.inside.store; before = c.args.disk.now; after = c.connect.new.disk; reply = c.accept.new.reply }) (a_block bytes) (is_block bytes) c.in-Done.store c.in-Done.tip
     (record { answers = by.connects; undone = by.undone; leaves = by.leaves; kept = by.kept }) c.accept.ensures)
 
 pub returns-in-Refused-clause-answers : goal.returns-in-Refused-clause-answers
@@ -38,8 +39,8 @@ returns-in-Refused-clause-answers g c =
     let bytes = c.args.bytes.now in
     let by = c.in-Refused.ensures in
     subst (λ (old : Stored). AnswersEvent tells seen old c.args.disk.now (Do (Connect bytes)) c.refuse.new.reply (On c.in-Refused.store) c.connect.new.disk) c.self.view_is
-    (command_refused tells seen connects (looks bytes) refusal_of (Connect bytes) (kind tells seen bytes) c.self.inside.store c.args.disk.now c.connect.new.disk c.refuse.new.reply c.in-Refused.store c.in-Refused.refusal
-    (record { answers = by.connects; undone = by.undone; leaves = by.leaves; kept = by.kept }) c.refuse.ensures (refused_is_other c.refuse.new.reply (refusal_of c.in-Refused.refusal) c.refuse.ensures))
+    (request_refused (record { tells = tells; seen = seen; old = c.self.inside.store; before = c.args.disk.now; after = c.connect.new.disk; reply = c.refuse.new.reply }) (a_block bytes) (is_block bytes) c.in-Refused.store c.in-Refused.refusal
+    (record { answers = by.connects; undone = by.undone; leaves = by.leaves; kept = by.kept }) c.refuse.ensures (refused_undone c.refuse.new.reply (refusal_of c.in-Refused.refusal) c.refuse.ensures))
 
 pub returns-in-NoMemory-clause-answers : goal.returns-in-NoMemory-clause-answers
 returns-in-NoMemory-clause-answers g c =
@@ -48,7 +49,7 @@ returns-in-NoMemory-clause-answers g c =
     let bytes = c.args.bytes.now in
     let by = c.in-NoMemory.ensures in
     subst (λ (old : Stored). AnswersEvent tells seen old c.args.disk.now (Do (Connect bytes)) c.lack_memory.new.reply (On c.in-NoMemory.store) c.connect.new.disk) c.self.view_is
-    (command_lacking tells seen connects (looks bytes) refusal_of (Connect bytes) (kind tells seen bytes) c.self.inside.store c.args.disk.now c.connect.new.disk c.lack_memory.new.reply c.in-NoMemory.store
+    (request_lacking (record { tells = tells; seen = seen; old = c.self.inside.store; before = c.args.disk.now; after = c.connect.new.disk; reply = c.lack_memory.new.reply }) (a_block bytes) (is_block bytes) c.in-NoMemory.store
     (record { answers = by.connects; undone = by.undone; leaves = by.leaves; kept = by.kept }) c.lack_memory.ensures)
 
 pub returns-in-Faulted-clause-answers : goal.returns-in-Faulted-clause-answers
@@ -58,5 +59,5 @@ returns-in-Faulted-clause-answers g c =
     let bytes = c.args.bytes.now in
     let by = c.in-Faulted.ensures in
     subst (λ (old : Stored). AnswersEvent tells seen old c.args.disk.now (Do (Connect bytes)) c.tell_fault.new.reply Ended c.connect.new.disk) c.self.view_is
-    (command_faulted tells seen connects (looks bytes) refusal_of (Connect bytes) (kind tells seen bytes) c.self.inside.store c.args.disk.now c.connect.new.disk c.tell_fault.new.reply
+    (request_faulted (record { tells = tells; seen = seen; old = c.self.inside.store; before = c.args.disk.now; after = c.connect.new.disk; reply = c.tell_fault.new.reply }) (a_block bytes) (is_block bytes)
     (record { answers = by.connects; undone = by.undone; leaves = by.leaves; kept = by.kept }) c.tell_fault.ensures)

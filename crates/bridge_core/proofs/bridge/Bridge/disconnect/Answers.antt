@@ -1,25 +1,26 @@
-use Rattle.std.proofs.Common.{List, ℕ, Bool}
-use Rattle.disk_model.specs.DiskSeen.{DiskSeen}
+use Rattle.std.proofs.Common.{List, ℕ, subst}
+use Rattle.nmc_base.specs.declared.chain_ends.Tip.{Tip}
 use Rattle.chain_state.specs.declared.back.BackRefusal as back
-use Rattle.chain_commands.specs.Disconnecting.{BackRefusal}
-use Rattle.std.proofs.Common.{subst}
+use Rattle.chain_commands.specs.Disconnecting.{BackRefusal, HoldsBack, disconnects}
 use Rattle.chain_commands.specs.Event.{Disconnect, Do}
 use Rattle.chain_commands.specs.RunState.{RunState, chain_of, IsFull}
-use Rattle.chain_commands.specs.Disconnecting.{HoldsBack, disconnects}
 use Rattle.index_commands.specs.Views.{back_refusal_of}
 use Rattle.name_store.specs.Stored.{Stored}
 use Rattle.bridge_core.specs.Bridge.{AnswersEvent}
 use Rattle.bridge_core.specs.declared.bridge.Turned.TheVariants.{On, Ended}
-use Rattle.bridge_core.proofs.CodeLemmas.{back_is_other}
-use Rattle.bridge_core.proofs.TurnLemmas.{IsKind, command_done, command_refused, command_lacking, command_faulted}
+use Rattle.bridge_core.proofs.CodeLemmas.{back_undone}
+use Rattle.bridge_core.proofs.TurnLemmas.{Request, IsKind, a_command, is_command, request_done, request_refused, request_lacking, request_faulted}
 use Rattle.bridge_core.proofs.bridge.Bridge.disconnect.Goals as goal
 
 -- the refusals are looked for so
 abbrev looks : List ℕ → RunState → BackRefusal → Type 0
 looks bytes run = HoldsBack (IsFull run (Disconnect bytes)) (chain_of run) bytes
 
-kind : {D : Type 0} (tells : Bool) (seen : D → DiskSeen) (bytes : List ℕ) → IsKind tells seen {R = back.BackRefusal} disconnects (looks bytes) back_refusal_of (Disconnect bytes)
-kind tells seen bytes = record { steps = λ run reply new answers. answers; valid = λ run none. none }
+abbrev a_hash : List ℕ → Request Tip back.BackRefusal BackRefusal
+a_hash bytes = a_command disconnects (looks bytes) back_refusal_of (Disconnect bytes)
+
+is_hash : (bytes : List ℕ) → IsKind (a_hash bytes)
+is_hash bytes = is_command disconnects (looks bytes) back_refusal_of (Disconnect bytes) (λ run reply new answers. answers) (λ run none. none)
 
 pub returns-in-Done-clause-answers : goal.returns-in-Done-clause-answers
 returns-in-Done-clause-answers g c =
@@ -28,7 +29,7 @@ returns-in-Done-clause-answers g c =
     let bytes = c.args.hash.0 in
     let by = c.in-Done.ensures in
     subst (λ (old : Stored). AnswersEvent tells seen old c.args.disk.now (Do (Disconnect bytes)) c.accept.new.reply (On c.in-Done.store) c.disconnect.new.disk) c.self.view_is
-    (command_done tells seen disconnects (looks bytes) back_refusal_of (Disconnect bytes) (kind tells seen bytes) c.self.inside.store c.args.disk.now c.disconnect.new.disk c.accept.new.reply c.in-Done.store c.in-Done.tip
+    (request_done (record { tells = tells; seen = seen; old = c.self.inside.store; before = c.args.disk.now; after = c.disconnect.new.disk; reply = c.accept.new.reply }) (a_hash bytes) (is_hash bytes) c.in-Done.store c.in-Done.tip
     (record { answers = by.disconnects; undone = by.undone; leaves = by.leaves; kept = by.kept }) c.accept.ensures)
 
 pub returns-in-Refused-clause-answers : goal.returns-in-Refused-clause-answers
@@ -38,8 +39,8 @@ returns-in-Refused-clause-answers g c =
     let bytes = c.args.hash.0 in
     let by = c.in-Refused.ensures in
     subst (λ (old : Stored). AnswersEvent tells seen old c.args.disk.now (Do (Disconnect bytes)) c.refuse_back.new.reply (On c.in-Refused.store) c.disconnect.new.disk) c.self.view_is
-    (command_refused tells seen disconnects (looks bytes) back_refusal_of (Disconnect bytes) (kind tells seen bytes) c.self.inside.store c.args.disk.now c.disconnect.new.disk c.refuse_back.new.reply c.in-Refused.store c.in-Refused.refusal
-    (record { answers = by.disconnects; undone = by.undone; leaves = by.leaves; kept = by.kept }) c.refuse_back.ensures (back_is_other c.refuse_back.new.reply (back_refusal_of c.in-Refused.refusal) c.refuse_back.ensures))
+    (request_refused (record { tells = tells; seen = seen; old = c.self.inside.store; before = c.args.disk.now; after = c.disconnect.new.disk; reply = c.refuse_back.new.reply }) (a_hash bytes) (is_hash bytes) c.in-Refused.store c.in-Refused.refusal
+    (record { answers = by.disconnects; undone = by.undone; leaves = by.leaves; kept = by.kept }) c.refuse_back.ensures (back_undone c.refuse_back.new.reply (back_refusal_of c.in-Refused.refusal) c.refuse_back.ensures))
 
 pub returns-in-NoMemory-clause-answers : goal.returns-in-NoMemory-clause-answers
 returns-in-NoMemory-clause-answers g c =
@@ -48,7 +49,7 @@ returns-in-NoMemory-clause-answers g c =
     let bytes = c.args.hash.0 in
     let by = c.in-NoMemory.ensures in
     subst (λ (old : Stored). AnswersEvent tells seen old c.args.disk.now (Do (Disconnect bytes)) c.lack_memory.new.reply (On c.in-NoMemory.store) c.disconnect.new.disk) c.self.view_is
-    (command_lacking tells seen disconnects (looks bytes) back_refusal_of (Disconnect bytes) (kind tells seen bytes) c.self.inside.store c.args.disk.now c.disconnect.new.disk c.lack_memory.new.reply c.in-NoMemory.store
+    (request_lacking (record { tells = tells; seen = seen; old = c.self.inside.store; before = c.args.disk.now; after = c.disconnect.new.disk; reply = c.lack_memory.new.reply }) (a_hash bytes) (is_hash bytes) c.in-NoMemory.store
     (record { answers = by.disconnects; undone = by.undone; leaves = by.leaves; kept = by.kept }) c.lack_memory.ensures)
 
 pub returns-in-Faulted-clause-answers : goal.returns-in-Faulted-clause-answers
@@ -58,5 +59,5 @@ returns-in-Faulted-clause-answers g c =
     let bytes = c.args.hash.0 in
     let by = c.in-Faulted.ensures in
     subst (λ (old : Stored). AnswersEvent tells seen old c.args.disk.now (Do (Disconnect bytes)) c.tell_fault.new.reply Ended c.disconnect.new.disk) c.self.view_is
-    (command_faulted tells seen disconnects (looks bytes) back_refusal_of (Disconnect bytes) (kind tells seen bytes) c.self.inside.store c.args.disk.now c.disconnect.new.disk c.tell_fault.new.reply
+    (request_faulted (record { tells = tells; seen = seen; old = c.self.inside.store; before = c.args.disk.now; after = c.disconnect.new.disk; reply = c.tell_fault.new.reply }) (a_hash bytes) (is_hash bytes)
     (record { answers = by.disconnects; undone = by.undone; leaves = by.leaves; kept = by.kept }) c.tell_fault.ensures)
