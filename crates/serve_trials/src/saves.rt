@@ -248,11 +248,11 @@ struct EachCall;
 
 impl Trial for EachCall {
     fn is_right(alloc: Global, outside: &mut Outside, _row: &str) -> Result<bool, NoMemory> {
-        Ok(failing(alloc, outside)? == Some(9))
+        Ok(failing(alloc, outside)? == Some(10))
     }
 }
 
-/// Each call of a save that fails is told by code FD.
+/// A save of a block makes ten calls, and where one of them fails the reply is code FD.
 #[test]
 fn tells_the_call_of_a_save_that_fails(rt: HostRuntime) -> Result<(), Fail> {
     each_is_right::<EachCall>(&rt, rt.alloc(), "each call")?;
