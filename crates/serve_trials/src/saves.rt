@@ -181,15 +181,29 @@ fn is_right_after(
     Ok(is_right(calls, replay_of(alloc, after, "first save")?))
 }
 
-/// Each stop of these files, with each choice.
+/// With each choice.
+fn is_right_by_each(
+    alloc: Global,
+    disk: &MemoryDisk,
+    after: &mut Outside,
+    calls: usize,
+) -> Result<bool, NoMemory> {
+    for choice in &CHOICES {
+        if !is_right_after(alloc, disk, after, calls, *choice)? {
+            return Ok(false);
+        }
+    }
+    Ok(true)
+}
+
+/// Each stop of these files.
 fn is_right_always(
     alloc: Global,
     disk: &MemoryDisk,
     after: &mut Outside,
-    choice: Choice,
 ) -> Result<bool, NoMemory> {
     for calls in OPENED..MANY + 1 {
-        if !is_right_after(alloc, disk, after, calls, choice)? {
+        if !is_right_by_each(alloc, disk, after, calls)? {
             return Ok(false);
         }
     }
@@ -198,11 +212,7 @@ fn is_right_always(
 
 fn opens_always(alloc: Global, after: &mut Outside) -> Result<bool, NoMemory> {
     let saved = mem::replace(&mut after.disk, MemoryDisk::new(alloc, &[])?);
-    let mut is_so = true;
-    for choice in &CHOICES {
-        is_so = is_so && is_right_always(alloc, &saved, after, *choice)?;
-    }
-    Ok(is_so)
+    is_right_always(alloc, &saved, after)
 }
 
 struct EachStop;
