@@ -6,6 +6,7 @@ undo records, and takes blocks back by these; model.py has the same chain as a l
 import collections
 import typing
 
+from fields import Fields
 from model import HIGHEST, PROFILES, Chain, Coin, operation_of
 
 from blocks import FIRST, NEW, UPDATE, outpoint
@@ -256,20 +257,12 @@ class ImageFault(Exception):
     """The bytes are the text of no sound image: the place of the first fault of form, or 0."""
 
 
-class Reader:
-    """Reads one field after the other, each whole before it is tested."""
+class Reader(Fields):
+    fault = ImageFault
 
     def __init__(self, text):
-        self.text, self.at, self.version = text, 0, 0
-
-    def take(self, length):
-        if length > len(self.text) - self.at:
-            raise ImageFault(len(self.text))
-        self.at += length
-        return self.text[self.at - length : self.at]
-
-    def number(self, length):
-        return int.from_bytes(self.take(length), "little")
+        super().__init__(text)
+        self.version = 0
 
     def count(self):
         return range(self.number(4))

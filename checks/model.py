@@ -9,6 +9,7 @@ import struct
 import typing
 
 from common import BASE_HASH, reply
+from fields import Fields
 
 from blocks import CONNECT, FIRST, NAME_VERSION, NEW, SAVE, UPDATE, block_hash, merkle_root, outpoint
 from digests import double_sha256, hash160
@@ -60,20 +61,8 @@ class Event(typing.NamedTuple):
     height: int
 
 
-class Reader:
-    """Reads one field after the other."""
-
-    def __init__(self, text):
-        self.text, self.at = text, 0
-
-    def take(self, length):
-        if length > len(self.text) - self.at:
-            raise Fault(len(self.text))
-        self.at += length
-        return self.text[self.at - length : self.at]
-
-    def number(self, length):
-        return int.from_bytes(self.take(length), "little")
+class Reader(Fields):
+    fault = Fault
 
     def size(self):
         first = self.number(1)

@@ -10,6 +10,9 @@ SPAN = 10.0
 
 
 class Progress:
+    # The program, and what it counts.
+    name, unit = "namecoin_feeder", "blocks"
+
     def __init__(self, out, clock=time.monotonic):
         self.out, self.clock = out, clock
         self.is_terminal = out.isatty()
@@ -21,7 +24,7 @@ class Progress:
     def say(self, text):
         """A line for itself. What isn't to be printed, as in an odd node's words, is replaced, so that it is one line."""
         text = "".join(it if it.isprintable() else "?" for it in text[:MOST_SAID]) + (".." if len(text) > MOST_SAID else "")
-        self.out.write(("\r\x1b[K" if self.is_terminal else "") + f"namecoin_feeder: {text}\n")
+        self.out.write(("\r\x1b[K" if self.is_terminal else "") + f"{self.name}: {text}\n")
         self.out.flush()
 
     def at(self, height, top):
@@ -73,7 +76,8 @@ class Progress:
         if seconds <= 0 or height <= below:
             return ""
         speed = (height - below) / seconds
-        return f", {speed:.3g} blocks/s, {spoken((top - height) / speed)} left"
+        told = f"{speed:.3g}" if speed < 1000 else f"{speed:.0f}"
+        return f", {told} {self.unit}/s, {spoken((top - height) / speed)} left"
 
 
 def spoken(seconds):

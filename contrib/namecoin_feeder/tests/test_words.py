@@ -5,7 +5,6 @@ import os
 import pathlib
 import pty
 import re
-import shutil
 import signal
 import subprocess
 import sys
@@ -19,6 +18,7 @@ from namecoin_feeder.command_line import main, words
 from namecoin_feeder.pauses import Pauses
 from namecoin_feeder.progress import Progress, spoken
 from namecoin_feeder.troubles import NodeTrouble, Status
+from pip_installed import version_told
 
 
 class Words(unittest.TestCase):
@@ -49,21 +49,7 @@ class Words(unittest.TestCase):
     def test_runs_where_it_is_installed(self):
         made = tempfile.TemporaryDirectory()
         self.addCleanup(made.cleanup)
-        room = pathlib.Path(made.name)
-        target = room / "target"
-        shutil.copytree(FEEDER, room / "feeder", ignore=shutil.ignore_patterns("tests", "__pycache__"))
-        words = ["-m", "pip", "install", "--quiet", "--no-build-isolation", "--no-deps", "--target", target, room / "feeder"]
-        # Debian's Python may have what this one lacks.
-        for python in (sys.executable, "/usr/bin/python3"):
-            run = subprocess.run([python, *words], stdout=subprocess.PIPE, stderr=subprocess.STDOUT, text=True)
-            if is_able := not re.search(r"No module named '?(pip|setuptools)|invalid command 'bdist_wheel'", run.stdout):
-                break
-        if not is_able:
-            self.skipTest("pip, setuptools or wheel is missing here")
-        self.assertEqual(run.returncode, 0, run.stdout)
-        environment = {**os.environ, "PYTHONPATH": str(target)}
-        run = subprocess.run([target / "bin" / "namecoin-feeder", "--version"], env=environment, stdout=subprocess.PIPE, text=True)
-        self.assertRegex(run.stdout, r"^namecoin-feeder \d")
+        self.assertRegex(version_told(self, pathlib.Path(made.name), "namecoin-feeder", FEEDER), r"^namecoin-feeder \d")
 
 
 class Ends(Case):

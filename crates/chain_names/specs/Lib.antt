@@ -9,6 +9,7 @@ pub mod Index
 pub mod Start
 pub mod Tables
 pub mod Undo
+pub mod Kept
 pub mod Seen
 pub mod Writable
 pub mod Measured

@@ -1,4 +1,4 @@
-use nmc_base::{Bytes, Hash20, OutPoint};
+use nmc_base::{Bytes, CompactBytes, Hash20, OutPoint};
 
 /// The coin of a name output: what the output holds, and the height of its block.
 #[derive(Drop)]
@@ -6,7 +6,7 @@ pub enum Coin {
     /// A commitment to a name, which never expires.
     New { hash: Hash20, height: u32 },
     /// A name.
-    Named { name: Bytes, height: u32 },
+    Named { name: CompactBytes, height: u32 },
 }
 
 /// A coin, and the output that holds it.

@@ -2,12 +2,14 @@
 #![tactic(auto)]
 
 mod coin;
+mod kept_op;
 mod laws;
 mod refusal;
 mod undo;
 mod undoing;
 
 pub use coin::{Coin, HeldCoin, Item};
+pub use kept_op::{Change, ChangeRoom, KeptOp, OpParts};
 pub use laws::{
     due_coins, expiry_laws, index_follows, queue_follows, refusals_agree, registrations,
     starts_empty, undoing_restores, verdict_meaning,

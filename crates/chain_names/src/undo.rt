@@ -1,5 +1,6 @@
 use crate::coin::{Coin, HeldCoin, Item};
-use nmc_base::{Bytes, Hash32, OutPoint, RoomyList};
+use crate::kept_op::KeptOp;
+use nmc_base::{Boxed, CompactBytes, Hash32, OutPoint, RoomyList};
 
 /// What undoes one name operation.
 #[derive(Drop)]
@@ -11,15 +12,15 @@ pub enum UndoOp {
         made: OutPoint,
         spent: OutPoint,
         coin: Coin,
-        name: Bytes,
-        before: Option<Item>,
+        name: CompactBytes,
+        before: Option<Boxed<Item>>,
     },
     Update {
         made: OutPoint,
         spent: OutPoint,
         coin: Coin,
-        name: Bytes,
-        before: Option<Item>,
+        name: CompactBytes,
+        before: Option<Boxed<Item>>,
     },
 }
 
@@ -31,7 +32,7 @@ pub struct Undo {
     /// The block's hash.
     pub block: Hash32,
     /// The block's operations on names, in order.
-    pub ops: RoomyList<UndoOp>,
+    pub ops: RoomyList<KeptOp>,
     /// The coins that expired with the block, by their outpoints.
     pub expired: RoomyList<HeldCoin>,
 }

@@ -8,7 +8,7 @@ ghost use Rattle.name_tables.specs.Tables.{maps_by};
 ghost use Rattle.chain_state.specs.Whole.{IsWhole, Finishes, Commits, maps_before_block};
 
 use crate::work::Work;
-use chain_names::{HeldCoin, UndoOp};
+use chain_names::{HeldCoin, KeptOp};
 use name_tables::Tables;
 use nmc_base::{Profile, RoomyList, Steps};
 use std::alloc::Global;
@@ -25,7 +25,7 @@ pub(crate) struct Whole {
 #[derive(Drop)]
 pub(crate) struct Committed {
     pub(crate) tables: Tables,
-    pub(crate) ops: RoomyList<UndoOp>,
+    pub(crate) ops: RoomyList<KeptOp>,
     pub(crate) expired: RoomyList<HeldCoin>,
 }
 

@@ -9,7 +9,7 @@ ghost use Rattle.name_tables.specs.Tables.{HoldSame, AreFilled};
 ghost use Rattle.name_tables.specs.Tables.{maps_by};
 ghost use Rattle.chain_state.specs.Work.{IsWork, Advances, Halts, ShiftsOnly, GoesBack, Undoes, maps_before, with_commitment, with_op, undo_of_opening, undo_of_update};
 
-use chain_names::{Coin, UndoOp};
+use chain_names::{Change, ChangeRoom, Coin, KeptOp, UndoOp};
 use name_tables::{Move, Shift, Tables};
 use nmc_base::{Hash20, NoMemory, OutPoint, RoomyList, Steps};
 use std::alloc::Global;
@@ -20,11 +20,23 @@ use std::sync::ledger::Ledger;
 pub(crate) struct Work {
     pub(crate) tables: Tables,
     /// What undoes the work, from its beginning on.
-    pub(crate) ops: RoomyList<UndoOp>,
+    pub(crate) ops: RoomyList<KeptOp>,
     /// Outpoints whose places may be empty, beside those that the operations spent.
     pub(crate) empty: RoomyList<OutPoint>,
     /// The height of the block.
     pub(crate) height: u32,
+}
+
+/// What a name's move away from this output left.
+fn change_of(spent: OutPoint, shift: Shift) -> Change
+    ensures { result ≡ record { spent = spent; coin = shift.coin; name = shift.name; before = shift.before } }
+{
+    Change {
+        spent,
+        coin: shift.coin,
+        name: shift.name,
+        before: shift.before,
+    }
 }
 
 impl Work {
@@ -49,7 +61,7 @@ impl Work {
         self.tables
             .coins
             .put(&made, Coin::New { hash, height }, steps);
-        self.ops.push(UndoOp::New { made });
+        self.ops.push(KeptOp::commitment(made));
         Ok(())
     }
 
@@ -103,14 +115,9 @@ impl Work {
         ensures err { OnErr result (Halts self.old self.new) }
         ensures cost { OnOk result (steps.new ≤ steps.old + 9) }
     {
+        let room = ChangeRoom::new(alloc)?;
         let shift = self.shift(alloc, Move::Opening, spent, made, name, value, steps)?;
-        self.ops.push(UndoOp::First {
-            made: *made,
-            spent: *spent,
-            coin: shift.coin,
-            name: shift.name,
-            before: shift.before,
-        });
+        self.ops.push(room.first(*made, change_of(*spent, shift)));
         Ok(())
     }
 
@@ -131,14 +138,9 @@ impl Work {
         ensures err { OnErr result (Halts self.old self.new) }
         ensures cost { OnOk result (steps.new ≤ steps.old + 9) }
     {
+        let room = ChangeRoom::new(alloc)?;
         let shift = self.shift(alloc, Move::Update, spent, made, name, value, steps)?;
-        self.ops.push(UndoOp::Update {
-            made: *made,
-            spent: *spent,
-            coin: shift.coin,
-            name: shift.name,
-            before: shift.before,
-        });
+        self.ops.push(room.update(*made, change_of(*spent, shift)));
         Ok(())
     }
 
@@ -205,7 +207,7 @@ impl Work {
         ensures cost { steps.new ≤ steps.old + 6 * length self.old.ops.items }
     {
         while let Some(op) = self.ops.pop() {
-            self.undo(op, steps);
+            self.undo(op.into_op(), steps);
         }
     }
 

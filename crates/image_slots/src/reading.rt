@@ -14,10 +14,10 @@ use gate_journal::Journal;
 use nmc_base::Bytes;
 
 /// Whether the record is the selection behind so many others.
-fn is_next(record: &[u8], count: u32) -> bool
-    ensures { IsTrue result ↔ (record.now ≡ next_selection count) }
+fn is_next(held: &[u8], count: u32) -> bool
+    ensures { IsTrue result ↔ (held.now ≡ next_selection count) }
 {
-    record == [drafted_area(count)].as_slice()
+    held == [drafted_area(count)].as_slice()
 }
 
 /// Reads the selection behind so many others. False at a closed gate.

@@ -13,8 +13,8 @@ ghost use Rattle.image_grammar.specs.Text.{history_text};
 ghost use Rattle.image_writer.specs.Lengths.{capped};
 
 use crate::widths::read_hash;
-use chain_names::{Coin, HeldCoin, Item, Undo, UndoOp};
-use nmc_base::OutPoint;
+use chain_names::{Change, Coin, HeldCoin, Item, KeptOp, OpParts, Undo};
+use nmc_base::{Boxed, OutPoint};
 use undo_records::widths::{read_coin, read_item, read_point};
 
 fn add_name(total: u64, name: &[u8]) -> u64
@@ -44,59 +44,40 @@ pub(crate) fn add_held(total: u64, at: OutPoint, coin: &Coin) -> u64
 }
 
 #[tactic(auto, unfolding(undo_records::specs::Text::before_text))]
-fn add_before(total: u64, before: &Option<Item>) -> u64
+fn add_before(total: u64, before: &Option<Boxed<Item>>) -> u64
     ensures { result ≡ capped (total + length (before_text Two before.now)) }
 {
     match before {
-        Some(item) => add_item(total.saturating_add(1), item),
+        Some(item) => add_item(total.saturating_add(1), item.as_ref()),
         None => total.saturating_add(1),
     }
 }
 
 #[tactic(auto, using(crate::proofs::LengthLemmas::change_length))]
-fn add_change(
-    total: u64,
-    made: OutPoint,
-    spent: OutPoint,
-    coin: &Coin,
-    name: &[u8],
-    before: &Option<Item>,
-) -> u64
-    ensures { result ≡ capped (total + length (change_text Two (change_of made spent coin.now name.now before.now))) }
+fn add_change(total: u64, made: OutPoint, change: &Change) -> u64
+    ensures { result ≡ capped (total + length (change_text Two (change_of made change.now.spent change.now.coin change.now.name change.now.before))) }
 {
     read_point(made);
-    let points = add_held(total.saturating_add(36), spent, coin);
-    add_before(add_name(points, name), before)
+    let points = add_held(total.saturating_add(36), change.spent, &change.coin);
+    add_before(add_name(points, change.name.as_slice()), &change.before)
 }
 
 #[tactic(auto, using(crate::proofs::LengthLemmas::point_length), unfolding(undo_records::specs::Text::op_text))]
-fn add_op(total: u64, op: &UndoOp) -> u64
+fn add_op(total: u64, op: &KeptOp) -> u64
     ensures { result ≡ capped (total + length (op_text Two op.now)) }
 {
     let tag = total.saturating_add(1);
-    match op {
-        UndoOp::New { made } => {
+    match op.parts() {
+        OpParts::New { made } => {
             read_point(*made);
             tag.saturating_add(36)
         }
-        UndoOp::First {
-            made,
-            spent,
-            coin,
-            name,
-            before,
-        } => add_change(tag, *made, *spent, coin, name.as_slice(), before),
-        UndoOp::Update {
-            made,
-            spent,
-            coin,
-            name,
-            before,
-        } => add_change(tag, *made, *spent, coin, name.as_slice(), before),
+        OpParts::First { made, change } => add_change(tag, *made, change),
+        OpParts::Update { made, change } => add_change(tag, *made, change),
     }
 }
 
-fn add_ops(total: u64, ops: &[UndoOp]) -> u64
+fn add_ops(total: u64, ops: &[KeptOp]) -> u64
     ensures { result ≡ capped (total + length (flat_map (op_text Two) ops.now)) }
 {
     let mut sum = total;

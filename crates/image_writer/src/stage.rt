@@ -8,7 +8,7 @@ ghost use Rattle.image_writer.specs.Listed.{AreShort, IsShortItem};
 use crate::listed::Listed;
 use crate::page::Page;
 use crate::values::{put_count, put_held, put_item, put_name, put_op};
-use chain_names::{HeldCoin, Item, Undo, UndoOp};
+use chain_names::{HeldCoin, Item, KeptOp, Undo};
 use name_table::Table;
 use nmc_base::Steps;
 use std::marker::Brand;
@@ -23,7 +23,7 @@ pub(crate) enum Stage<'a> {
     },
     /// Operations of a record.
     InOps {
-        ops: &'a [UndoOp],
+        ops: &'a [KeptOp],
         expired: &'a [HeldCoin],
         undos: &'a [Undo],
     },
@@ -73,7 +73,7 @@ fn step_undos<'a>(undos: &'a [Undo], listed: &Listed<'a>, page: &mut Page) -> St
 
 /// The next operation; behind the last, the number of coins that expired.
 fn step_ops<'a>(
-    ops: &'a [UndoOp],
+    ops: &'a [KeptOp],
     expired: &'a [HeldCoin],
     undos: &'a [Undo],
     listed: &Listed<'a>,

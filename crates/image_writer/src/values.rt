@@ -13,8 +13,8 @@ ghost use Rattle.image_writer.specs.declared.page.TheConstants.{PAGE};
 ghost use Rattle.image_writer.specs.Page.{Grows};
 
 use crate::page::Page;
-use chain_names::{Coin, Item, UndoOp};
-use nmc_base::{Base, OutPoint, Profile};
+use chain_names::{Change, Coin, Item, KeptOp, OpParts};
+use nmc_base::{Base, Boxed, OutPoint, Profile};
 use undo_records::coins::{NAMED, NEW};
 use undo_records::ops::{FIRST, MADE, UPDATE};
 
@@ -136,7 +136,7 @@ pub(crate) fn put_item(page: &mut Page, item: &Item)
 
 /// The item before, if there was one.
 #[tactic(auto, unfolding(undo_records::specs::Text::before_text))]
-fn put_before(page: &mut Page, before: &Option<Item>)
+fn put_before(page: &mut Page, before: &Option<Boxed<Item>>)
     requires value { IsShortBefore before.now }
     requires room { length page.old + 1070 ≤ PAGE }
     ensures text { page.new ≡ page.old ++ before_text Two before.now }
@@ -145,7 +145,7 @@ fn put_before(page: &mut Page, before: &Option<Item>)
     match before {
         Some(item) => {
             page.put(&[SOME_BEFORE]);
-            put_item(page, item);
+            put_item(page, item.as_ref());
         }
         None => page.put(&[NONE_BEFORE]),
     }
@@ -153,57 +153,37 @@ fn put_before(page: &mut Page, before: &Option<Item>)
 
 /// A first change or an update, behind its tag.
 #[tactic(auto, unfolding(undo_records::specs::Text::change_text))]
-fn put_change(
-    page: &mut Page,
-    tag: u8,
-    made: &OutPoint,
-    spent: &OutPoint,
-    coin: &Coin,
-    name: &[u8],
-    before: &Option<Item>,
-)
-    requires coin { HasShortName coin.now }
-    requires name { IsWritableName name.now }
-    requires before { IsShortBefore before.now }
+fn put_change(page: &mut Page, tag: u8, made: &OutPoint, change: &Change)
+    requires coin { HasShortName change.now.coin }
+    requires name { IsWritableName change.now.name }
+    requires before { IsShortBefore change.now.before }
     requires room { length page.old + 1660 ≤ PAGE }
-    ensures text { page.new ≡ page.old ++ tag ∷ change_text Two (change_of made.now spent.now coin.now name.now before.now) }
+    ensures text { page.new ≡ page.old ++ tag ∷ change_text Two (change_of made.now change.now.spent change.now.coin change.now.name change.now.before) }
     ensures grows { Grows 1660 page.old page.new }
 {
     page.put(&[tag]);
     put_point(page, made);
-    put_point(page, spent);
-    put_coin(page, coin);
-    put_name(page, name);
-    put_before(page, before);
+    put_point(page, &change.spent);
+    put_coin(page, &change.coin);
+    put_name(page, change.name.as_slice());
+    put_before(page, &change.before);
 }
 
 /// What undoes a name operation, behind its tag.
 #[tactic(auto, unfolding(undo_records::specs::Text::op_text))]
-pub(crate) fn put_op(page: &mut Page, op: &UndoOp)
+pub(crate) fn put_op(page: &mut Page, op: &KeptOp)
     requires op { IsWithinLimitsOp op.now }
     requires room { length page.old + 1660 ≤ PAGE }
     ensures text { page.new ≡ page.old ++ op_text Two op.now }
     ensures grows { Grows 1660 page.old page.new }
 {
-    match op {
-        UndoOp::New { made } => {
+    match op.parts() {
+        OpParts::New { made } => {
             page.put(&[MADE]);
             put_point(page, made);
         }
-        UndoOp::First {
-            made,
-            spent,
-            coin,
-            name,
-            before,
-        } => put_change(page, FIRST, made, spent, coin, name.as_slice(), before),
-        UndoOp::Update {
-            made,
-            spent,
-            coin,
-            name,
-            before,
-        } => put_change(page, UPDATE, made, spent, coin, name.as_slice(), before),
+        OpParts::First { made, change } => put_change(page, FIRST, made, change),
+        OpParts::Update { made, change } => put_change(page, UPDATE, made, change),
     }
 }
 

@@ -5,7 +5,7 @@ ghost use Rattle.name_tables.specs.Places.{AreFilledBut};
 ghost use Rattle.name_tables.specs.Tables.{HoldSame, AreFilled};
 
 use crate::tables::Tables;
-use chain_names::{Coin, HeldCoin, UndoOp};
+use chain_names::{Coin, HeldCoin, KeptOp, OpParts};
 use nmc_base::{OutPoint, Steps};
 use std::sync::ledger::Ledger;
 
@@ -23,19 +23,19 @@ impl Tables {
     }
 
     /// Gives the places up of what an operation spent.
-    fn give_up_spent<L: Ledger>(&mut self, op: &UndoOp, steps: &mut Steps<L>)
+    fn give_up_spent<L: Ledger>(&mut self, op: &KeptOp, steps: &mut Steps<L>)
         ensures up { GivesUpOp self.old self.new op.now }
         ensures cost { steps.new ≤ steps.old + 2 }
     {
-        match op {
-            UndoOp::New { .. } => {}
-            UndoOp::First { spent, coin, .. } => self.give_up(spent, coin, steps),
-            UndoOp::Update { spent, coin, .. } => self.give_up(spent, coin, steps),
+        match op.parts() {
+            OpParts::New { .. } => {}
+            OpParts::First { change, .. } => self.give_up(&change.spent, &change.coin, steps),
+            OpParts::Update { change, .. } => self.give_up(&change.spent, &change.coin, steps),
         }
     }
 
     /// Gives the places up of what these operations spent.
-    fn clear_spent<L: Ledger>(&mut self, ops: &[UndoOp], steps: &mut Steps<L>)
+    fn clear_spent<L: Ledger>(&mut self, ops: &[KeptOp], steps: &mut Steps<L>)
         ensures same { HoldSame self.old self.new }
         ensures filled { (expired : List HeldCoin) → AreFilledBut self.old ops.now expired → AreFilledBut self.new [] expired }
         ensures cost { steps.new ≤ steps.old + 2 * length ops.now }
@@ -61,7 +61,7 @@ impl Tables {
     }
 
     /// Gives the places up of what these operations spent and of these coins, unless they hold something.
-    pub fn clear<L: Ledger>(&mut self, ops: &[UndoOp], expired: &[HeldCoin], steps: &mut Steps<L>)
+    pub fn clear<L: Ledger>(&mut self, ops: &[KeptOp], expired: &[HeldCoin], steps: &mut Steps<L>)
         ensures same { HoldSame self.old self.new }
         // Where no other place is empty, none is then.
         ensures filled { AreFilledBut self.old ops.now expired.now → AreFilled self.new }

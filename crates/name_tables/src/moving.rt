@@ -8,7 +8,7 @@ ghost use Rattle.name_tables.specs.MovingSteps.{IsCopied, HasPlaces, MovesName};
 
 use crate::tables::Tables;
 use chain_names::{Coin, Item};
-use nmc_base::{Bytes, NoMemory, OutPoint, Steps};
+use nmc_base::{Boxed, Bytes, CompactBytes, NoMemory, OutPoint, Steps};
 use std::alloc::Global;
 use std::sync::ledger::Ledger;
 
@@ -23,11 +23,11 @@ pub enum Move {
 
 impl Move {
     /// The height at which the registration of the value began that a block of this height gives, behind the value before.
-    fn registered(self, before: &Option<Item>, height: u32) -> u32
+    fn registered(self, before: &Option<Boxed<Item>>, height: u32) -> u32
         ensures { result ≡ registered_by self before.now height }
     {
         match (self, before) {
-            (Move::Update, Some(item)) => item.registered,
+            (Move::Update, Some(item)) => item.as_ref().registered,
             _ => height,
         }
     }
@@ -36,18 +36,18 @@ impl Move {
 /// What a name's move needs of its own: the name for the new coin and for what is left, the new value, and the one before.
 #[derive(Drop)]
 struct Copies {
-    own: Bytes,
-    kept: Bytes,
+    own: CompactBytes,
+    kept: CompactBytes,
     item: Item,
-    before: Option<Item>,
+    before: Option<Boxed<Item>>,
 }
 
 /// What a name's move leaves: the coin that was spent, a copy of the name, and the value that it had before.
 #[derive(Drop)]
 pub struct Shift {
     pub coin: Coin,
-    pub name: Bytes,
-    pub before: Option<Item>,
+    pub name: CompactBytes,
+    pub before: Option<Boxed<Item>>,
 }
 
 impl Tables {
@@ -57,7 +57,7 @@ impl Tables {
         alloc: Global,
         name: &[u8],
         steps: &mut Steps<L>,
-    ) -> Result<Option<Item>, NoMemory>
+    ) -> Result<Option<Boxed<Item>>, NoMemory>
         ensures copy { IfOk result (λ before. before ≡ entry_of (names_in self.now.names name.now)) }
         ensures cost { steps.new ≡ steps.old + 1 }
     {
@@ -65,12 +65,13 @@ impl Tables {
             None => Ok(None),
             Some(item) => {
                 let value = Bytes::copy_of(alloc, item.value.as_slice())?;
-                Ok(Some(Item {
+                let copy = Item {
                     height: item.height,
                     registered: item.registered,
                     at: item.at,
                     value,
-                }))
+                };
+                Ok(Some(Boxed::new(alloc, copy)?))
             }
         }
     }
@@ -89,8 +90,8 @@ impl Tables {
         ensures copied { IfOk result (λ copies. IsCopied self.now name.now (given kind (entry_of (names_in self.now.names name.now)) height made value.now) copies) }
         ensures cost { steps.new ≤ steps.old + 1 }
     {
-        let own = Bytes::copy_of(alloc, name)?;
-        let kept = Bytes::copy_of(alloc, name)?;
+        let own = CompactBytes::copy_of(alloc, name)?;
+        let kept = CompactBytes::copy_of(alloc, name)?;
         let value = Bytes::copy_of(alloc, value)?;
         let before = self.entry_copy(alloc, name, steps)?;
         let item = Item {

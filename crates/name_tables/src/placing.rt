@@ -8,7 +8,7 @@ ghost use Rattle.name_tables.specs.Room.{IsPlaced, HasRoom};
 ghost use Rattle.name_tables.specs.Tables.{HoldSame, AreFilled};
 
 use crate::tables::Tables;
-use chain_names::{Coin, HeldCoin, UndoOp};
+use chain_names::{Coin, HeldCoin, KeptOp, OpParts};
 use nmc_base::{NoMemory, OutPoint, RoomyList, Steps};
 use std::alloc::Global;
 use std::sync::ledger::Ledger;
@@ -36,19 +36,19 @@ impl Tables {
     }
 
     /// Makes the places of what an operation spent.
-    fn place_spent<L: Ledger>(&mut self, op: &UndoOp, steps: &mut Steps<L>) -> Result<(), NoMemory>
+    fn place_spent<L: Ledger>(&mut self, op: &KeptOp, steps: &mut Steps<L>) -> Result<(), NoMemory>
         ensures only { PlacesOnly spends spends_at self.old self.new (op.now ∷ []) }
         ensures ok { OnOk result (IsPlaced spends spends_at self.new op.now) }
         ensures cost { steps.new ≤ steps.old + 2 }
     {
-        match op {
-            UndoOp::New { .. } => Ok(()),
-            UndoOp::First { spent, coin, .. } => {
-                self.place_coin(spent, coin, steps)?;
+        match op.parts() {
+            OpParts::New { .. } => Ok(()),
+            OpParts::First { change, .. } => {
+                self.place_coin(&change.spent, &change.coin, steps)?;
                 Ok(())
             }
-            UndoOp::Update { spent, coin, .. } => {
-                self.place_coin(spent, coin, steps)?;
+            OpParts::Update { change, .. } => {
+                self.place_coin(&change.spent, &change.coin, steps)?;
                 Ok(())
             }
         }
@@ -57,7 +57,7 @@ impl Tables {
     /// Makes the places of what these operations spent.
     fn place_all_spent<L: Ledger>(
         &mut self,
-        ops: &[UndoOp],
+        ops: &[KeptOp],
         steps: &mut Steps<L>,
     ) -> Result<(), NoMemory>
         ensures only { PlacesOnly spends spends_at self.old self.new ops.now }
@@ -99,7 +99,7 @@ impl Tables {
     /// Makes the places of what these operations spent and of these coins. Where memory runs out, some may stay.
     fn place_all<L: Ledger>(
         &mut self,
-        ops: &[UndoOp],
+        ops: &[KeptOp],
         expired: &[HeldCoin],
         steps: &mut Steps<L>,
     ) -> Result<(), NoMemory>
@@ -120,7 +120,7 @@ impl Tables {
     pub fn make_room<L: Ledger>(
         &mut self,
         alloc: Global,
-        ops: &[UndoOp],
+        ops: &[KeptOp],
         expired: &[HeldCoin],
         steps: &mut Steps<L>,
     ) -> Result<RoomyList<OutPoint>, NoMemory>

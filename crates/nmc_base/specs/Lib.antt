@@ -1,3 +1,4 @@
+pub mod Compact
 pub mod Expiry
 pub mod Hash
 pub mod Heights

@@ -1,4 +1,4 @@
-ghost use Rattle.std.specs.Prelude.{◌≡◌, ◌++◌, ◌+◌, ◌<◌, ◌≤◌, ◌∷◌, [], length, slice_get, OnOk, OnErr, IfSome, IfNone};
+ghost use Rattle.std.specs.Prelude.{◌≡◌, ◌++◌, ◌+◌, ◌<◌, ◌≤◌, ◌∷◌, [], length, slice_get, vec_len, vec_capacity, OnOk, OnErr, IfSome, IfNone};
 ghost use Rattle.std.specs.Option.{option_copied};
 ghost use Rattle.nmc_base.specs.Roomy.{Roomy};
 
@@ -30,6 +30,20 @@ impl<T> Model for RoomyList<T> {
     ghost invariant = { λ l. vec_len l.held + l.room ≤ vec_capacity l.held };
 }
 
+fn widen<T>(held: &mut Vec<T>, more: usize) -> Result<(), NoMemory>
+    ensures items { held.new.items ≡ held.old.items }
+    ensures room { OnOk result (vec_len held.new + more ≤ vec_capacity held.new) }
+    ensures err { OnErr result (vec_capacity held.new ≡ vec_capacity held.old) }
+    ensures len { vec_len held.new ≡ vec_len held.old }
+{
+    if held.capacity() == 0 {
+        held.reserve_exact(more)?;
+    } else {
+        held.reserve(more)?;
+    }
+    Ok(())
+}
+
 impl<T> RoomyList<T> {
     /// The empty list, with no spare room. It takes no memory.
     pub fn new(alloc: Global) -> RoomyList<T>
@@ -42,6 +56,9 @@ impl<T> RoomyList<T> {
     }
 
     /// Makes room for `more` items. Where memory runs out, nothing changes.
+    ///
+    /// A list that never had any takes room for these alone, since many lists never hold more; one that grows takes room for as many
+    /// as it has, at least.
     pub fn reserve(&mut self, more: usize) -> Result<(), NoMemory>
         ensures items { self.new.items ≡ self.old.items }
         ensures room { OnOk result (more ≤ self.new.spare) }
@@ -49,7 +66,7 @@ impl<T> RoomyList<T> {
         ensures err { OnErr result (self.new ≡ self.old) }
     {
         if self.room < more {
-            self.held.reserve(more)?;
+            widen(&mut self.held, more)?;
             self.room = more;
         }
         Ok(())

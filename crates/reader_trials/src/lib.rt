@@ -14,6 +14,8 @@ mod fields;
 #[cfg(test)]
 mod headers;
 #[cfg(test)]
+mod keeping;
+#[cfg(test)]
 mod making;
 #[cfg(test)]
 mod scripts;

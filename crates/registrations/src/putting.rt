@@ -12,14 +12,14 @@ ghost use Rattle.registrations.specs.Taking as taking;
 use crate::beginnings::going_on;
 use crate::room::with_room;
 use crate::taking::{Taken, TakenBack, name_of};
-use chain_names::{Item, Undo, UndoOp};
+use chain_names::{Change, ChangeRoom, Coin, Item, KeptOp, OpParts, Undo, UndoOp};
 use name_table::Table;
-use nmc_base::{NoMemory, RoomyList, Steps};
+use nmc_base::{Boxed, CompactBytes, NoMemory, OutPoint, RoomyList, Steps};
 use std::alloc::Global;
 use std::sync::ledger::Ledger;
 
 /// The registration height of the last item of the name whose history the operation changed.
-fn registered_at<L: Ledger>(names: &Table, op: &UndoOp, steps: &mut Steps<L>) -> Option<u32>
+fn registered_at<L: Ledger>(names: &Table, op: &KeptOp, steps: &mut Steps<L>) -> Option<u32>
     ensures { result ≡ filling.registered_at (taking.name_of op.now) (names_in names.now) }
 {
     let name = name_of(op)?;
@@ -28,13 +28,13 @@ fn registered_at<L: Ledger>(names: &Table, op: &UndoOp, steps: &mut Steps<L>) ->
 }
 
 /// The registration height with which the operation's item goes on, if it goes on, where the item before has this one.
-fn goes_on_with(op: &UndoOp, registered: Option<u32>) -> Option<u32>
+fn goes_on_with(op: &KeptOp, registered: Option<u32>) -> Option<u32>
     ensures { result ≡ filling.goes_on_with op.now registered }
 {
-    match op {
-        UndoOp::New { .. } => None,
-        UndoOp::First { .. } => None,
-        UndoOp::Update { .. } => registered,
+    match op.parts() {
+        OpParts::New { .. } => None,
+        OpParts::First { .. } => None,
+        OpParts::Update { .. } => registered,
     }
 }
 
@@ -47,38 +47,70 @@ fn going_on_if(registered: Option<u32>, item: Option<Item>) -> Option<Item>
     }
 }
 
-/// The operation, where the item before it has this registration height.
-fn op_behind(registered: Option<u32>, op: UndoOp) -> UndoOp
-    ensures { result ≡ filling.op_behind registered op }
+fn before_behind(
+    alloc: Global,
+    registered: Option<u32>,
+    before: Option<Boxed<Item>>,
+) -> Result<Option<Boxed<Item>>, NoMemory>
+    ensures { IfOk result (λ behind. behind ≡ filling.going_on_if registered before) }
 {
-    match op {
-        UndoOp::New { made } => UndoOp::New { made },
+    match before {
+        Some(item) => {
+            let item = going_on(registered, item.into_inner());
+            Ok(Some(Boxed::new(alloc, item)?))
+        }
+        None => Ok(None),
+    }
+}
+
+/// The change, where the item before it has this registration height.
+fn change_behind(
+    alloc: Global,
+    registered: Option<u32>,
+    spent: OutPoint,
+    coin: Coin,
+    name: CompactBytes,
+    before: Option<Boxed<Item>>,
+) -> Result<Change, NoMemory>
+    ensures { IfOk result (λ change. change ≡ record { spent = spent; coin = coin; name = name; before = filling.going_on_if registered before }) }
+{
+    let before = before_behind(alloc, registered, before)?;
+    Ok(Change {
+        spent,
+        coin,
+        name,
+        before,
+    })
+}
+
+/// The operation, where the item before it has this registration height.
+fn op_behind(alloc: Global, registered: Option<u32>, op: KeptOp) -> Result<KeptOp, NoMemory>
+    ensures { IfOk result (λ behind. behind ≡ filling.op_behind registered op) }
+{
+    match op.into_op() {
+        UndoOp::New { made } => Ok(KeptOp::commitment(made)),
         UndoOp::First {
             made,
             spent,
             coin,
             name,
             before,
-        } => UndoOp::First {
-            made,
-            spent,
-            coin,
-            name,
-            before: going_on_if(registered, before),
-        },
+        } => {
+            let change = change_behind(alloc, registered, spent, coin, name, before)?;
+            let room = ChangeRoom::new(alloc)?;
+            Ok(room.first(made, change))
+        }
         UndoOp::Update {
             made,
             spent,
             coin,
             name,
             before,
-        } => UndoOp::Update {
-            made,
-            spent,
-            coin,
-            name,
-            before: going_on_if(registered, before),
-        },
+        } => {
+            let change = change_behind(alloc, registered, spent, coin, name, before)?;
+            let room = ChangeRoom::new(alloc)?;
+            Ok(room.update(made, change))
+        }
     }
 }
 
@@ -99,7 +131,7 @@ fn put_item<L: Ledger>(
 /// Gives the name whose history the operation changed this item, if there is one.
 fn put_made<L: Ledger>(
     names: &mut Table,
-    op: &UndoOp,
+    op: &KeptOp,
     item: Option<Item>,
     steps: &mut Steps<L>,
 ) -> Result<(), NoMemory>
@@ -117,10 +149,11 @@ fn put_made<L: Ledger>(
 
 /// Does an operation again, with the registration heights that follow from the histories before it.
 fn put_op<L: Ledger>(
+    alloc: Global,
     names: &mut Table,
     taken: Taken,
     steps: &mut Steps<L>,
-) -> Result<UndoOp, NoMemory>
+) -> Result<KeptOp, NoMemory>
     ensures op { IfOk result (λ op. op ≡ op_with taken.op (names_in names.old)) }
     ensures names { OnOk result (names_in names.new ≡ with_made taken (names_in names.old)) }
     ensures places { OnOk result (PlacesFilled names.old names.new) }
@@ -129,7 +162,7 @@ fn put_op<L: Ledger>(
     let registered = registered_at(names, &op, steps);
     let item = going_on_if(goes_on_with(&op, registered), item);
     put_made(names, &op, item, steps)?;
-    Ok(op_behind(registered, op))
+    op_behind(alloc, registered, op)
 }
 
 /// Does operations again, the last of which stands first.
@@ -138,7 +171,7 @@ fn put_ops<L: Ledger>(
     names: &mut Table,
     back: RoomyList<Taken>,
     steps: &mut Steps<L>,
-) -> Result<RoomyList<UndoOp>, NoMemory>
+) -> Result<RoomyList<KeptOp>, NoMemory>
     ensures ops { IfOk result (λ ops. ops.items ≡ ops_with (reverse back.items) (names_in names.old)) }
     ensures names { OnOk result (names_in names.new ≡ with_all (reverse back.items) (names_in names.old)) }
     ensures places { OnOk result (PlacesFilled names.old names.new) }
@@ -146,7 +179,7 @@ fn put_ops<L: Ledger>(
     let mut ops = with_room(alloc, back.len())?;
     let mut back = back;
     while let Some(taken) = back.pop() {
-        ops.push(put_op(names, taken, steps)?);
+        ops.push(put_op(alloc, names, taken, steps)?);
     }
     Ok(ops)
 }

@@ -9,7 +9,7 @@ ghost use Rattle.registrations.specs.Taking as taking;
 ghost use Rattle.registrations.specs.Taking.{IsTakenBack, before_all, names_at_base, undos_taken};
 
 use crate::room::with_room;
-use chain_names::{HeldCoin, Item, Undo, UndoOp};
+use chain_names::{HeldCoin, Item, KeptOp, OpParts, Undo};
 use name_table::Table;
 use nmc_base::{Hash32, NoMemory, RoomyList, Steps};
 use std::alloc::Global;
@@ -18,7 +18,7 @@ use std::sync::ledger::Ledger;
 /// An operation off its record, and the item that it made, off the name's history.
 #[derive(Drop)]
 pub(crate) struct Taken {
-    pub(crate) op: UndoOp,
+    pub(crate) op: KeptOp,
     pub(crate) item: Option<Item>,
 }
 
@@ -32,18 +32,18 @@ pub(crate) struct TakenBack {
 }
 
 /// The name whose history the operation changed.
-pub(crate) fn name_of(op: &UndoOp) -> Option<&[u8]>
+pub(crate) fn name_of(op: &KeptOp) -> Option<&[u8]>
     ensures { option_copied result ≡ taking.name_of op.entry.now }
 {
-    match op {
-        UndoOp::New { .. } => None,
-        UndoOp::First { name, .. } => Some(name.as_slice()),
-        UndoOp::Update { name, .. } => Some(name.as_slice()),
+    match op.parts() {
+        OpParts::New { .. } => None,
+        OpParts::First { change, .. } => Some(change.name.as_slice()),
+        OpParts::Update { change, .. } => Some(change.name.as_slice()),
     }
 }
 
 /// Takes an operation back: the last item of its name.
-fn take_op<L: Ledger>(names: &mut Table, op: UndoOp, steps: &mut Steps<L>) -> Taken
+fn take_op<L: Ledger>(names: &mut Table, op: KeptOp, steps: &mut Steps<L>) -> Taken
     ensures back { IsTakenBack (names_in names.old) (names_in names.new) op result }
     ensures list { keys_of names.new ≡ keys_of names.old }
 {
@@ -58,7 +58,7 @@ fn take_op<L: Ledger>(names: &mut Table, op: UndoOp, steps: &mut Steps<L>) -> Ta
 fn take_ops<L: Ledger>(
     alloc: Global,
     names: &mut Table,
-    ops: RoomyList<UndoOp>,
+    ops: RoomyList<KeptOp>,
     steps: &mut Steps<L>,
 ) -> Result<RoomyList<Taken>, NoMemory>
     ensures ops { IfOk result (λ back. reverse back.items ≡ taking.taken ops.items (names_in names.old)) }

@@ -11,7 +11,7 @@ use crate::head::opening_at;
 use crate::next::Next;
 use crate::reading::{Reading, begun, fault_of};
 use crate::values::{held_at, undo_head_at};
-use chain_names::{HeldCoin, UndoOp};
+use chain_names::{HeldCoin, KeptOp};
 use nmc_base::{NoMemory, OutPoint, RoomyList};
 use std::alloc::Global;
 use std::mem;
@@ -22,7 +22,7 @@ use undo_records::ops::op_at;
 use undo_records::owned::{owned_coin, owned_op};
 
 /// Adds an operation to those before it.
-fn add_op(alloc: Global, ops: &mut RoomyList<UndoOp>, found: FoundOp<'_>) -> Result<(), NoMemory>
+fn add_op(alloc: Global, ops: &mut RoomyList<KeptOp>, found: FoundOp<'_>) -> Result<(), NoMemory>
     ensures { OnOk result (ops.new.items ≡ ops.old.items ++ seen_op found.entry ∷ []) }
 {
     let op = owned_op(alloc, found)?;

@@ -7,10 +7,10 @@ ghost use Rattle.states_below.specs.Undoing.{maps_below, Tried, TriedAll};
 use crate::coins_below::CoinsBelow;
 use crate::fitting::{ends_so, is_named_at, is_new_at};
 use crate::names_below::NamesBelow;
-use chain_names::{Coin, Item, UndoOp};
+use chain_names::{Coin, Item, KeptOp, OpParts};
 use name_coins::Coins;
 use name_table::Table;
-use nmc_base::{NoMemory, OutPoint};
+use nmc_base::{Boxed, NoMemory, OutPoint};
 use std::alloc::Global;
 
 /// The state below some blocks.
@@ -40,7 +40,7 @@ impl<'a> Below<'a> {
         made: &OutPoint,
         spent: &OutPoint,
         name: &[u8],
-        before: &Option<Item>,
+        before: &Option<Boxed<Item>>,
     ) -> bool
         ensures { result ≡ tests.fits_move tip registered made.now spent.now name.now before.now (maps_below self.now) }
     {
@@ -55,13 +55,15 @@ impl<'a> Below<'a> {
         made: &OutPoint,
         spent: &OutPoint,
         name: &[u8],
-        before: &Option<Item>,
+        before: &Option<Boxed<Item>>,
     ) -> bool
         ensures { result ≡ tests.fits_update tip made.now spent.now name.now before.now (maps_below self.now) }
     {
         match before {
             None => false,
-            Some(item) => self.fits_move(tip, item.registered, made, spent, name, before),
+            Some(item) => {
+                self.fits_move(tip, item.as_ref().registered, made, spent, name, before)
+            }
         }
     }
 
@@ -82,42 +84,32 @@ impl<'a> Below<'a> {
     }
 
     /// Undoes an operation at the tip's height, if it fits. Where memory runs out, it may be undone in part.
-    pub(crate) fn undo(&mut self, alloc: Global, op: &'a UndoOp, tip: u32) -> Result<bool, NoMemory>
+    pub(crate) fn undo(&mut self, alloc: Global, op: &'a KeptOp, tip: u32) -> Result<bool, NoMemory>
         ensures tried { IfOk result (λ fits. Tried tip op.entry.now (maps_below self.old) (maps_below self.new) fits) }
         ensures table { self.new.coins.under ≡ self.old.coins.under }
     {
-        match op {
-            UndoOp::New { made } => {
+        match op.parts() {
+            OpParts::New { made } => {
                 if !is_new_at(self.coins.get(made), tip) {
                     return Ok(false);
                 }
                 self.coins.set(made, None)?;
                 Ok(true)
             }
-            UndoOp::First {
-                made,
-                spent,
-                coin,
-                name,
-                before,
-            } => {
-                if !self.fits_move(tip, tip, made, spent, name.as_slice(), before) {
+            OpParts::First { made, change } => {
+                let name = change.name.as_slice();
+                if !self.fits_move(tip, tip, made, &change.spent, name, &change.before) {
                     return Ok(false);
                 }
-                self.move_back(alloc, made, spent, coin, name.as_slice())?;
+                self.move_back(alloc, made, &change.spent, &change.coin, name)?;
                 Ok(true)
             }
-            UndoOp::Update {
-                made,
-                spent,
-                coin,
-                name,
-                before,
-            } => {
-                if !self.fits_update(tip, made, spent, name.as_slice(), before) {
+            OpParts::Update { made, change } => {
+                let name = change.name.as_slice();
+                if !self.fits_update(tip, made, &change.spent, name, &change.before) {
                     return Ok(false);
                 }
-                self.move_back(alloc, made, spent, coin, name.as_slice())?;
+                self.move_back(alloc, made, &change.spent, &change.coin, name)?;
                 Ok(true)
             }
         }
@@ -127,7 +119,7 @@ impl<'a> Below<'a> {
     pub(crate) fn undo_all(
         &mut self,
         alloc: Global,
-        ops: &'a [UndoOp],
+        ops: &'a [KeptOp],
         tip: u32,
     ) -> Result<bool, NoMemory>
         ensures tried { IfOk result (λ fit. TriedAll tip ops.entry.now (maps_below self.old) (maps_below self.new) fit) }

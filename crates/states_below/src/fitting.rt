@@ -5,7 +5,7 @@ ghost use Rattle.chain_names.specs.Coins as coins;
 ghost use Rattle.states_below.specs.Tests as tests;
 
 use chain_names::{Coin, Item};
-use nmc_base::OutPoint;
+use nmc_base::{Boxed, OutPoint};
 
 /// Whether it is a commitment of this height.
 pub(crate) fn is_new_at(coin: Option<&Coin>, tip: u32) -> bool
@@ -39,14 +39,14 @@ fn same_item(a: &Item, b: &Item) -> bool
         && a.value.as_slice() == b.value.as_slice()
 }
 
-fn same_entry(a: Option<&Item>, b: &Option<Item>) -> bool
+fn same_entry(a: Option<&Item>, b: &Option<Boxed<Item>>) -> bool
     ensures { result ≡ tests.same_entry (option_copied a.entry) b.now }
 {
     match a {
         None => b.is_none(),
         Some(a) => match b {
             None => false,
-            Some(b) => same_item(a, b),
+            Some(b) => same_item(a, b.as_ref()),
         },
     }
 }
@@ -74,7 +74,7 @@ pub(crate) fn ends_so(
     tip: u32,
     registered: u32,
     made: &OutPoint,
-    before: &Option<Item>,
+    before: &Option<Boxed<Item>>,
 ) -> bool
     ensures { result ≡ tests.ends_so tip registered made.now before.now items.now }
 {

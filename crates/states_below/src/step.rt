@@ -12,7 +12,7 @@ ghost use Rattle.states_below.specs.Undoing.{maps_below};
 
 use crate::below::Below;
 use crate::fitting::{entry_of, is_item_at};
-use chain_names::{Coin, HeldCoin, Undo, UndoOp};
+use chain_names::{Coin, HeldCoin, KeptOp, OpParts, Undo};
 use nmc_base::{NoMemory, OutPoint, Profile};
 use std::alloc::Global;
 
@@ -110,34 +110,24 @@ impl<'a> Below<'a> {
         }
     }
 
-    fn op_before(&self, profile: Profile, tip: u32, op: &UndoOp) -> bool
+    fn op_before(&self, profile: Profile, tip: u32, op: &KeptOp) -> bool
         requires { tip ≤ highest }
         ensures { result ≡ tests.op_before profile tip (maps_below self.now) op.now }
     {
-        match op {
-            UndoOp::New { .. } => true,
-            UndoOp::First {
-                spent,
-                coin,
-                name,
-                ..
-            } => {
-                self.has_its_coin(profile, tip, name.as_slice())
-                    && self.not_asked(profile, tip, spent, coin)
+        match op.parts() {
+            OpParts::New { .. } => true,
+            OpParts::First { change, .. } => {
+                self.has_its_coin(profile, tip, change.name.as_slice())
+                    && self.not_asked(profile, tip, &change.spent, &change.coin)
             }
-            UndoOp::Update {
-                spent,
-                coin,
-                name,
-                ..
-            } => {
-                self.has_its_coin(profile, tip, name.as_slice())
-                    && self.not_asked(profile, tip, spent, coin)
+            OpParts::Update { change, .. } => {
+                self.has_its_coin(profile, tip, change.name.as_slice())
+                    && self.not_asked(profile, tip, &change.spent, &change.coin)
             }
         }
     }
 
-    fn all_before(&self, profile: Profile, tip: u32, ops: &[UndoOp]) -> bool
+    fn all_before(&self, profile: Profile, tip: u32, ops: &[KeptOp]) -> bool
         requires { tip ≤ highest }
         ensures { result ≡ tests.all_by (tests.op_before profile tip (maps_below self.now)) ops.now }
     {
@@ -164,18 +154,18 @@ impl<'a> Below<'a> {
         }
     }
 
-    fn op_after(&self, profile: Profile, tip: u32, op: &UndoOp) -> bool
+    fn op_after(&self, profile: Profile, tip: u32, op: &KeptOp) -> bool
         requires { tip ≤ highest }
         ensures { result ≡ tests.op_after profile tip (maps_below self.now) op.now }
     {
-        match op {
-            UndoOp::New { .. } => true,
-            UndoOp::First { spent, .. } => self.point_stands(profile, tip, spent),
-            UndoOp::Update { spent, .. } => self.point_stands(profile, tip, spent),
+        match op.parts() {
+            OpParts::New { .. } => true,
+            OpParts::First { change, .. } => self.point_stands(profile, tip, &change.spent),
+            OpParts::Update { change, .. } => self.point_stands(profile, tip, &change.spent),
         }
     }
 
-    fn all_after(&self, profile: Profile, tip: u32, ops: &[UndoOp]) -> bool
+    fn all_after(&self, profile: Profile, tip: u32, ops: &[KeptOp]) -> bool
         requires { tip ≤ highest }
         ensures { result ≡ tests.all_by (tests.op_after profile tip (maps_below self.now)) ops.now }
     {

@@ -2,9 +2,9 @@ ghost use Rattle.std.specs.Prelude.{◌≡◌, ◌<◌};
 
 use crate::images::value;
 use crate::outputs::output;
-use chain_names::{Coin, Item, Undo, UndoOp};
+use chain_names::{Change, ChangeRoom, Coin, Item, KeptOp, OpParts, Undo};
 use name_table::Table;
-use nmc_base::{Bytes, Hash20, Hash32, NoMemory, RoomyList, Steps};
+use nmc_base::{Boxed, CompactBytes, Hash20, Hash32, NoMemory, RoomyList, Steps};
 use registrations::fill;
 use std::alloc::Global;
 use std::marker::Brand;
@@ -55,27 +55,22 @@ fn told(alloc: Global, height: u32) -> Result<Item, NoMemory> {
 }
 
 /// The operation that gave a value behind one of the height before, unless it stands at the base.
-fn operation(alloc: Global, how: How, before: u32) -> Result<Option<UndoOp>, NoMemory> {
-    let name = Bytes::copy_of(alloc, b"d/a")?;
-    let before = Some(told(alloc, before)?);
-    let hash = Hash20([7; 20]);
-    let (made, spent, coin) = (output(2, 0), output(1, 0), Coin::New { hash, height: 1 });
+fn operation(alloc: Global, how: How, before: u32) -> Result<Option<KeptOp>, NoMemory> {
+    let room = ChangeRoom::new(alloc)?;
+    let before = Boxed::new(alloc, told(alloc, before)?)?;
+    let change = Change {
+        spent: output(1, 0),
+        coin: Coin::New {
+            hash: Hash20([7; 20]),
+            height: 1,
+        },
+        name: CompactBytes::copy_of(alloc, b"d/a")?,
+        before: Some(before),
+    };
     match how {
         How::AtBase => Ok(None),
-        How::Opened => Ok(Some(UndoOp::First {
-            made,
-            spent,
-            coin,
-            name,
-            before,
-        })),
-        How::Updated => Ok(Some(UndoOp::Update {
-            made,
-            spent,
-            coin,
-            name,
-            before,
-        })),
+        How::Opened => Ok(Some(room.first(output(2, 0), change))),
+        How::Updated => Ok(Some(room.update(output(2, 0), change))),
     }
 }
 
@@ -129,12 +124,16 @@ fn since(item: Option<&Item>) -> Option<u32> {
     Some(item?.registered)
 }
 
+fn since_before(change: &Change) -> Option<u32> {
+    since(Some(change.before.as_ref()?.as_ref()))
+}
+
 /// The registration height of the item before the operation of a record.
 pub(crate) fn before(undo: Option<&Undo>) -> Option<u32> {
-    match undo?.ops.item(0)? {
-        UndoOp::New { .. } => None,
-        UndoOp::First { before, .. } => since(before.as_ref()),
-        UndoOp::Update { before, .. } => since(before.as_ref()),
+    match undo?.ops.item(0)?.parts() {
+        OpParts::New { .. } => None,
+        OpParts::First { change, .. } => since_before(change),
+        OpParts::Update { change, .. } => since_before(change),
     }
 }
 

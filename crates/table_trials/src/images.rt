@@ -6,10 +6,10 @@ ghost use Rattle.table_trials.specs.Images.{AreShort, IsSmallRecord};
 
 use crate::coins::put;
 use crate::outputs::output;
-use chain_names::{Coin, HeldCoin, Item, Undo, UndoOp};
+use chain_names::{Change, ChangeRoom, Coin, HeldCoin, Item, KeptOp, Undo};
 use name_coins::Coins;
 use name_table::Table;
-use nmc_base::{Bytes, Hash20, Hash32, NoMemory, Profile, RoomyList, Steps};
+use nmc_base::{Boxed, Bytes, CompactBytes, Hash20, Hash32, NoMemory, Profile, RoomyList, Steps};
 use states_below::is_image_sound;
 use std::alloc::Global;
 use std::marker::Brand;
@@ -81,7 +81,7 @@ fn named(alloc: Global, name: &[u8], height: u32) -> Result<Coin, NoMemory>
     requires { length name.now ≤ LONGEST_NAME }
     ensures { IfOk result (λ coin. IsNameCoin coin) }
 {
-    let name = Bytes::copy_of(alloc, name)?;
+    let name = CompactBytes::copy_of(alloc, name)?;
     Ok(Coin::Named { name, height })
 }
 
@@ -170,19 +170,18 @@ fn coins_of<L: Ledger>(
 }
 
 /// The update of block 100.
-fn update(alloc: Global, image: &Image) -> Result<UndoOp, NoMemory>
+fn update(alloc: Global, image: &Image) -> Result<KeptOp, NoMemory>
     ensures { IfOk result (λ op. IsWithinLimitsOp op) }
 {
-    let coin = named(alloc, b"d/a", 90)?;
-    let name = Bytes::copy_of(alloc, b"d/a")?;
-    let before = Some(value(alloc, 90, image.began, 1)?);
-    Ok(UndoOp::Update {
-        made: output(2, 0),
+    let room = ChangeRoom::new(alloc)?;
+    let before = Boxed::new(alloc, value(alloc, 90, image.began, 1)?)?;
+    let change = Change {
         spent: output(1, 0),
-        coin,
-        name,
-        before,
-    })
+        coin: named(alloc, b"d/a", 90)?,
+        name: CompactBytes::copy_of(alloc, b"d/a")?,
+        before: Some(before),
+    };
+    Ok(room.update(output(2, 0), change))
 }
 
 /// The coin that expired with block 100.

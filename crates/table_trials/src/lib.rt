@@ -1,4 +1,4 @@
-//! Trials of the tables of names and of what they are made of: coins, histories, the queue of what expires, verdicts, undo records, images that are sound and that are read in pieces, registration heights.
+//! Trials of the tables of names and of what they are made of: coins, histories, the queue of what expires, verdicts, undo records, images that are sound and that are read in pieces, snapshots, registration heights.
 #![tactic(auto)]
 
 #[cfg(test)]
@@ -17,6 +17,8 @@ mod loading;
 mod outputs;
 #[cfg(test)]
 mod queue;
+#[cfg(test)]
+mod snapshots;
 #[cfg(test)]
 mod undo;
 #[cfg(test)]

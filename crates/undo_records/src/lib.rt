@@ -19,7 +19,7 @@ mod version;
 pub mod widths;
 mod writing;
 
-pub use chain_names::{Coin, HeldCoin, Item, Undo, UndoOp};
+pub use chain_names::{Coin, HeldCoin, Item, KeptOp, Undo};
 pub use fault::UndoFault;
 pub use law::text_laws;
 pub use reading::{UndoV1, read, read_v1, undo_at};

@@ -11,7 +11,7 @@ use crate::fields::{point_at, u32_at};
 use crate::ops::op_at;
 use crate::owned::{owned_coin, owned_op};
 use crate::version::Version;
-use chain_names::{HeldCoin, UndoOp};
+use chain_names::{HeldCoin, KeptOp};
 use nmc_base::{OutPoint, RoomyList};
 use std::alloc::Global;
 use std::cmp::Ordering;
@@ -20,7 +20,7 @@ use std::cmp::Ordering;
 fn next_op<'a>(
     alloc: Global,
     version: Version,
-    ops: &mut RoomyList<UndoOp>,
+    ops: &mut RoomyList<KeptOp>,
     bytes: &'a [u8],
 ) -> Result<&'a [u8], Stop<'a>>
     ensures { Gives (λ rest. (ops.new.items, rest.now)) result (map_from (λ op. ops.old.items ++ op ∷ []) (op_from version) bytes.now) }
@@ -37,7 +37,7 @@ fn many_ops<'a>(
     alloc: Global,
     version: Version,
     count: u32,
-    ops: &mut RoomyList<UndoOp>,
+    ops: &mut RoomyList<KeptOp>,
     bytes: &'a [u8],
 ) -> Result<&'a [u8], Stop<'a>>
     requires { ops.old.items ≡ [] }
@@ -56,7 +56,7 @@ fn many_ops<'a>(
 fn ops_at<'a>(
     alloc: Global,
     version: Version,
-    ops: &mut RoomyList<UndoOp>,
+    ops: &mut RoomyList<KeptOp>,
     bytes: &'a [u8],
 ) -> Result<&'a [u8], Stop<'a>>
     requires { ops.old.items ≡ [] }
@@ -154,7 +154,7 @@ fn expired_at<'a>(
 pub(crate) fn lists_at<'a>(
     alloc: Global,
     version: Version,
-    ops: &mut RoomyList<UndoOp>,
+    ops: &mut RoomyList<KeptOp>,
     expired: &mut RoomyList<HeldCoin>,
     bytes: &'a [u8],
 ) -> Result<&'a [u8], Stop<'a>>

@@ -1,12 +1,11 @@
 //! What was found, with memory of its own.
 
 ghost use Rattle.std.specs.Prelude.{◌≡◌, IfOk};
-ghost use Rattle.chain_names.specs.Writable.{change_of};
 ghost use Rattle.undo_records.specs.Fields.{seen_coin, seen_item, seen_before, seen_change, seen_op, op_of};
 
 use crate::found::{ChangeKind, FoundChange, FoundCoin, FoundItem, FoundOp};
-use chain_names::{Coin, Item, UndoOp};
-use nmc_base::{Bytes, NoMemory, OutPoint};
+use chain_names::{Change, ChangeRoom, Coin, Item, KeptOp};
+use nmc_base::{Boxed, Bytes, CompactBytes, NoMemory};
 use std::alloc::Global;
 
 /// The same coin.
@@ -16,7 +15,7 @@ pub fn owned_coin(alloc: Global, found: FoundCoin<'_>) -> Result<Coin, NoMemory>
     match found {
         FoundCoin::New { hash, height } => Ok(Coin::New { hash, height }),
         FoundCoin::Named { name, height } => {
-            let name = Bytes::copy_of(alloc, name)?;
+            let name = CompactBytes::copy_of(alloc, name)?;
             Ok(Coin::Named { name, height })
         }
     }
@@ -35,44 +34,18 @@ pub fn owned_item(alloc: Global, found: FoundItem<'_>) -> Result<Item, NoMemory>
     })
 }
 
-fn owned_before(alloc: Global, found: Option<FoundItem<'_>>) -> Result<Option<Item>, NoMemory>
+fn owned_before(
+    alloc: Global,
+    found: Option<FoundItem<'_>>,
+) -> Result<Option<Boxed<Item>>, NoMemory>
     ensures { IfOk result (λ before. before ≡ seen_before found.entry) }
 {
     match found {
         Some(item) => {
             let item = owned_item(alloc, item)?;
-            Ok(Some(item))
+            Ok(Some(Boxed::new(alloc, item)?))
         }
         None => Ok(None),
-    }
-}
-
-/// The operation that a change of this kind is.
-fn change_op(
-    kind: ChangeKind,
-    made: OutPoint,
-    spent: OutPoint,
-    coin: Coin,
-    name: Bytes,
-    before: Option<Item>,
-) -> UndoOp
-    ensures { result ≡ op_of kind (change_of made spent coin name before) }
-{
-    match kind {
-        ChangeKind::First => UndoOp::First {
-            made,
-            spent,
-            coin,
-            name,
-            before,
-        },
-        ChangeKind::Update => UndoOp::Update {
-            made,
-            spent,
-            coin,
-            name,
-            before,
-        },
     }
 }
 
@@ -80,21 +53,29 @@ fn owned_change(
     alloc: Global,
     kind: ChangeKind,
     change: FoundChange<'_>,
-) -> Result<UndoOp, NoMemory>
+) -> Result<KeptOp, NoMemory>
     ensures { IfOk result (λ op. op ≡ op_of kind (seen_change change.entry)) }
 {
-    let name = Bytes::copy_of(alloc, change.name)?;
-    let coin = owned_coin(alloc, change.coin)?;
-    let before = owned_before(alloc, change.before)?;
-    Ok(change_op(kind, change.made, change.spent, coin, name, before))
+    let room = ChangeRoom::new(alloc)?;
+    let made = change.made;
+    let change = Change {
+        spent: change.spent,
+        coin: owned_coin(alloc, change.coin)?,
+        name: CompactBytes::copy_of(alloc, change.name)?,
+        before: owned_before(alloc, change.before)?,
+    };
+    match kind {
+        ChangeKind::First => Ok(room.first(made, change)),
+        ChangeKind::Update => Ok(room.update(made, change)),
+    }
 }
 
 /// The same operation.
-pub fn owned_op(alloc: Global, found: FoundOp<'_>) -> Result<UndoOp, NoMemory>
+pub fn owned_op(alloc: Global, found: FoundOp<'_>) -> Result<KeptOp, NoMemory>
     ensures { IfOk result (λ op. op ≡ seen_op found.entry) }
 {
     match found {
-        FoundOp::New { made } => Ok(UndoOp::New { made }),
+        FoundOp::New { made } => Ok(KeptOp::commitment(made)),
         FoundOp::Change(kind, change) => owned_change(alloc, kind, change),
     }
 }

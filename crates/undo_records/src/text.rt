@@ -11,8 +11,8 @@ ghost use Rattle.undo_records.specs.Text.{point_text, name_text, coin_text, item
 
 use crate::coins::{NAMED, NEW, NONE_BEFORE, SOME_BEFORE};
 use crate::ops::{FIRST, MADE, UPDATE};
-use chain_names::{Coin, HeldCoin, Item, UndoOp};
-use nmc_base::{Bytes, NoMemory, OutPoint};
+use chain_names::{Change, Coin, HeldCoin, Item, KeptOp, OpParts};
+use nmc_base::{Boxed, Bytes, NoMemory, OutPoint};
 
 /// A number of 4 bytes, low byte first.
 pub fn add_u32(out: &mut Bytes, number: u32) -> Result<(), NoMemory>
@@ -83,14 +83,14 @@ pub fn add_item(out: &mut Bytes, item: &Item) -> Result<(), NoMemory>
 
 /// The item before, if there was one.
 #[tactic(auto, unfolding(crate::specs::Text::before_text))]
-fn add_before(out: &mut Bytes, before: &Option<Item>) -> Result<(), NoMemory>
+fn add_before(out: &mut Bytes, before: &Option<Boxed<Item>>) -> Result<(), NoMemory>
     requires { IsShortBefore before.now }
     ensures { OnOk result (out.new ≡ out.old ++ before_text Two before.now) }
 {
     match before {
         Some(item) => {
             out.extend(&[SOME_BEFORE])?;
-            add_item(out, item)
+            add_item(out, item.as_ref())
         }
         None => out.extend(&[NONE_BEFORE]),
     }
@@ -98,56 +98,36 @@ fn add_before(out: &mut Bytes, before: &Option<Item>) -> Result<(), NoMemory>
 
 /// A first change or an update, behind its tag.
 #[tactic(auto, unfolding(crate::specs::Text::change_text))]
-fn add_change(
-    out: &mut Bytes,
-    tag: u8,
-    made: &OutPoint,
-    spent: &OutPoint,
-    coin: &Coin,
-    name: &Bytes,
-    before: &Option<Item>,
-) -> Result<(), NoMemory>
-    requires coin { HasShortName coin.now }
-    requires name { IsWritableName name.now }
-    requires before { IsShortBefore before.now }
-    ensures { OnOk result (out.new ≡ out.old ++ tag ∷ change_text Two (change_of made.now spent.now coin.now name.now before.now)) }
+fn add_change(out: &mut Bytes, tag: u8, made: &OutPoint, change: &Change) -> Result<(), NoMemory>
+    requires coin { HasShortName change.now.coin }
+    requires name { IsWritableName change.now.name }
+    requires before { IsShortBefore change.now.before }
+    ensures { OnOk result (out.new ≡ out.old ++ tag ∷ change_text Two (change_of made.now change.now.spent change.now.coin change.now.name change.now.before)) }
 {
     out.extend(&[tag])?;
     add_point(out, made)?;
-    add_point(out, spent)?;
-    add_coin(out, coin)?;
-    add_name(out, name.as_slice())?;
-    add_before(out, before)
+    add_point(out, &change.spent)?;
+    add_coin(out, &change.coin)?;
+    add_name(out, change.name.as_slice())?;
+    add_before(out, &change.before)
 }
 
 #[tactic(auto, unfolding(crate::specs::Text::op_text))]
-fn add_op(out: &mut Bytes, op: &UndoOp) -> Result<(), NoMemory>
+fn add_op(out: &mut Bytes, op: &KeptOp) -> Result<(), NoMemory>
     requires { IsWithinLimitsOp op.now }
     ensures { OnOk result (out.new ≡ out.old ++ op_text Two op.now) }
 {
-    match op {
-        UndoOp::New { made } => {
+    match op.parts() {
+        OpParts::New { made } => {
             out.extend(&[MADE])?;
             add_point(out, made)
         }
-        UndoOp::First {
-            made,
-            spent,
-            coin,
-            name,
-            before,
-        } => add_change(out, FIRST, made, spent, coin, name, before),
-        UndoOp::Update {
-            made,
-            spent,
-            coin,
-            name,
-            before,
-        } => add_change(out, UPDATE, made, spent, coin, name, before),
+        OpParts::First { made, change } => add_change(out, FIRST, made, change),
+        OpParts::Update { made, change } => add_change(out, UPDATE, made, change),
     }
 }
 
-pub(crate) fn add_ops(out: &mut Bytes, ops: &[UndoOp]) -> Result<(), NoMemory>
+pub(crate) fn add_ops(out: &mut Bytes, ops: &[KeptOp]) -> Result<(), NoMemory>
     requires { AllByRecursion IsWithinLimitsOp ops.now }
     ensures { OnOk result (out.new ≡ out.old ++ flat_map (op_text Two) ops.now) }
 {

@@ -9,8 +9,8 @@ ghost use Rattle.chain_names.specs.Seen.{seen_undo};
 ghost use Rattle.chain_names.specs.Writable.{IsWritablePoint, IsWritable};
 ghost use Rattle.undo_records.specs.Measured.{IsMeasuredBefore, IsMeasuredChange, IsMeasuredOp, IsMeasuredHeld, IsMeasured};
 
-use chain_names::{Coin, HeldCoin, Item, Undo, UndoOp};
-use nmc_base::{Hash20, Hash32, OutPoint};
+use chain_names::{Change, Coin, HeldCoin, Item, KeptOp, OpParts, Undo};
+use nmc_base::{Boxed, Hash20, Hash32, OutPoint};
 
 /// The widths of an outpoint.
 pub fn read_point(at: OutPoint)
@@ -41,45 +41,33 @@ pub fn read_item(item: &Item)
     read_point(item.at);
 }
 
-fn read_before(before: &Option<Item>)
+fn read_before(before: &Option<Boxed<Item>>)
     ensures { IsMeasuredBefore before.now }
 {
     if let Some(item) = before {
-        read_item(item);
+        read_item(item.as_ref());
     }
 }
 
-fn read_change(made: OutPoint, spent: OutPoint, coin: &Coin, before: &Option<Item>)
-    ensures { IsMeasuredChange made spent coin.now before.now }
+fn read_change(made: OutPoint, change: &Change)
+    ensures { IsMeasuredChange made change.now.spent change.now.coin change.now.before }
 {
     read_point(made);
-    read_coin(spent, coin);
-    read_before(before);
+    read_coin(change.spent, &change.coin);
+    read_before(&change.before);
 }
 
-fn read_op(op: &UndoOp)
+fn read_op(op: &KeptOp)
     ensures { IsMeasuredOp op.now }
 {
-    match op {
-        UndoOp::New { made } => read_point(*made),
-        UndoOp::First {
-            made,
-            spent,
-            coin,
-            before,
-            ..
-        } => read_change(*made, *spent, coin, before),
-        UndoOp::Update {
-            made,
-            spent,
-            coin,
-            before,
-            ..
-        } => read_change(*made, *spent, coin, before),
+    match op.parts() {
+        OpParts::New { made } => read_point(*made),
+        OpParts::First { made, change } => read_change(*made, change),
+        OpParts::Update { made, change } => read_change(*made, change),
     }
 }
 
-fn read_ops(ops: &[UndoOp])
+fn read_ops(ops: &[KeptOp])
     ensures { AllByRecursion IsMeasuredOp ops.now }
 {
     let mut rest = ops;
@@ -103,7 +91,8 @@ fn read_block(block: Hash32)
     ensures { length block.0 ≡ 32 }
 {}
 
-fn read_parts(undo: &Undo)
+/// The widths of a record.
+pub fn read_record(undo: &Undo)
     ensures { IsMeasured (seen_undo undo.now) }
 {
     read_block(undo.block);
@@ -116,5 +105,5 @@ pub(crate) fn read_widths(undo: &Undo)
     requires { IsWithinLimits (seen_undo undo.now) }
     ensures { IsWritable (seen_undo undo.now) }
 {
-    read_parts(undo);
+    read_record(undo);
 }

@@ -23,7 +23,7 @@ returns-clause-ok g c =
       fresh = c.requires.fresh;
       coins_are = c.put.ensures.coins ∙ ap (λ f. changed same_point f c.args.made (Some (New c.args.hash c.args.self.now.height))) c.in_ok-place.ensures.coins;
       places_are = c.put.ensures.places ∙ c.in_ok-place.ensures.ok;
-      ops_are = c.push.ensures.items ∙ ap (λ l. l ++ undo_new c.args.made ∷ []) c.in_ok-reserve-2.ensures.items;
+      ops_are = c.push.ensures.items ∙ ap (λ op. c.reserve-2.new.self.items ++ op ∷ []) c.commitment.ensures ∙ ap (λ l. l ++ undo_new c.args.made ∷ []) c.in_ok-reserve-2.ensures.items;
       empty_is = c.in_ok-reserve.ensures.items;
       room = grind (arith, common_steps, length-append c.args.self.now.ops.items (undo_new c.args.made ∷ []), c.in_ok-room.ensures, c.checked_add.ensures);
     })

@@ -1,3 +1,6 @@
+use Rattle.chain_names.specs.declared.kept_op.Change.{Change}
+use Rattle.chain_names.specs.declared.undo.UndoOp.TheVariants.{First as undo_first}
+use Rattle.std.proofs.Common.{◌∙◌, ◌++◌, ◌∷◌, [], ap}
 use Rattle.chain_state.proofs.NameLemmas.{opened}
 use Rattle.chain_state.proofs.work.Work.open.Goals as goal
 
@@ -15,4 +18,5 @@ returns-clause-ok g c =
       fresh = c.requires.fresh;
       shifts = c.in_ok-shift.ensures.ok;
     })
-    c.push.ensures.items
+    (c.push.ensures.items ∙ ap (λ op. c.shift.new.self.ops.items ++ op ∷ [])
+    (c.first.ensures ∙ ap (λ (change : Change). undo_first c.args.made.now change.spent change.coin change.name change.before) c.change_of.ensures))

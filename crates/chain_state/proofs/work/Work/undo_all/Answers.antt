@@ -1,4 +1,4 @@
-use Rattle.std.proofs.Common.{◌∷◌, [], length, refl, ap, arith, length-append}
+use Rattle.std.proofs.Common.{◌∷◌, [], ◌++◌, ◌∙◌, length, refl, ap, sym, arith, length-append}
 use Rattle.std.proofs.lemmas.Grind.{common_steps}
 use Rattle.name_tables.proofs.ListLemmas.{one_more}
 use Rattle.chain_state.proofs.UndoneLemmas.{popped_work, went_back, gone_back}
@@ -8,7 +8,7 @@ pub loop-op-init : goal.loop-op-init
 loop-op-init g c = (record { before = refl; height = refl; work = c.requires }, omega arith, omega arith)
 
 pub undo-requires : goal.undo-requires
-undo-requires g c = popped_work c.loop-op.self c.pop.new.self c.in-Some.op c.in-Some.ensures.some c.loop-op.invariant.0.work
+undo-requires g c = popped_work c.loop-op.self c.pop.new.self c.into_op.result (c.in-Some.ensures.some ∙ ap (λ op. c.pop.new.self.items ++ op ∷ []) (sym c.into_op.ensures)) c.loop-op.invariant.0.work
 
 pub loop-op-smaller : goal.loop-op-smaller
 loop-op-smaller g c =
@@ -16,7 +16,7 @@ loop-op-smaller g c =
 
 pub loop-op-preserved : goal.loop-op-preserved
 loop-op-preserved g c = (
-  went_back _ c.loop-op.self _ c.undo.new.self c.in-Some.op c.pop.new.self.items c.in-Some.ensures.some c.loop-op.invariant.0 c.undo.ensures.back refl,
+  went_back _ c.loop-op.self _ c.undo.new.self c.into_op.result c.pop.new.self.items (c.in-Some.ensures.some ∙ ap (λ op. c.pop.new.self.items ++ op ∷ []) (sym c.into_op.ensures)) c.loop-op.invariant.0 c.undo.ensures.back refl,
   omega (arith, c.loop-op.invariant.1, c.undo.ensures.emptied, ap length c.undo.ensures.back.ops_are, one_more _ _ _ c.in-Some.ensures.some),
   omega (arith, c.loop-op.invariant.2, c.undo.ensures.cost, ap length c.undo.ensures.back.ops_are, one_more _ _ _ c.in-Some.ensures.some),
 )

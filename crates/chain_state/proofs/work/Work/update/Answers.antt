@@ -1,5 +1,8 @@
 use Rattle.chain_names.specs.Coins.{entry_of, registered_behind}
 use Rattle.chain_names.specs.Tables.{names_in}
+use Rattle.chain_names.specs.declared.kept_op.Change.{Change}
+use Rattle.chain_names.specs.declared.undo.UndoOp.TheVariants.{Update as undo_update}
+use Rattle.std.proofs.Common.{◌∙◌, ◌++◌, ◌∷◌, [], ap}
 use Rattle.chain_state.proofs.NameLemmas.{updated}
 use Rattle.chain_state.proofs.work.Work.update.Goals as goal
 
@@ -17,4 +20,5 @@ returns-clause-ok g c =
       fresh = c.requires.fresh;
       shifts = c.in_ok-shift.ensures.ok;
     })
-    c.push.ensures.items
+    (c.push.ensures.items ∙ ap (λ op. c.shift.new.self.ops.items ++ op ∷ [])
+    (c.update.ensures ∙ ap (λ (change : Change). undo_update c.args.made.now change.spent change.coin change.name change.before) c.change_of.ensures))

@@ -1,0 +1,11 @@
+pub mod PutLemmas
+pub mod FormLaws
+pub mod FollowLaws
+pub mod WholeLaws
+pub mod StayLaws
+pub mod HeldLaws
+pub mod IndexLemmas
+pub mod TurnLemmas
+pub mod FeedLemmas
+pub mod BeginLemmas
+pub mod RowLemmas

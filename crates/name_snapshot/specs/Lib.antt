@@ -1,0 +1,10 @@
+pub mod Text
+pub mod Makes
+pub mod Faults
+pub mod Reading
+pub mod Fields
+pub mod Answers
+pub mod Standing
+pub mod Turning
+pub mod Feeding
+pub mod Rows

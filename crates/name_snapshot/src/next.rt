@@ -1,0 +1,6 @@
+/// What of a snapshot comes next, and how many of them are left.
+#[derive(Clone, Copy)]
+pub enum Next {
+    Head,
+    Makes { left: u32 },
+}
