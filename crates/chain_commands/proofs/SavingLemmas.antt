@@ -69,7 +69,8 @@ save_leaves_chain old new reply (lacks_memory none new-is told) = ap chain_of ne
 -- ---- what is saved stays
 
 text_kept : (run : RunState) (command : Command) → IsSavedText run → IsSavedText (accepted run command)
-text_kept run command (none_yet none no_commands no_text) = none_yet none no_commands no_text
+text_kept run command (none_yet none no_commands no_start no_text) = none_yet none no_commands no_start no_text
+text_kept run command (of_start version none no_commands some is_text) = of_start version none no_commands some is_text
 text_kept run command (of_chain version some is_text) = of_chain version some is_text
 
 pub command_keeps : (run : RunState) (command : Command) → HasSaved run → HasSaved (accepted run command)

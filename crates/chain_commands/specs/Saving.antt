@@ -1,5 +1,5 @@
 -- Saves: when the index is not saved, and what a save leaves.
-use Rattle.std.specs.Prelude.{◌≡◌, ℕ, ◌+◌, ◌-◌, ◌<◌, ◌≤◌, ◌^◌, List, [], ◌++◌, length}
+use Rattle.std.specs.Prelude.{◌≡◌, ◌≢◌, ℕ, ◌+◌, ◌-◌, ◌<◌, ◌≤◌, ◌^◌, List, [], ◌++◌, length}
 use Rattle.std.specs.Int.{w64, to_le_bytes}
 use Rattle.chain_names.specs.Index.{index_maps}
 use Rattle.chain_names.specs.Undo.{UndoRecord}
@@ -90,9 +90,11 @@ Saves old reply new = Answers saves (HoldsSave old) (LeavesSaved old) old reply 
 
 -- ---- what is saved
 
--- nothing was saved yet; or the text is that of the saved chain's index, in either version
+-- Nothing was saved yet: the text is that of the start list's index, and empty where this list is. Or it is that of the saved chain's
+-- index. A text is in either version.
 pub data IsSavedText (run : RunState) : Type 0 where
-  none_yet : run.selections ≡ 0 → run.saved ≡ [] → run.text ≡ [] → IsSavedText run
+  none_yet : run.selections ≡ 0 → run.saved ≡ [] → run.start ≡ [] → run.text ≡ [] → IsSavedText run
+  of_start : (version : Version) → run.selections ≡ 0 → run.saved ≡ [] → run.start ≢ [] → IsTextOf version (saved_chain run) run.text → IsSavedText run
   of_chain : (version : Version) → 0 < run.selections → IsTextOf version (saved_chain run) run.text → IsSavedText run
 
 -- what a run state says of its saves, where it has room for what is saved

@@ -42,8 +42,7 @@ no_text version image e = omega (arith, ap length e)
 begun_state : (base : Base) (host : List ℕ) → IsBegun base host → IsRunState (begun_on base host)
 begun_state base host begun = record {
   begun = begun;
-  start_is = refl;
-  has_saved = record { text_is = nothing_saved refl refl refl; short = omega arith; few = omega arith };
+  has_saved = record { text_is = nothing_saved refl refl refl refl; short = omega arith; few = omega arith };
   again = λ version is. absurd (no_text version is.is_text.image is.is_text.text_is);
   valid = record { low = begun.low; starts = record { makes = tt; few = omega arith } };
   allowed_before = tt;

@@ -111,7 +111,6 @@ module _ (store : Stored) (run : RunState) (s : StandsFor store run) (few : stor
   pub saved_state : IsRunState (saved_by run text)
   saved_state = record {
     begun = s.is_state.begun;
-    start_is = s.is_state.start_is;
     has_saved = saved_has run text (omega (arith, s.selections, few)) (text_of store.index (chain_of run) s.index text is) short;
     again = of_all (λ chain. (version : Version) (other : IsTextOf version chain text) → HasText other.is_text.image) (read_again store.index (chain_of run) s.index text is short);
     valid = of_all (λ chain. AreValid chain.base chain.start chain.blocks) s.index.valid;

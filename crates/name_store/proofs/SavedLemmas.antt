@@ -16,7 +16,7 @@ use Rattle.chain_commands.specs.Chain.{Chain}
 use Rattle.chain_commands.specs.Event.{Command, Connect, Disconnect}
 use Rattle.undo_records.specs.declared.version.Version.{Version}
 use Rattle.image_grammar.specs.Image.{HasText}
-use Rattle.chain_commands.specs.Saving.{IsTextOf, IsSavedText, none_yet, of_chain}
+use Rattle.chain_commands.specs.Saving.{IsTextOf, IsSavedText, none_yet, of_start, of_chain}
 use Rattle.chain_commands.specs.RunState.{RunState, on_base, after_command, after_commands, saved_chain, chain_of}
 use Rattle.index_commands.specs.Standing.{StandsFor}
 use Rattle.image_files.specs.Fronts.{HasFront, image_at}
@@ -104,15 +104,20 @@ module _ (run : RunState) (is : IsRunState run) where
   base_of : (saved_chain run).base ≡ run.base
   base_of = commands_base (on_base run.base run.start) run.saved
 
-  none_saved : run.saved ≡ [] → saved_chain run ≡ on_base run.base []
-  none_saved none = λ i. after_commands (on_base run.base (is.start_is i)) (none i)
+  none_saved : run.saved ≡ [] → run.start ≡ [] → saved_chain run ≡ on_base run.base []
+  none_saved none no_start = λ i. after_commands (on_base run.base (no_start i)) (none i)
+
+  -- an index with which its area begins is that of the text
+  begins_by : (version : Version) → IsTextOf version (saved_chain run) run.text → (index : Indexed) → BeginsWith run.base run.text index → StandsFor index (saved_chain run)
+  begins_by version is_text index begins =
+      text_stands (saved_chain run) is.valid version run.text is_text (is.again version is_text) index (subst (λ (b : Base). BeginsWith b run.text index) (sym base_of) begins)
 
   -- an index with which its area begins is that of what is saved
   begins_saved : IsSavedText run → (index : Indexed) → BeginsWith run.base run.text index → StandsFor index (saved_chain run)
-  begins_saved (none_yet no_selection none empty) index begins =
-      subst (StandsFor index) (sym (none_saved none)) (base_stands run.base [] index (subst (λ (l : List ℕ). BeginsWith run.base l index) empty begins))
-  begins_saved (of_chain version some is_text) index begins =
-      text_stands (saved_chain run) is.valid version run.text is_text (is.again version is_text) index (subst (λ (b : Base). BeginsWith b run.text index) (sym base_of) begins)
+  begins_saved (none_yet no_selection none no_start empty) index begins =
+      subst (StandsFor index) (sym (none_saved none no_start)) (base_stands run.base [] index (subst (λ (l : List ℕ). BeginsWith run.base l index) empty begins))
+  begins_saved (of_start version no_selection none some is_text) index begins = begins_by version is_text index begins
+  begins_saved (of_chain version some is_text) index begins = begins_by version is_text index begins
 
   pub saved_stands : (index : Indexed) → BeginsWith run.base run.text index → StandsFor index (saved_chain run)
   saved_stands index begins = begins_saved is.has_saved.text_is index begins
@@ -127,10 +132,14 @@ module _ (run : RunState) (is : IsRunState run) where
     pub saved_image : image_at file ≡ run.text
     saved_image = area_image run.text records file short_text area
 
-    undamaged_by : IsSavedText run → (at : ℕ) → HasBadImage run.base file at → ⊥
-    undamaged_by (none_yet no_selection none empty) at bad = empty_undamaged run.base file at saved_front (saved_image ∙ empty) bad
-    undamaged_by (of_chain version some is_text) at bad =
+    whole_by : (version : Version) → IsTextOf version (saved_chain run) run.text → (at : ℕ) → HasBadImage run.base file at → ⊥
+    whole_by version is_text at bad =
         text_undamaged (saved_chain run) is.valid version run.text is_text (is.again version is_text) file at saved_front saved_image (subst (λ (b : Base). HasBadImage b file at) (sym base_of) bad)
+
+    undamaged_by : IsSavedText run → (at : ℕ) → HasBadImage run.base file at → ⊥
+    undamaged_by (none_yet no_selection none no_start empty) at bad = empty_undamaged run.base file at saved_front (saved_image ∙ empty) bad
+    undamaged_by (of_start version no_selection none some is_text) at bad = whole_by version is_text at bad
+    undamaged_by (of_chain version some is_text) at bad = whole_by version is_text at bad
 
     pub saved_not_bad : (at : ℕ) → HasBadImage run.base file at → ⊥
     saved_not_bad at bad = undamaged_by is.has_saved.text_is at bad

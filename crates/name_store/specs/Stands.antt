@@ -1,6 +1,7 @@
 -- What the bytes of the three files stand for.
 use Rattle.std.specs.Prelude.{◌≡◌, ◌⊎◌, ℕ, ◌≤◌, List, []}
 use Rattle.nmc_base.specs.declared.chain_ends.Base.{Base}
+use Rattle.chain_names.specs.Log.{Log}
 use Rattle.disk_model.specs.Moments.{Files, IsImage}
 use Rattle.gate_journal.specs.Records.{IsArea}
 use Rattle.undo_records.specs.declared.version.Version.{Version}
@@ -21,7 +22,6 @@ Bytes = ℕ → List ℕ
 -- allowed at its turn, and the area is no longer than the longest.
 pub record IsRunState (run : RunState) : Type 0 where
   pub begun : IsBegun run.base run.host
-  pub start_is : run.start ≡ []
   pub has_saved : HasSaved run
   pub again : (version : Version) (is : IsTextOf version (saved_chain run) run.text) → HasText is.is_text.image
   pub valid : AreValid (saved_chain run).base (saved_chain run).start (saved_chain run).blocks
@@ -44,6 +44,10 @@ EachStands files run = (image : Bytes) → IsImage files image → Stands image 
 abbrev pub EachStandsForEither : RunState → RunState → Files → Type 0
 EachStandsForEither before after files = (image : Bytes) → IsImage files image → Stands image before ⊎ Stands image after
 
--- a base with its host, before any command
+-- a base with its host and a start list, before any command; and the text of the start list's index
+abbrev pub begun_from : Base → List ℕ → Log → List ℕ → RunState
+begun_from base host start text = record { base = base; host = host; start = start; saved = []; since = []; selections = 0; text = text }
+
+-- the same without a start list
 abbrev pub begun_on : Base → List ℕ → RunState
-begun_on base host = record { base = base; host = host; start = []; saved = []; since = []; selections = 0; text = [] }
+begun_on base host = begun_from base host [] []

@@ -1,4 +1,4 @@
-ghost use Rattle.std.specs.Prelude.{◌≡◌, ◌≤◌, [], length, IfOk};
+ghost use Rattle.std.specs.Prelude.{◌≡◌, ◌≤◌, [], length, IfOk, IsOk};
 
 use crate::no_memory::NoMemory;
 use std::alloc::Global;
@@ -40,7 +40,9 @@ impl CompactBytes {
 
     /// A list of these bytes.
     pub fn copy_of(alloc: Global, bytes: &[u8]) -> Result<CompactBytes, NoMemory>
-        ensures { IfOk result (λ b. b ≡ bytes.now) }
+        ensures bytes { IfOk result (λ b. b ≡ bytes.now) }
+        // So few take no memory.
+        ensures few { length bytes.now ≤ 15 → IsOk result }
     {
         if bytes.len() <= PLACES {
             Ok(CompactBytes::inside(bytes))
