@@ -7,7 +7,7 @@ use Rattle.chain_commands.specs.Event.{Command, Connect, Disconnect}
 
 -- The base with its host, and the start list; the connects and disconnects that were accepted, the newest first: those
 -- that a save holds, and those since; how many saves were selected; and the text that the last of them saved, of the index
--- behind the commands that it holds: it is empty where nothing was saved.
+-- behind the commands that it holds. Where nothing was saved it is that of the start list's index, and empty where this list is.
 pub record RunState : Type 0 where
   pub base : Base
   pub host : List ℕ
