@@ -8,6 +8,8 @@ use Rattle.bridge_core.specs.declared.status.Status.{Status}
 use Rattle.bridge_core.specs.declared.status.Status.TheVariants.{Done, Words, Initialised, DiskFault}
 use Rattle.bridge_core.specs.declared.words.Command.TheVariants.{Init, Serve}
 use Rattle.bridge_core.specs.declared.words.Plan.{Plan}
+use Rattle.bridge_core.specs.declared.words.Start.{Start}
+use Rattle.bridge_core.specs.declared.words.Start.TheVariants.{Empty, Snapshot}
 
 pub initialised_not_done : {P : Type 0} → Initialised ≡ Done → P
 initialised_not_done e = cc
@@ -21,11 +23,16 @@ init_not_words (made was) e = cc
 init_not_words (stays was only) e = cc
 init_not_words (failed has) e = cc
 
-pub same_base : (found base : Base) (host name : List ℕ) → Some (Init found host) ≡ Some (Init base name) → found ≡ base
-same_base found base host name e = cc
+module _ (start : Start) (found base : Base) (host name : List ℕ) where
+  pub same_base : Some (Init start found host) ≡ Some (Init start base name) → found ≡ base
+  same_base e = cc
 
-pub same_host : (found base : Base) (host name : List ℕ) → Some (Init found host) ≡ Some (Init base name) → host ≡ name
-same_host found base host name e = cc
+  pub same_host : Some (Init start found host) ≡ Some (Init start base name) → host ≡ name
+  same_host e = cc
+
+-- one start list isn't the other
+pub other_start : {P : Type 0} (found base : Base) (host name : List ℕ) → Some (Init Empty found host) ≡ Some (Init Snapshot base name) → P
+other_start found base host name e = cc
 
 pub same_plan : (found plan : Plan) → Some (Serve found) ≡ Some (Serve plan) → found ≡ plan
 same_plan found plan e = cc
