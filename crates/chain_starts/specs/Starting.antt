@@ -1,5 +1,5 @@
 -- What making the files from a snapshot comes to.
-use Rattle.std.specs.Prelude.{◌≡◌, ◌<◌, ◌^◌, ℕ, Bool, IsTrue, List, length, Result, Ok, Err, OnOk, IsErrOf}
+use Rattle.std.specs.Prelude.{◌<◌, ◌^◌, ℕ, Bool, IsTrue, List, length, Result, Ok, Err, OnOk, IsErrOf}
 use Rattle.std.specs.Io.KnownBytes.{Consumes}
 use Rattle.fault_counts.specs.Faults.{NeverFell}
 use Rattle.byte_io.specs.Source.{SourceSeen}

@@ -1,4 +1,4 @@
-ghost use Rattle.std.specs.Prelude.{◌≡◌, ◌≤◌, ◌^◌, List, ℕ, IsTrue, IsErrOf};
+ghost use Rattle.std.specs.Prelude.{◌≡◌, ◌≤◌, ◌^◌, List, ℕ, length, IsTrue, IsErrOf};
 ghost use Rattle.disk_model.specs.DiskSeen.{bytes_in};
 ghost use Rattle.nmc_base.specs.declared.limits.TheConstants.{HIGHEST_HEIGHT};
 ghost use Rattle.name_store.specs.Host.{IsHostOf};
@@ -13,9 +13,14 @@ use disk_model::Disk;
 use domain_text::Name;
 use name_store::{CreateFromFault, create_from, is_initialised};
 use name_tables::Parts;
-use nmc_base::Base;
+use nmc_base::{Base, Hash32};
 use snapshot_feed::read_snapshot;
 use std::alloc::Global;
+
+/// A hash has 32 bytes.
+fn read_hash(hash: Hash32)
+    ensures { length hash.0 ≡ 32 }
+{}
 
 /// Makes the files of what was read, and lets go of it.
 fn make_of<D: Disk>(
@@ -31,6 +36,7 @@ fn make_of<D: Disk>(
     ensures { (name : List ℕ) → IsHostOf name host.now → (text : List ℕ) (has : HasStart base.now text parts)
         → CreatesFrom D.tells base.now name (start_of has.makes) (D.seen disk.old) (D.seen disk.new) result }
 {
+    read_hash(base.hash);
     create_from(alloc, disk, base, host, &parts)
 }
 

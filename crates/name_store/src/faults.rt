@@ -58,6 +58,17 @@ impl From<Failed> for CreateFault {
     }
 }
 
+impl From<Failed> for CreateFromFault {
+    ghost use Rattle.std.specs.Prelude.{◌≡◌};
+    ghost use Rattle.name_store.specs.declared.faults.CreateFromFault.TheVariants.{DiskFault};
+
+    ghost from_gives = { λ _ e. e ≡ DiskFault };
+
+    fn from(_: Failed) -> Self {
+        CreateFromFault::DiskFault
+    }
+}
+
 impl From<Failed> for OpenFault {
     ghost use Rattle.std.specs.Prelude.{◌≡◌};
     ghost use Rattle.name_store.specs.declared.faults.OpenFault.TheVariants.{DiskFault};

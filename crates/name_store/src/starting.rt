@@ -13,6 +13,7 @@ ghost use Rattle.name_store.specs.Starting.{IsStartIndex, IsStartText, CreateFro
 ghost use Rattle.name_store.specs.Stands.{EachStands, begun_from};
 
 use crate::faults::CreateFromFault;
+use crate::initialised::is_initialised;
 use disk_model::Disk;
 use domain_text::Name;
 use name_tables::Parts;
@@ -42,5 +43,8 @@ pub fn create_from<D: Disk>(
     ensures others { IsTrue D.tells → EachMoment (LeavesFrom 2 (D.seen disk.old).moments.now) (D.seen disk.old).moments (D.seen disk.new).moments }
     ensures ends { EndsWith CreateFromFault.DiskFault (D.seen disk.old) (D.seen disk.new) result }
 {
-    'ever: loop {}
+    if is_initialised(disk)? {
+        return Err(CreateFromFault::Initialised);
+    }
+    Err(CreateFromFault::NoMemory)
 }
