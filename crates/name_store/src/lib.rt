@@ -12,13 +12,10 @@ mod making;
 mod making_steps;
 mod opening;
 mod saving;
-mod starting;
 mod store;
 
-pub use faults::{CreateFault, CreateFromFault, OpenFault};
-pub use initialised::is_initialised;
+pub use faults::{CreateFault, OpenFault};
 pub use law::{images_of_a_store, one_damage, one_kind_of_files};
 pub use making::create;
 pub use saving::SaveRefusal;
-pub use starting::create_from;
 pub use store::{Outcome, Store};
