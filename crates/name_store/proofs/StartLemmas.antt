@@ -1,11 +1,10 @@
 -- The index of a start list, and its text.
-use Rattle.std.proofs.Common.{◌≡◌, ◌≢◌, ℕ, suc, ◌+◌, ◌≤◌, ◌-◌, ◌^◌, min, Bool, true, false, List, [], ◌∷◌, length, Ok, Err, refl, sym, ◌∙◌, ap, subst, arith}
-use Rattle.std.specs.Prelude.{Option, Some, None, if◌then◌else◌, Result, IsErrOf}
+use Rattle.std.proofs.Common.{◌≡◌, ◌≢◌, ℕ, suc, ◌+◌, ◌≤◌, Bool, List, [], ◌∷◌, length, refl, sym, ◌∙◌, ap, subst, arith}
+use Rattle.std.specs.Prelude.{Some, None, if◌then◌else◌}
 use Rattle.name_script.specs.NameScript.{NameOperation, name_new, name_firstupdate, name_update}
 use Rattle.nmc_base.specs.Heights.{highest}
 use Rattle.nmc_base.specs.declared.chain_ends.Base.{Base}
 use Rattle.nmc_base.specs.declared.chain_ends.Profile.{Profile}
-use Rattle.nmc_base.specs.declared.hashes.Hash32.{Hash32}
 use Rattle.nmc_base.specs.declared.hashes.OutPoint.{OutPoint}
 use Rattle.chain_names.specs.Coins.{Maps, coin_of, coin_now, unless_expired, live_coin}
 use Rattle.chain_names.specs.Log.{Log, Spend, Make}
@@ -14,12 +13,10 @@ use Rattle.chain_names.specs.Start.{IsStartOperation, IsStartMake, AreStartMakes
 use Rattle.chain_names.specs.Tables.{CoinSlots, coins_in, queue_of}
 use Rattle.chain_names.specs.Undo.{UndoRecord}
 use Rattle.chain_names.specs.UndoOf.{AreUndos}
-use Rattle.chain_names.specs.declared.coin.Coin.{Coin}
 use Rattle.chain_names.specs.declared.coin.Coin.TheVariants.{Named}
-use Rattle.chain_names.specs.declared.undo.Undo.{Undo}
 use Rattle.chain_names.proofs.Points.{same_point-self}
 use Rattle.chain_state.specs.Chain.{newest_hash}
-use Rattle.chain_state.specs.Standing.{AreValid, StandsForChain, chain_maps}
+use Rattle.chain_state.specs.Standing.{AreValid, StandsForChain}
 use Rattle.chain_state.proofs.SoundLemmas.{valid_sound}
 use Rattle.chain_commands.specs.RunState.{on_base}
 use Rattle.chain_commands.specs.Saving.{IsTextOf, longest_image}
@@ -29,11 +26,7 @@ use Rattle.name_tables.specs.Parts.{newest_first, tables_of}
 use Rattle.name_tables.specs.Tables.{maps_by}
 use Rattle.name_tables.specs.declared.parts.Parts.{Parts}
 use Rattle.undo_records.specs.declared.version.Version.TheVariants.{Two}
-use Rattle.name_store.specs.Header.{IsUninitialised}
-use Rattle.name_store.specs.Stands.{Bytes}
-use Rattle.name_store.specs.Starting.{IsStartIndex, start_index, HasCoin, IsStartText, HasShortText, IsStartImage, HasStartText, CreateFromAnswer}
-use Rattle.name_store.specs.declared.faults.CreateFromFault.{CreateFromFault}
-use Rattle.name_store.specs.declared.faults.CreateFromFault.TheVariants.{Initialised, DiskFault, NoMemory}
+use Rattle.name_store.specs.Starting.{IsStartIndex, start_index, HasCoin, IsStartText, HasShortText, HasStartText}
 use Rattle.name_store.proofs.SaveLemmas.{text_of, read_again}
 
 -- ---- the coins of a start list
@@ -124,12 +117,3 @@ module _ (base : Base) (start : Log) (parts : Parts) (is : IsStartIndex base sta
 pub one_start_text : (base : Base) (start : Log) (text other : List ℕ) → IsStartText base start text → IsStartText base start other → text ≡ other
 one_start_text base [] text other is also = is ∙ sym also
 one_start_text base (event ∷ start) text other is also = one_text Two (on_base base (event ∷ start)) text other is also
-
--- ---- the answer
-
--- of a step behind the look at the header
-pub step_answer : (old : Bytes) (result : Result (Unit {0}) CreateFromFault) → IsUninitialised (old 0) → (IsErrOf result Initialised → ⊥) → CreateFromAnswer old result
-step_answer old (Ok done) none other = none
-step_answer old (Err Initialised) none other = absurd (other refl)
-step_answer old (Err DiskFault) none other = tt
-step_answer old (Err NoMemory) none other = none

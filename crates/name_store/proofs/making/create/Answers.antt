@@ -1,4 +1,4 @@
-use Rattle.std.proofs.Common.{List, ℕ, [], arith}
+use Rattle.std.proofs.Common.{[], arith}
 use Rattle.disk_model.proofs.MomentLemmas.{join, last_moment}
 use Rattle.name_store.specs.Stands.{begun_on}
 use Rattle.name_store.proofs.StepLemmas.{from_unchanged, from_then}

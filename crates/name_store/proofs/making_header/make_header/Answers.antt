@@ -1,4 +1,4 @@
-use Rattle.std.proofs.Common.{rules, List, ℕ, [], ◌∷◌, ◌∙◌, ap, subst, arith}
+use Rattle.std.proofs.Common.{rules, List, ℕ, [], ◌∷◌, ◌∙◌, ap, subst}
 use Rattle.std.specs.Prelude.{IsTrue}
 use Rattle.nmc_base.specs.declared.chain_ends.Base.{Base}
 use Rattle.disk_model.specs.FileState.{put}

@@ -1,12 +1,11 @@
 use Rattle.std.proofs.Common.{List, ℕ, subst, arith}
 use Rattle.disk_model.specs.Moments.{EachMoment}
-use Rattle.disk_model.specs.DiskSeen.{bytes_in}
 use Rattle.disk_model.proofs.MomentLemmas.{join, last_moment}
 use Rattle.name_store.specs.Making.{EachIsBegun}
 use Rattle.name_store.specs.Stands.{begun_from}
 use Rattle.name_store.proofs.StepLemmas.{from_unchanged, from_then}
 use Rattle.name_store.proofs.MakingLemmas.{begun_state, looked_begun, area_begun, short_still, header_begun, header_stands}
-use Rattle.name_store.proofs.StartLemmas.{one_start_text, step_answer}
+use Rattle.name_store.proofs.StartLemmas.{one_start_text}
 use Rattle.name_store.proofs.starting.create_from.Goals as goal
 
 pub returns-in_err-is_initialised-clause-from_empty : goal.returns-in_err-is_initialised-clause-from_empty
