@@ -1,4 +1,4 @@
-//! Drafting an image: in the area that is not selected, and in any draft that was begun.
+//! Writing an image to a draft, and drafting one in the area that is not selected.
 ghost use Rattle.std.specs.Prelude.{◌≡◌, ◌<◌, ◌≤◌, List, ℕ, [], length, IsTrue, OnOk, IfOk};
 ghost use Rattle.disk_model.specs.Moments.{EachMoment};
 ghost use Rattle.disk_model.specs.Changes.{LeavesOthers};

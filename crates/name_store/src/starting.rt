@@ -25,7 +25,7 @@ use std::alloc::Global;
 /// Files that are initialised stay as they are. File 1 is made first, with the image of the index where the list has makes; then file 0
 /// with its gate closed, and last this gate is opened in a write of its own. So from an empty file 0 a crash leaves files that are
 /// uninitialised, or those of the start list. At each moment file 2 is as it was. Memory is taken for the order of coins and names, 16
-/// bytes for each, before the first write, and given back.
+/// bytes for each, before the first write, and given back. The header gets the absolute host text whose name the host is.
 pub fn create_from<D: Disk>(
     alloc: Global,
     disk: &mut D,

@@ -10,6 +10,11 @@ returns-in_err-is_initialised-clause-from_empty g c = λ tells text is_host empt
     let d0 = (g.D.Disk.seen c.args.disk.now).moments in
     looked_begun (begun_on c.args.base.now text) d0 (g.D.Disk.seen c.is_initialised.new.disk).moments empty (c.is_initialised.ensures.unchanged tells)
 
+pub returns-then-branch-clause-from_empty : goal.returns-then-branch-clause-from_empty
+returns-then-branch-clause-from_empty g c = λ tells text is_host empty.
+    let d0 = (g.D.Disk.seen c.args.disk.now).moments in
+    looked_begun (begun_on c.args.base.now text) d0 (g.D.Disk.seen c.is_initialised.new.disk).moments empty (c.is_initialised.ensures.unchanged tells)
+
 pub returns-in_err-make_area-clause-from_empty : goal.returns-in_err-make_area-clause-from_empty
 returns-in_err-make_area-clause-from_empty g c = λ tells text is_host empty.
     let d0 = (g.D.Disk.seen c.args.disk.now).moments in
