@@ -12,7 +12,7 @@ use Rattle.chain_commands.specs.Chain.{Chain}
 use Rattle.chain_commands.specs.Event.{Command}
 use Rattle.chain_commands.specs.RunState.{RunState, after_command, after_commands, on_base, chain_of, accepted}
 use Rattle.chain_commands.specs.Refusals.{accepts, declines, lacks_memory}
-use Rattle.chain_commands.specs.Saving.{IsTextOf, longest_image, most_selections, SaveRefusal, CheckpointLimit, ImageLimit, HasLongText, HoldsSave, save_order, save_refusal_reply, saved_by, LeavesSaved, Saves, IsSavedText, none_yet, of_chain, HasSaved}
+use Rattle.chain_commands.specs.Saving.{IsTextOf, longest_image, most_selections, SaveRefusal, CheckpointLimit, ImageLimit, HasLongText, HoldsSave, save_order, save_refusal_reply, saved_by, LeavesSaved, Saves, IsSavedText, none_yet, of_start, of_chain, HasSaved}
 use Rattle.chain_commands.proofs.RefusalLemmas.{DoesOne, code_of}
 
 -- ---- the text of a chain

@@ -45,8 +45,8 @@ fn add_names<L: Ledger>(total: u64, names: &Table, steps: &mut Steps<L>) -> u64
 {
     let mut sum = total;
     for i in 0..usize::MAX {
-        match names.name_at(i, steps) {
-            Some(name) => sum = add_history(sum, name, names.history(name, steps)),
+        match names.entry_at(i, steps) {
+            Some((name, items)) => sum = add_history(sum, name, items),
             None => return sum,
         }
     }

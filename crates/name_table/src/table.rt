@@ -1,4 +1,4 @@
-ghost use Rattle.std.specs.Prelude.{◌≡◌, ◌+◌, ◌-◌, ◌≤◌, ◌++◌, ◌∷◌, [], ℕ, List, true, false, if◌then◌else◌, Some, length, slice_get, IfOk, IfSome, OnOk, OnErr, MatchOption};
+ghost use Rattle.std.specs.Prelude.{◌≡◌, ◌+◌, ◌-◌, ◌≤◌, ◌++◌, ◌∷◌, [], ℕ, List, true, false, if◌then◌else◌, Some, None, slice_get, IfOk, IfSome, OnOk, OnErr, MatchOption};
 ghost use Rattle.std.specs.List.{AllByRecursion, IsDistinct};
 ghost use Rattle.std.specs.Map.{keys_of};
 ghost use Rattle.std.specs.Option.{is_some, option_copied};
@@ -165,7 +165,7 @@ impl Table {
 
     /// The i-th of the names that have a place, as `name_at` counts them, and the values that it was given, the oldest first.
     pub fn entry_at<L: Ledger>(&self, i: usize, steps: &mut Steps<L>) -> Option<(&[u8], &[Item])>
-        ensures name { MatchOption result (length self.now ≤ i) (λ p. slice_get (keys_of self.now) i ≡ Some p.0.now) }
+        ensures name { MatchOption result (slice_get (keys_of self.now) i ≡ None) (λ p. slice_get (keys_of self.now) i ≡ Some p.0.now) }
         ensures items { IfSome result (λ p. p.1.now ≡ names_in self.now p.0.now) }
         ensures measured { IfSome result (λ p. AllByRecursion IsMeasuredItem p.1.now) }
         ensures distinct { IsDistinct bytes_eq (keys_of self.now) }

@@ -7,12 +7,12 @@ loop-i-init g c = record { fits = omega arith; sum_is = omega arith; count = ref
 
 pub loop-i-preserved : goal.loop-i-preserved
 loop-i-preserved g c =
-    names_counted c.args.names.now c.args.total c.loop-i.sum c.add_history-sum.result c.loop-i.i (record { name = c.in-Some.name.now; items = c.history.result.now }) c.loop-i.invariant (sym c.in-Some.ensures.name)
-    c.history.ensures.items c.add_history-sum.ensures c.in-Some.ensures.distinct
+    names_counted c.args.names.now c.args.total c.loop-i.sum c.add_history-sum.result c.loop-i.i (record { name = c.in-Some.name.now; items = c.in-Some.items.now }) c.loop-i.invariant c.in-Some.ensures.name
+    c.in-Some.ensures.items c.add_history-sum.ensures c.in-Some.ensures.distinct
 
 pub returns-in-None : goal.returns-in-None
 returns-in-None g c = record {
-  length = names_past c.args.names.now c.args.total c.loop-i.sum c.loop-i.i c.loop-i.invariant (sym c.in-None.ensures.name);
+  length = names_past c.args.names.now c.args.total c.loop-i.sum c.loop-i.i c.loop-i.invariant c.in-None.ensures.name;
   distinct = c.in-None.ensures.distinct;
 }
 
