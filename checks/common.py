@@ -19,7 +19,7 @@ PORTS = range(20_000, 32_768)
 # The makers of blocks and of folders stand with the benchmarks.
 sys.path.insert(0, str(TOP / "bench"))
 
-from stores import INIT, PROGRAM, empty_folder, made_folder
+from stores import PROGRAM, empty_folder, knows_starts, made_folder
 
 BAD_WORDS = 2
 
@@ -44,12 +44,6 @@ def run_in(folder, words, given, output=subprocess.PIPE, **how):
     source = {"input": given} if isinstance(given, bytes) else {"stdin": given}
     run = subprocess.run([program(), *words], cwd=folder, stdout=output, stderr=subprocess.PIPE, timeout=SECONDS, **source, **how)
     return Run(run.stdout or b"", run.returncode, run.stderr.decode().strip())
-
-
-def knows_starts():
-    """Whether the program knows `init-from`. It is asked once: one that doesn't has bad words for it."""
-    with empty_folder() as folder:
-        return run_in(folder, ["init-from", *INIT[1:]], b"").status != BAD_WORDS
 
 
 def replay(given, output=subprocess.PIPE):
