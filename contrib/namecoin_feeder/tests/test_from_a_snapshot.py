@@ -1,5 +1,8 @@
 """A server whose files were made from a snapshot: its base stands in the midst of the node's chain, and the feeder goes on above it."""
-from .case import Case, question, unittest
+import subprocess
+
+from . import FEEDER
+from .case import SECONDS, Case, question, unittest
 from .chains import name_of
 from .serving import Serve
 from .stand_in import ModelChain, Replay, initialised, is_built, surviving
@@ -9,7 +12,7 @@ from images_model import Base, Index
 from model import Model
 from snapshot_model import Make, snapshot_text
 
-HEIGHT = 40
+HEIGHT, MAGIC = 40, bytes.fromhex("fabfb5da")
 ON_BASE = ("--base", str(HEIGHT))
 
 
@@ -78,6 +81,17 @@ class FromASnapshot(Case):
         self.feed(*ON_BASE)
         self.assert_same()
 
+    def test_block_files(self):
+        """Those that have all blocks, and those that begin above the base."""
+        self.node.move(self.chains.grow(self.base, 20))
+        blocks = [self.chains.blocks[hash].data for hash in [self.chains.first, *self.chains.path(self.node.tip)]]
+        path = self.room / "blk00000.dat"
+        for part in (blocks[: HEIGHT + 11], blocks[HEIGHT + 1 :]):
+            path.write_bytes(b"".join(MAGIC + len(block).to_bytes(4, "little") + block for block in part))
+            run = subprocess.run(self.words("--blocks", path), cwd=FEEDER, stderr=subprocess.PIPE, text=True, timeout=SECONDS)
+            self.assertEqual(run.returncode, 0, run.stderr)
+        self.assert_same()
+
     def test_a_fork_below_the_base(self):
         """Nothing is taken off for it; without the word `--base` all is, and then the base can't be left."""
         self.node.move(self.chains.grow(self.base, 5))
@@ -100,7 +114,8 @@ class FromASnapshot(Case):
         """A snapshot of another chain, or a node that was begun anew: nothing is fed, and nothing taken off."""
         self.node.move(self.chains.grow(self.chains.first, 5))
         self.node.forgotten.add(self.base)
-        self.assertIn(f"the server stands on block {self.base[::-1].hex()}, which the node doesn't know", self.feed("--patience", "1", status=5))
+        unknown = f"the server stands on block {self.base[::-1].hex()}, which the node doesn't know"
+        self.assertIn(unknown, self.feed("--patience", "1", status=5))
         self.assertEqual(self.server.chain.chain(), [])
 
 

@@ -94,7 +94,8 @@ class ToAServer(Case):
         line = self.printed_line(layout)
         for path in self.folder.iterdir():
             path.unlink()
-        run = subprocess.run(["sh"], input=line, cwd=self.folder, stdout=subprocess.PIPE, stderr=subprocess.STDOUT, timeout=SECONDS, text=True)
+        how = {"stdout": subprocess.PIPE, "stderr": subprocess.STDOUT, "timeout": SECONDS, "text": True}
+        run = subprocess.run(["sh"], input=line, cwd=self.folder, **how)
         self.assertEqual((run.returncode, run.stdout), (0, ""), line)
         self.assertEqual(sorted(path.name for path in self.folder.iterdir()), list(FILES))
         return int(re.search(r" init-from regtest (\d+) ", line)[1])
@@ -129,8 +130,8 @@ class ToAServer(Case):
         for _ in range(5):
             self.assertIn("height ", self.node.grows())
         with server_in(self.folder) as server:
-            places = ["--node", self.node.url, "--cookie", self.node.cookie, "--server", f"{HERE}:{server.feed}", "--base", height, "--once"]
-            run = [sys.executable, "-m", "namecoin_feeder", *map(str, places)]
+            words = ["--node", self.node.url, "--cookie", self.node.cookie, "--server", f"{HERE}:{server.feed}"]
+            run = [sys.executable, "-m", "namecoin_feeder", *map(str, words), "--base", str(height), "--once"]
             said = subprocess.run(run, cwd=FEEDER, stderr=subprocess.PIPE, timeout=SECONDS, text=True)
             self.assertEqual(said.returncode, 0, said.stderr)
             self.assertIn(f"height {height + 5}, the tip", said.stderr)
