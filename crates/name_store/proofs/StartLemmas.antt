@@ -1,6 +1,8 @@
 -- The index of a start list, and its text.
-use Rattle.std.proofs.Common.{◌≡◌, ◌≢◌, ℕ, suc, ◌+◌, ◌≤◌, Bool, List, [], ◌∷◌, length, refl, sym, ◌∙◌, ap, subst, arith}
-use Rattle.std.specs.Prelude.{Some, None, if◌then◌else◌}
+use Rattle.std.proofs.Common.{◌≡◌, ◌≢◌, ℕ, suc, ◌+◌, ◌≤◌, Bool, List, [], ◌∷◌, length, Ok, Err, refl, sym, ◌∙◌, ap, subst, arith}
+use Rattle.std.specs.Prelude.{Some, None, if◌then◌else◌, Result, IsErrAnd}
+use Rattle.fault_counts.specs.Faults.{NeverFell}
+use Rattle.disk_model.specs.DiskSeen.{DiskSeen, EndsWith}
 use Rattle.name_script.specs.NameScript.{NameOperation, name_new, name_firstupdate, name_update}
 use Rattle.nmc_base.specs.Heights.{highest}
 use Rattle.nmc_base.specs.declared.chain_ends.Base.{Base}
@@ -27,6 +29,9 @@ use Rattle.name_tables.specs.Tables.{maps_by}
 use Rattle.name_tables.specs.declared.parts.Parts.{Parts}
 use Rattle.undo_records.specs.declared.version.Version.TheVariants.{Two}
 use Rattle.name_store.specs.Starting.{IsStartIndex, start_index, HasCoin, IsStartText, HasShortText, HasStartText}
+use Rattle.name_store.specs.declared.faults.CreateFromFault.{CreateFromFault}
+use Rattle.name_store.specs.declared.faults.CreateFromFault.TheVariants.{DiskFault}
+use Rattle.command_areas.proofs.ReadingLemmas.{never_fell, failed_since}
 use Rattle.name_store.proofs.SaveLemmas.{text_of, read_again}
 
 -- ---- the coins of a start list
@@ -117,3 +122,14 @@ module _ (base : Base) (start : Log) (parts : Parts) (is : IsStartIndex base sta
 pub one_start_text : (base : Base) (start : Log) (text other : List ℕ) → IsStartText base start text → IsStartText base start other → text ≡ other
 one_start_text base [] text other is also = is ∙ sym also
 one_start_text base (event ∷ start) text other is also = one_text Two (on_base base (event ∷ start)) text other is also
+
+-- ---- the step behind the look at the header
+
+-- a fault that was passed on
+pub as_fault : (P : Result (Unit {0}) CreateFromFault → Type 0) (result : Result (Unit {0}) CreateFromFault) (fault : CreateFromFault) → IsErrAnd result (λ e. e ≡ fault) → P (Err fault) → P result
+as_fault P (Ok done) fault passed holds = absurd passed
+as_fault P (Err e) fault passed holds = subst (λ (f : CreateFromFault). P (Err f)) (sym passed) holds
+
+-- its faults are those of both
+pub ends_then : (d0 d1 d2 : DiskSeen) (result : Result (Unit {0}) CreateFromFault) → NeverFell d0.faults d1.faults → EndsWith DiskFault d1 d2 result → EndsWith DiskFault d0 d2 result
+ends_then d0 d1 d2 result first ends = record { later = never_fell first ends.later; worked = ends.worked; failed = λ is. failed_since first (ends.failed is) }

@@ -1,11 +1,15 @@
-use Rattle.std.proofs.Common.{List, ℕ, subst, arith}
+use Rattle.std.proofs.Common.{◌≡◌, Err, List, ℕ, sym, subst, arith}
+use Rattle.std.specs.Prelude.{Result}
 use Rattle.disk_model.specs.Moments.{EachMoment}
+use Rattle.disk_model.specs.DiskSeen.{EndsWith}
 use Rattle.disk_model.proofs.MomentLemmas.{join, last_moment}
-use Rattle.name_store.specs.Making.{EachIsBegun}
+use Rattle.name_store.specs.Making.{OnlyReads, EachIsBegun}
 use Rattle.name_store.specs.Stands.{begun_from}
+use Rattle.name_store.specs.declared.faults.CreateFromFault.{CreateFromFault}
+use Rattle.name_store.specs.declared.faults.CreateFromFault.TheVariants.{DiskFault, NoMemory}
 use Rattle.name_store.proofs.StepLemmas.{from_unchanged, from_then}
 use Rattle.name_store.proofs.MakingLemmas.{begun_state, looked_begun, area_begun, short_still, header_begun, header_stands}
-use Rattle.name_store.proofs.StartLemmas.{one_start_text}
+use Rattle.name_store.proofs.StartLemmas.{one_start_text, as_fault, ends_then}
 use Rattle.name_store.proofs.starting.create_from.Goals as goal
 
 pub returns-in_err-is_initialised-clause-from_empty : goal.returns-in_err-is_initialised-clause-from_empty
@@ -81,3 +85,19 @@ returns-in_err-make_header-clause-others g c = λ tells. from_then 0 (omega arit
 
 pub returns-clause-others : goal.returns-clause-others
 returns-clause-others g c = λ tells. from_then 0 (omega arith) (λ files so. so) (from_then 1 (omega arith) (λ files so. so) (from_unchanged (c.is_initialised.ensures.unchanged tells)) (c.make_start.ensures.others tells)) (c.make_header.ensures.others tells)
+
+pub returns-in_err-make_start-clause-no_memory : goal.returns-in_err-make_start-clause-no_memory
+returns-in_err-make_start-clause-no_memory g c =
+    let d0 = g.D.Disk.seen c.args.disk.now in
+    let looked : OnlyReads g.D.Disk.tells d0 (g.D.Disk.seen c.is_initialised.new.disk) = record { reads = c.is_initialised.ensures.reads; unchanged = c.is_initialised.ensures.unchanged } in
+    as_fault (λ (result : Result (Unit {0}) CreateFromFault). result ≡ Err NoMemory → OnlyReads g.D.Disk.tells d0 (g.D.Disk.seen c.make_start.new.disk))
+    c.from_residual-in_err-make_start.result c.in_err-make_start.field-0.0 c.from_residual-in_err-make_start.ensures.1
+    (λ none. subst (λ disk. OnlyReads g.D.Disk.tells d0 (g.D.Disk.seen disk)) (sym (c.in_err-make_start.ensures.no_memory none)) looked)
+
+pub returns-in_err-make_start-clause-ends : goal.returns-in_err-make_start-clause-ends
+returns-in_err-make_start-clause-ends g c =
+    let d0 = g.D.Disk.seen c.args.disk.now in
+    let d1 = g.D.Disk.seen c.is_initialised.new.disk in
+    let d2 = g.D.Disk.seen c.make_start.new.disk in
+    as_fault (EndsWith DiskFault d0 d2) c.from_residual-in_err-make_start.result c.in_err-make_start.field-0.0 c.from_residual-in_err-make_start.ensures.1
+    (ends_then d0 d1 d2 (Err c.in_err-make_start.field-0.0) c.is_initialised.ensures.ends.later c.in_err-make_start.ensures.ends)
