@@ -21,6 +21,13 @@ lives : (base : Base) (below : Log) (t : Told) (height : ℕ) → IsStartOperati
 lives base below (commitment hash) height fits = refl
 lives base below (value name bytes) height fits = ap (λ b. cond b None (Some (coin_of (operation_of (value name bytes)) height))) fits.live
 
+-- the coin of a make is live in the block after the base
+pub live_more : (base : Base) (below : List StartMake) (m : StartMake) → MayFollow base below m
+    → live_coin base.profile (start_of (m ∷ below)) (suc base.height) ≡ changed same_point (live_coin base.profile (start_of below) (suc base.height)) m.at (Some (coin_of (operation_of m.told) m.height))
+live_more base below m may =
+    changed_mapped same_point (unless_expired base.profile (suc base.height)) (coin_now (start_of below)) m.at (Some (coin_of (operation_of m.told) m.height))
+    ∙ ap (changed same_point (live_coin base.profile (start_of below) (suc base.height)) m.at) (lives base (start_of below) m.told m.height may.start.fits)
+
 first_of : (base : Base) (below : Log) (t : Told) (height : ℕ) (names : List ℕ → List Item) → names ≡ history_of below → IsStartOperation base.profile base.height below (operation_of t) height → IsFirst names t
 first_of base below (commitment hash) height names same fits = tt
 first_of base below (value name bytes) height names same fits = ap (λ (f : List ℕ → List Item). f name) same ∙ fits.one
@@ -40,9 +47,7 @@ module _ (base : Base) (below : List StartMake) (m : StartMake) (may : MayFollow
 
   coins_now : coins_in new.coins ≡ live_coin base.profile (start_of (m ∷ below)) height
   coins_now =
-      put.coins ∙ ap (λ (f : OutPoint → Option Coin). changed same_point f m.at (Some coin)) coins_before
-      ∙ ap (changed same_point (live_coin base.profile (start_of below) height) m.at) (sym (lives base (start_of below) m.told m.height may.start.fits))
-      ∙ sym (changed_mapped same_point (unless_expired base.profile height) (coin_now (start_of below)) m.at (Some coin))
+      put.coins ∙ ap (λ (f : OutPoint → Option Coin). changed same_point f m.at (Some coin)) coins_before ∙ sym (live_more base below m may)
 
   names_now : names_in new.names ≡ history_of (start_of (m ∷ below))
   names_now =

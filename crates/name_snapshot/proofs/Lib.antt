@@ -9,3 +9,4 @@ pub mod TurnLemmas
 pub mod FeedLemmas
 pub mod BeginLemmas
 pub mod RowLemmas
+pub mod LengthLemmas

@@ -1,11 +1,14 @@
 //! Laws of the definitions. Each is the contract of a function that does nothing.
 
-ghost use Rattle.std.specs.Prelude.{◌≡◌, ◌⊎◌, ℕ, ◌<◌, List, [], ◌∷◌, ◌++◌, length, replicate, slice_index, take};
+ghost use Rattle.std.specs.Prelude.{◌≡◌, ◌⊎◌, ℕ, ◌+◌, ◌*◌, ◌<◌, ◌≤◌, List, [], ◌∷◌, ◌++◌, length, replicate, slice_index, take};
 ghost use Rattle.nmc_base.specs.declared.chain_ends.Base.{Base};
+ghost use Rattle.chain_names.specs.Index.{index_maps};
+ghost use Rattle.undo_records.specs.declared.version.Version.TheVariants.{Two};
+ghost use Rattle.image_grammar.specs.Text.{IsStateText};
 ghost use Rattle.name_snapshot.specs.Faults.{IsBad, HasFault};
 ghost use Rattle.name_snapshot.specs.Makes.{IsSnapshot};
 ghost use Rattle.name_snapshot.specs.Rows.{base_of_rows, value_make, commitment_make, head_bytes, point_bytes, named_bytes, make_bytes, one_text};
-ghost use Rattle.name_snapshot.specs.Text.{StartMake, make_text, snapshot_text};
+ghost use Rattle.name_snapshot.specs.Text.{StartMake, make_text, snapshot_text, start_of};
 
 /// A text of bytes is a snapshot on a base, of one list of makes, or has its first fault, at one place.
 pub fn one_answer()
@@ -19,6 +22,13 @@ pub fn one_answer()
 /// A fault but that of the end stays, whatever follows.
 pub fn faults_stay()
     ensures { (base : Base) (text more rest : List ℕ) → IsBad base text rest → IsBad base (text ++ more) (rest ++ more) }
+{}
+
+/// The image of the index that a snapshot gives is at most three times as long, and 54 bytes more, of which 32 are the hash of the
+/// base.
+pub fn images_are_short()
+    ensures { (base : Base) (text : List ℕ) (makes : List StartMake) (image : List ℕ) → IsSnapshot base text makes
+        → IsStateText Two base [] (index_maps base.profile (start_of makes) base.height []) image → length image ≤ 22 + length base.hash.0 + 3 * length text }
 {}
 
 /// The bytes of some makes. That of a value has 69 bytes, so a snapshot of it alone 78; and the older make stands first.

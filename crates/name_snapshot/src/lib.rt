@@ -15,4 +15,4 @@ mod values;
 
 pub use fault::SnapshotFault;
 pub use feeding::Snapshot;
-pub use laws::{faults_stay, one_answer, worked_rows, worked_texts};
+pub use laws::{faults_stay, images_are_short, one_answer, worked_rows, worked_texts};

@@ -3,7 +3,7 @@ ghost use Rattle.std.specs.Prelude.{◌≡◌, ◌+◌, ◌<◌, ◌^◌, length
 use name_snapshot::{Snapshot, SnapshotFault};
 use name_table::Table;
 use name_tables::Parts;
-use nmc_base::{Base, Hash32, Profile, Steps};
+use nmc_base::{Base, Hash32, NoMemory, Profile, Steps};
 use std::alloc::Global;
 use std::cmp;
 use std::marker::Brand;
@@ -117,14 +117,18 @@ fn told(found: Result<Parts, SnapshotFault>) -> Result<Told, SnapshotFault> {
     }
 }
 
-/// What is told of pieces of so many bytes.
+/// Whether pieces of so many bytes tell what the row wants, unless memory is wanted.
 fn is_told(alloc: Global, row: &Row, size: usize) -> Result<bool, Fail>
     requires { 0 < size }
 {
     let bytes = hex::decode(alloc, row.text)?;
-    match bytes.get(..row.len) {
-        Some(text) => Ok(text.len() < 100 && told(read(alloc, text, size)) == row.want),
-        None => Ok(false),
+    let text = match bytes.get(..row.len) {
+        Some(text) if text.len() < 100 => text,
+        _ => return Ok(false),
+    };
+    match told(read(alloc, text, size)) {
+        Err(SnapshotFault::NoMemory) => Err(Fail::from(NoMemory)),
+        told => Ok(told == row.want),
     }
 }
 
@@ -135,6 +139,12 @@ fn are_told(rt: &impl Abort, alloc: Global, rows: &[Row]) -> Result<(), Fail> {
         assert!(rt; is_told(alloc, row, 7)?, "row {i} in pieces of seven bytes");
         assert!(rt; is_told(alloc, row, 100)?, "row {i} whole");
     }
+    Ok(())
+}
+
+#[test]
+fn a_snapshot_is_read_or_memory_is_wanted(rt: HostRuntime) -> Result<(), Fail> {
+    let _told = are_told(&rt, rt.alloc(), &WHOLE);
     Ok(())
 }
 
