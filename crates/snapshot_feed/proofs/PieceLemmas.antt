@@ -14,7 +14,7 @@ use Rattle.snapshot_feed.specs.declared.fault.FeedFault.{FeedFault}
 use Rattle.snapshot_feed.specs.declared.fault.FeedFault.TheVariants.{Bad, SourceFault, InputLimit, NoMemory}
 use Rattle.snapshot_feed.specs.Answers.{TakesUpTo, HasOpenEnd, IsReadOut, shown, at_its_end, EndsAtLimit, FaultOf}
 use Rattle.snapshot_feed.specs.Faults.{of_snapshot}
-use Rattle.snapshot_feed.specs.Feeding.{PieceOf, FeedsPiece, FeedsSource}
+use Rattle.snapshot_feed.specs.Feeding.{FeedsMore, PieceOf, FeedsPiece, FeedsSource}
 
 -- ---- what was taken
 
@@ -73,6 +73,23 @@ pub piece_fault : (text piece : List ℕ) (old new : SourceSeen) (before after :
     → PieceOf text old new before after (Err (of_snapshot fault)) piece
 piece_fault text piece old new before after (snapshot.Bad at) base stopped = λ more. subst (λ (b : Base). HasFault b ((text ++ piece) ++ more) at) base (stopped.bad more)
 piece_fault text piece old new before after snapshot.NoMemory base stopped = tt
+
+module _ (text : List ℕ) {old new : SourceSeen} (before after : Feeding) (buffer : List ℕ) (count : ℕ) (reads : ReadsSome old new buffer count) where
+  -- the front of the buffer was fed
+  pub piece_fed : 0 < count → HasRead (text ++ take count buffer) after → FeedsPiece text (length buffer) old new before after (Ok count)
+  piece_fed some read = takes_some (length buffer) buffer count (FeedsMore text new after count) refl reads (record {
+    length_is = omega (arith, length-take count buffer, reads.bound);
+    read = read;
+    ended = λ none. absurd (omega (arith, some, none));
+  })
+
+  -- nothing is left
+  pub piece_end : 0 < length buffer → count ≡ 0 → HasRead text after → FeedsPiece text (length buffer) old new before after (Ok 0)
+  piece_end room none read = takes_some (length buffer) buffer count (FeedsMore text new after 0) refl reads (record {
+    length_is = omega (arith, length-take count buffer, none);
+    read = subst (λ (l : List ℕ). HasRead l after) (sym (ap (λ (n : ℕ). text ++ take n buffer) none ∙ append-nil text)) read;
+    ended = λ same. reads.ended none room;
+  })
 
 -- ---- piece by piece
 

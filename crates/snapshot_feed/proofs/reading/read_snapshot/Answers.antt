@@ -2,7 +2,7 @@ use Rattle.std.proofs.Common.{subst, ◌∙◌}
 use Rattle.std.specs.Prelude.{Err}
 use Rattle.nmc_base.specs.declared.chain_ends.Base.{Base}
 use Rattle.name_snapshot.specs.Answers.{IsSnapshotAnswer}
-use Rattle.snapshot_feed.specs.Answers.{EndsOf, ReadsSnapshot}
+use Rattle.snapshot_feed.specs.Answers.{TakesUpTo, FaultOf, EndsOf, ReadsSnapshot}
 use Rattle.snapshot_feed.specs.Faults.{of_snapshot}
 use Rattle.snapshot_feed.proofs.PieceLemmas.{takes_same, as_fault, end_fault}
 use Rattle.snapshot_feed.proofs.reading.read_snapshot.Goals as goal
@@ -18,3 +18,9 @@ returns-in_err-finish-in-Ok g c =
     (takes_same (EndsOf base c.args.limit old new (Err (of_snapshot fault))) fed
     (end_fault base c.args.limit old new fed.taken fault fed.holds.0
     (subst (λ (b : Base). IsSnapshotAnswer b fed.taken (Err fault)) (c.in-Ok.ensures.base ∙ c.in_ok-snapshot.ensures.base) (c.in_err-finish-in-Ok.ensures.whole fed.taken fed.holds.1))))
+
+pub returns-in-Err : goal.returns-in-Err
+returns-in-Err g c =
+    let old = g.S.Source.seen c.args.source.now in
+    let new = g.S.Source.seen c.feed_source.new.source in
+    subst (λ (base : Base). TakesUpTo c.args.limit old new (FaultOf base c.args.limit old new c.in-Err.fault)) c.in_ok-snapshot.ensures.base c.in-Err.ensures.feeds
