@@ -49,6 +49,7 @@ class Life:
 
     def __init__(self, tally, what, base, seed, makes=(), stands=None):
         self.tally, self.what, self.chance = tally, f"{what}, seed {seed}", random.Random(f"{what}, {seed}")
+        self.questions = random.Random(f"{what}, {seed}: the questions")
         self.both = Both(tally, self.what, base, makes)
         self.branch = Branch(self.chance, self.both, stands)
         self.saves, self.below = 0, 0
@@ -81,8 +82,8 @@ class Life:
 
     def asked(self):
         """A query for the address of a name."""
-        name = self.chance.choice(LETTERS).encode(), b"bit"
-        self.branch.comes(QUERY, message(self.chance.randrange(2**16), name, A))
+        name = self.questions.choice(LETTERS).encode(), b"bit"
+        self.branch.comes(QUERY, message(self.questions.randrange(2**16), name, A))
 
     def play(self, folder, session=None):
         """Plays a session in the folder, whose files are those of the store."""
