@@ -93,6 +93,37 @@ def counted(path, function=re.escape(COMPRESSION), folder=None):
         return Counted(int(total.group(1)), *called(trace.read(), function))
 
 
+def has_control():
+    return has_counter() and shutil.which("callgrind_control") is not None
+
+
+def switch(process, state):
+    """Has callgrind begin or end counting."""
+    subprocess.run(["callgrind_control", f"--instr={state}", str(process)], check=True, stdout=subprocess.DEVNULL, stderr=subprocess.DEVNULL)
+
+
+def counted_behind(folder, asking, given, lengths):
+    """The instructions of a replay over the files of a folder, of what is given alone: neither of the opening nor of the end. Two
+    lengths, of the reply to what is asked before and of the replies to what is given; and these replies."""
+    with tempfile.NamedTemporaryFile() as trace:
+        command = ["valgrind", "--tool=callgrind", "--instr-atstart=no", f"--callgrind-out-file={trace.name}", PROGRAM, "replay"]
+        how = {"stdin": subprocess.PIPE, "stdout": subprocess.PIPE, "stderr": subprocess.PIPE, "env": os.environ | {"GLIBC_TUNABLES": BY_STORES}}
+        run = subprocess.Popen(command, cwd=folder, **how)
+        run.stdin.write(asking)
+        run.stdin.flush()
+        run.stdout.read(lengths[0])
+        switch(run.pid, "on")
+        run.stdin.write(given)
+        run.stdin.flush()
+        told = run.stdout.read(lengths[1])
+        switch(run.pid, "off")
+        said = run.communicate()[1].decode()
+    total = re.search(r"Collected : (\d+)", said)
+    if run.returncode or not total:
+        raise SystemExit(f"callgrind ended with {run.returncode}:\n{said}")
+    return int(total.group(1)), told
+
+
 def called(trace, function):
     """The instructions of the functions whose names the pattern matches, and their calls."""
     numbers = re.findall(r"^c?fn=(\(\d+\)) (?:" + function + ")$", trace, re.MULTILINE)

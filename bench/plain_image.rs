@@ -2,8 +2,10 @@
 //! the base to see that they fit, and builds the index again. `bench/open` measures it beside the program.
 //!
 //! usage: plain_image FILE     (an area: the image's length in 8 bytes, and its text, of version 2)
+//!        plain_image --snapshot HEIGHT     (a snapshot as its input, for a base of that height)
 //!
-//! It says `ready` with the number of names, and ends with its input.
+//! It says `ready` with the number of names, and ends with its input. Of a snapshot it builds the index once; `bench/snapshot`
+//! measures that.
 use std::collections::{HashMap, HashSet};
 use std::fs::File;
 use std::io::{self, BufReader, Read};
@@ -73,6 +75,11 @@ fn is_expired(made: u32, height: u32) -> bool {
     made + REGTEST_DEPTH <= height
 }
 
+/// The order of outpoints.
+fn order_of(at: &OutPoint) -> ([u8; 32], u32) {
+    (at[..32].try_into().unwrap(), u32::from_le_bytes(at[32..].try_into().unwrap()))
+}
+
 /// Reads one field after the other.
 struct Reader<R> {
     from: R,
@@ -116,11 +123,15 @@ impl<R: Read> Reader<R> {
 
     fn item(&mut self) -> Answer<Item> {
         let (height, registered, at) = (self.number()?, self.number()?, self.array()?);
+        Ok(Item { height, registered, at, value: self.value()? })
+    }
+
+    fn value(&mut self) -> Answer<Text> {
         let length = u16::from_le_bytes(self.array()?);
         if length > 1023 {
             return Err("a value is too long");
         }
-        Ok(Item { height, registered, at, value: self.text(length.into())? })
+        self.text(length.into())
     }
 
     fn coin(&mut self) -> Answer<Coin> {
@@ -135,7 +146,7 @@ impl<R: Read> Reader<R> {
         let mut last: Option<([u8; 32], u32)> = None;
         for _ in 0..self.number()? {
             let at: OutPoint = self.array()?;
-            let order = (at[..32].try_into().unwrap(), u32::from_le_bytes(at[32..].try_into().unwrap()));
+            let order = order_of(&at);
             if last.is_some_and(|before| before >= order) {
                 return Err("coins out of order");
             }
@@ -178,7 +189,7 @@ impl<R: Read> Reader<R> {
         let base = self.number()?;
         let _: [u8; 32] = self.array()?;
         let undos = self.list(Self::undo)?;
-        let mut index = Index { base, coins: HashMap::new(), names: HashMap::new(), queue: HashMap::new(), undos };
+        let mut index = Index { undos, ..Index::new(base) };
         self.coins(|at, coin| index.put(at, coin))?;
         let mut last: Option<Text> = None;
         for _ in 0..self.number()? {
@@ -195,9 +206,48 @@ impl<R: Read> Reader<R> {
         }
         Ok(index)
     }
+
+    /// The index of a snapshot, on a base of this height.
+    fn start(&mut self, base: u32) -> Answer<Index> {
+        if self.array()? != *b"NMCS\x01" {
+            return Err("no snapshot");
+        }
+        let mut index = Index::new(base);
+        let mut last: Option<([u8; 32], u32)> = None;
+        for _ in 0..self.number()? {
+            let at: OutPoint = self.array()?;
+            let (tag, height) = (self.byte()?, self.number()?);
+            let coin = match tag {
+                0x51 => Coin::Commitment { height, hash: self.array()? },
+                0x53 => {
+                    let name = self.name()?;
+                    let item = Item { height, registered: height, at, value: self.value()? };
+                    if is_expired(height, base + 1) || index.names.insert(name.clone(), vec![item]).is_some() {
+                        return Err("a name is expired, or there twice");
+                    }
+                    Coin::Named { height, name }
+                }
+                _ => return Err("a tag of a make"),
+            };
+            let order = order_of(&at);
+            if height > base || last.is_some_and(|before| before >= order) {
+                return Err("a make out of order, or above the base");
+            }
+            last = Some(order);
+            index.put(at, coin);
+        }
+        match self.from.read(&mut [0]) {
+            Ok(0) => Ok(index),
+            _ => Err("more than its makes"),
+        }
+    }
 }
 
 impl Index {
+    fn new(base: u32) -> Index {
+        Index { base, coins: HashMap::new(), names: HashMap::new(), queue: HashMap::new(), undos: Vec::new() }
+    }
+
     fn tip(&self) -> u32 {
         self.base + self.undos.len() as u32
     }
@@ -304,9 +354,19 @@ fn open(path: &str) -> Answer<Index> {
     read(path)
 }
 
+fn start(height: &str) -> Answer<Index> {
+    let base = height.parse().map_err(|_| "no height")?;
+    Reader { from: BufReader::new(io::stdin().lock()) }.start(base)
+}
+
 fn main() {
-    let path = std::env::args().nth(1).expect("a file");
-    match open(&path) {
+    let words: Vec<String> = std::env::args().skip(1).collect();
+    let answer = match &words[..] {
+        [file] => open(file),
+        [word, height] if word == "--snapshot" => start(height),
+        _ => Err("bad words"),
+    };
+    match answer {
         Ok(index) => {
             println!("ready {}", index.names.len());
             let _ = io::stdin().read(&mut [0]);

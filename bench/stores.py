@@ -12,7 +12,7 @@ FILES = ("nmc.0", "nmc.1", "nmc.2")
 INIT = ("init", "regtest", "0", "0" * 64, "ns.example.")
 # A folder in memory, where there is one: a sync takes no time there.
 MEMORY = "/dev/shm"
-OPEN = 1
+OPEN, BAD_WORDS = 1, 2
 
 
 @contextlib.contextmanager
@@ -21,6 +21,18 @@ def empty_folder(where=None):
     room = where or (MEMORY if os.access(MEMORY, os.W_OK) else None)
     with tempfile.TemporaryDirectory(prefix="jaqhumpi-", dir=room) as name:
         yield pathlib.Path(name)
+
+
+def make_from(snapshot, folder, profile="regtest", height=0):
+    """Makes files from a snapshot, which is read from this file. The status."""
+    words = ["init-from", profile, str(height), *INIT[3:]]
+    return subprocess.run([PROGRAM, *words], cwd=folder, stdin=snapshot, stderr=subprocess.DEVNULL).returncode
+
+
+def knows_starts():
+    """Whether the program knows `init-from`. It is asked once: one that doesn't has bad words for it."""
+    with empty_folder() as folder:
+        return make_from(subprocess.DEVNULL, folder) != BAD_WORDS
 
 
 @contextlib.contextmanager

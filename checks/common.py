@@ -19,7 +19,9 @@ PORTS = range(20_000, 32_768)
 # The makers of blocks and of folders stand with the benchmarks.
 sys.path.insert(0, str(TOP / "bench"))
 
-from stores import PROGRAM, empty_folder, made_folder
+from stores import PROGRAM, empty_folder, knows_starts, made_folder
+
+BAD_WORDS = 2
 
 
 class Run(typing.NamedTuple):

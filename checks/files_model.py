@@ -1,7 +1,8 @@
 """The three files of a store: what commands and saves write to them, what opening finds in them, and how a replay of frames ends.
 
 It is written from docs/FORMATS.md alone, and shares nothing with the code. A store is its three files, the index that they stand
-for, and the number of selections; the commands behind the image of the selected area are followed by the index alone.
+for, and the number of selections; the commands behind the image of the selected area are followed by the index alone. The files are
+made of a base, and of the makes of a snapshot where they are made from one.
 """
 import struct
 
@@ -10,6 +11,7 @@ from common import Run, reply
 from answers_model import reply_to, zone_of
 from images_model import BYTES_OF_PROFILES, PROFILE_BYTES, Base, ImageFault, Index, index_of, number
 from model import HIGHEST, MOST_SELECTIONS
+from snapshot_model import SnapshotFault, makes_of
 from values_model import Place, host, wire_of
 
 from blocks import CONNECT, DISCONNECT, QUERY, SAVE
@@ -76,20 +78,25 @@ def journal_of(file, text, gate, limit):
     yield gate, None
 
 
+def area_text(image):
+    """An area with this image, before any command."""
+    return bytearray(number(8, len(image)) + image + CLOSED)
+
+
 def area_of(selections):
     """The file that is selected after so many selections."""
     return 2 if selections % 2 else 1
 
 
 class Store:
-    """The files of a base, which has a host, as `init` makes them."""
+    """The files of a base, which has a host, as `init` makes them; or `init-from`, of the makes of a snapshot."""
 
-    def __init__(self, base, host_text):
-        self.base, self.host, self.index, self.selections = base, host_text, Index(base), 0
-        header = header_of(base, host_text)
-        self.files = [bytearray(header + CLOSED), bytearray(8) + CLOSED, bytearray()]
+    def __init__(self, base, host_text, makes=()):
+        self.base, self.host, self.index, self.selections = base, host_text, Index.of_makes(base, makes), 0
+        header, image = header_of(base, host_text), self.index.text() if makes else b""
+        self.files = [bytearray(header + CLOSED), area_text(image), bytearray()]
         # The places of the closed gates behind the selections, and behind the commands of the selected area.
-        self.gates = [len(header), 8]
+        self.gates = [len(header), 8 + len(image)]
 
     @classmethod
     def opened(cls, files):
@@ -164,7 +171,7 @@ class Store:
         image = self.index.text()
         if len(image) > MOST_IMAGE:
             return reply(30)
-        self.files[3 - self.area] = bytearray(number(8, len(image)) + image + CLOSED)
+        self.files[3 - self.area] = area_text(image)
         self.gates[0] = self.append(0, self.gates[0], bytes([3 - self.area]))
         self.selections += 1
         self.gates[1] = 8 + len(image)
@@ -200,19 +207,28 @@ def fronts_of(frames):
     return replies, fronts
 
 
-def made(words):
-    """The store that `init` makes of its words, which are right."""
+def made(words, makes=()):
+    """The store that `init` makes of its words, which are right; or `init-from`, of these makes."""
     profile, height, hash, host_text = words[1:]
-    return Store(Base(profile, int(height), bytes.fromhex(hash)[::-1]), host_text)
+    return Store(Base(profile, int(height), bytes.fromhex(hash)[::-1]), host_text, makes)
+
+
+def begun(words, given, files):
+    """What `init` or `init-from` comes to, and the files behind it."""
+    if len(files[0]) >= LEAST_INITIALISED and files[0][:1] == OPEN:
+        return Run(b"", 3, "already initialised"), files
+    try:
+        makes = makes_of(given, words[1], int(words[2])) if words[0] == "init-from" else ()
+    except SnapshotFault as fault:
+        return Run(b"", 11, f"bad snapshot at {fault.args[0]}"), files
+    return Run(b"", 0, ""), [*map(bytes, made(words, makes).files[:2]), files[2]]
 
 
 def run_of(words, given, files):
     """What a run of the program comes to over the files, which are None where there are none, and the files behind it."""
     files = [text or b"" for text in files]
-    if words[0] == "init":
-        if len(files[0]) >= LEAST_INITIALISED and files[0][:1] == OPEN:
-            return Run(b"", 3, "already initialised"), files
-        return Run(b"", 0, ""), [*made(words).files[:2], files[2]]
+    if words[0] in ("init", "init-from"):
+        return begun(words, given, files)
     try:
         store = Store.opened(files)
     except Unopened as why:

@@ -115,11 +115,12 @@ def stray(chance, stands):
 
 
 class Branch:
-    """The chain of a run: its model, how the names stood behind each block, and the frames and replies so far."""
+    """The chain of a run: its model, how the names stood behind each block, and the frames and replies so far. On the base no name
+    stands where nothing else is told."""
 
-    def __init__(self, chance, model=None):
+    def __init__(self, chance, model=None, stands=None):
         self.chance, self.model, self.frames, self.replies = chance, model or Model(), [], []
-        self.kept = [dict.fromkeys(LETTERS, Stand())]
+        self.kept = [stands or dict.fromkeys(LETTERS, Stand())]
 
     @property
     def height(self):

@@ -111,6 +111,13 @@ class Index(Chain):
         self.base, self.profile = base, PROFILES[base.profile]
         self.coins, self.histories, self.undos = dict(coins or {}), dict(histories or {}), list(undos)
 
+    @classmethod
+    def of_makes(cls, base, makes):
+        """The index of a start list, before the first block: each name has one value, with which its registration begins."""
+        coins = {make.at: Coin(make.is_commitment, make.height, make.text) for make in makes}
+        items = {make.text: (Item(make.height, make.height, make.value, make.at),) for make in makes if not make.is_commitment}
+        return cls(base, coins, items)
+
     def copy(self):
         return Index(self.base, self.coins, self.histories, self.undos)
 

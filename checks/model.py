@@ -312,10 +312,11 @@ class Chain:
 
 class Model(Chain):
     """The chain of the blocks that survive, on a base of this height: of each its hash and how long the log was below it, the newest
-    last; their log; and how many saves there were."""
+    last; their log, which begins with the makes of a start list; and how many saves there were."""
 
-    def __init__(self, base=0, profile="regtest", hash=BASE_HASH):
-        self.base, self.profile, self.hash, self.blocks, self.log, self.selections = base, PROFILES[profile], hash, [], [], 0
+    def __init__(self, base=0, profile="regtest", hash=BASE_HASH, makes=()):
+        self.base, self.profile, self.hash, self.blocks, self.selections = base, PROFILES[profile], hash, [], 0
+        self.log = [Event(make.at, [NEW, make.text] if make.is_commitment else [UPDATE, make.text, make.value], make.height) for make in makes]
 
     @property
     def height(self):

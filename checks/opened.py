@@ -13,7 +13,7 @@ DUMP, REPLAY = ["dump"], ["replay"]
 
 
 class Row(typing.NamedTuple):
-    """What it is, the files, and the words with their input: a report, where nothing else is said."""
+    """What it is, the files, None for an absent one, and the words with their input: a report, where nothing else is said."""
 
     what: str
     files: list
@@ -25,7 +25,8 @@ def opened(row):
     """What the program says, and the files behind it."""
     with empty_folder() as folder:
         for name, text in zip(FILES, row.files):
-            (folder / name).write_bytes(text)
+            if text is not None:
+                (folder / name).write_bytes(text)
         return run_in(folder, row.words, row.given), files_of(folder)
 
 

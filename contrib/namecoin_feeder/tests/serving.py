@@ -7,16 +7,11 @@ import subprocess
 import tempfile
 import time
 
-from .stand_in import PROGRAM
+from .stand_in import PROGRAM, initialised
 
 from common import free_port
 
 MOST_TURNS, SECONDS = 1_000_000_000, 20
-
-
-def initialised(folder, base):
-    words = [PROGRAM, "init", "regtest", "0", base[::-1].hex(), "ns.example."]
-    subprocess.run(words, cwd=folder, check=True, stdin=subprocess.DEVNULL)
 
 
 class Serve:

@@ -33,10 +33,10 @@ def surviving(folder):
 
 
 class ModelChain(Model):
-    """The model over the base with another hash. It is never closed, so it outlives each server."""
+    """The model over the base with another hash, and with the makes of a start list. It is never closed, so it outlives each server."""
 
-    def __init__(self, hash):
-        super().__init__(hash=hash)
+    def __init__(self, hash, height=0, makes=()):
+        super().__init__(height, hash=hash, makes=makes)
 
     def open(self):
         pass
@@ -48,13 +48,18 @@ class ModelChain(Model):
         return [hash for hash, _ in self.blocks]
 
 
+def initialised(folder, base, height=0, snapshot=None):
+    """Makes the files on a base; from a snapshot, where there is one."""
+    words = ["init" if snapshot is None else "init-from", "regtest", str(height), base[::-1].hex(), "ns.example."]
+    subprocess.run([PROGRAM, *words], cwd=folder, check=True, input=snapshot or b"")
+
+
 class Replay:
     """The program's replay over the files of a folder."""
 
-    def __init__(self, folder, base):
+    def __init__(self, folder, base, height=0, snapshot=None):
         self.folder, self.run = folder, None
-        words = [PROGRAM, "init", "regtest", "0", base[::-1].hex(), "ns.example."]
-        subprocess.run(words, cwd=folder, check=True, stdin=subprocess.DEVNULL)
+        initialised(folder, base, height, snapshot)
 
     def open(self):
         self.run = subprocess.Popen([PROGRAM, "replay"], cwd=self.folder, stdin=subprocess.PIPE, stdout=subprocess.PIPE)
@@ -172,4 +177,4 @@ def is_built():
     return PROGRAM.exists()
 
 
-__all__ = ["KINDS", "ModelChain", "Replay", "StandIn", "is_built", "reply", "surviving"]
+__all__ = ["KINDS", "PROGRAM", "ModelChain", "Replay", "StandIn", "initialised", "is_built", "reply", "surviving"]

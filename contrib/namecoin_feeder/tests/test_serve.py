@@ -3,8 +3,8 @@ import socket
 
 from .case import Case, question, unittest
 from .chains import name_of
-from .serving import Serve, initialised
-from .stand_in import is_built, surviving
+from .serving import Serve
+from .stand_in import initialised, is_built, surviving
 
 from images_model import ImageFault
 from stores import saves_of

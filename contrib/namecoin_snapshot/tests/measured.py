@@ -1,33 +1,16 @@
 """Files with many outputs, and what a run over them takes."""
 import random
-import subprocess
 import sys
-import time
-import typing
 
 from . import SNAPSHOT
 from .node_files import NETWORKS, Coin, bodies, head
 
 from blocks import UPDATE, name_script
+from uses import use_of
 
 HEIGHT = 500_000
 PAYS = b"\x76\xa9\x14" + bytes(range(20)) + b"\x88\xac"
 VALUE = b'{"ip":"192.0.2.1","map":{"www":{"alias":""}}}'
-# Runs the words behind it, and tells what they used.
-USED = """\
-import resource, subprocess, sys
-status = subprocess.run(sys.argv[1:], stdout=subprocess.DEVNULL).returncode
-used = resource.getrusage(resource.RUSAGE_CHILDREN)
-print(status, used.ru_utime + used.ru_stime, used.ru_maxrss * 1024)
-"""
-
-
-class Use(typing.NamedTuple):
-    """Seconds by the clock and of processor, and the greatest memory in bytes."""
-
-    seconds: float
-    processor: float
-    memory: int
 
 
 def write_many(path, layout, names, others, is_ordered):
@@ -47,14 +30,7 @@ def write_many(path, layout, names, others, is_ordered):
 def used(path):
     """What a run over such a file takes."""
     words = ["main", path, path.with_suffix(".snapshot"), "--height", HEIGHT, "--host", "ns.example."]
-    run = [sys.executable, "-c", USED, sys.executable, "-m", "namecoin_snapshot", *map(str, words)]
-    begun = time.monotonic()
-    told = subprocess.run(run, cwd=SNAPSHOT, stdout=subprocess.PIPE, stderr=subprocess.PIPE, text=True)
-    seconds = time.monotonic() - begun
-    status, processor, memory = told.stdout.split()
-    if status != "0":
-        raise RuntimeError(f"status {status}: {told.stderr}")
-    return Use(seconds, float(processor), int(memory))
+    return use_of([sys.executable, "-m", "namecoin_snapshot", *words], SNAPSHOT)
 
 
 def memory_of_a_name(room, layout, few, many, is_ordered):

@@ -1,5 +1,5 @@
 -- The words of a command line, both ways.
-use Rattle.std.proofs.Common.{◌≡◌, ℕ, ◌<◌, ◌≤◌, ◌^◌, List, [], ◌∷◌, length, get_or, Ok, Err, Option, Some, None, sym, ap, subst, ◌∙◌, arith, inl, inr}
+use Rattle.std.proofs.Common.{◌≡◌, ℕ, ◌<◌, ◌≤◌, ◌^◌, List, [], ◌∷◌, length, get_or, Ok, Err, Option, Some, None, refl, sym, ap, subst, ◌∙◌, arith, inl, inr}
 use Rattle.std.specs.Prelude.{slice_index}
 use Rattle.std.specs.Fmt.{decimal}
 use Rattle.std.specs.Str.{IsUtf8}
@@ -10,10 +10,12 @@ use Rattle.std.proofs.lemmas.Str.{IsUtf8-from_ascii}
 use Rattle.std.proofs.lemmas.Str.Parse.{IsNumeralModel, numerals_by_value, tells_digits, parse_plain}
 use Rattle.nmc_base.specs.declared.chain_ends.Base.{Base}
 use Rattle.name_store.specs.Host.{IsHostOf}
-use Rattle.bridge_core.specs.Words.{IsNumber, IsHeight, IsPort, AreTurns, IsPlain, IsHash, AreFields, AreNumbers, Asks}
+use Rattle.bridge_core.specs.Words.{IsNumber, IsHeight, IsPort, AreTurns, IsPlain, IsHash, AreFields, AreNumbers, Asks, AsksForFiles, start_word}
 use Rattle.bridge_core.specs.declared.words.Command.{Command}
 use Rattle.bridge_core.specs.declared.words.Command.TheVariants.{Replay, Dump, Init, Serve}
 use Rattle.bridge_core.specs.declared.words.Plan.{Plan}
+use Rattle.bridge_core.specs.declared.words.Start.{Start}
+use Rattle.bridge_core.specs.declared.words.Start.TheVariants.{Empty, Snapshot}
 
 own : IsNumeralModel (AllDigits 10) (digits_value 10)
 own = numerals_by_value (AllDigits 10) tells_digits
@@ -56,41 +58,60 @@ plain_number word n plain parses =
 
 -- ---- five words
 
--- what stands at the places of a profile, a height, a hash and a host
+-- what stands at the places of the command, a profile, a height, a hash and a host
 pub record HasFields (words : List (List ℕ)) : Type 0 where
+  pub form : List ℕ
   pub profile : List ℕ
   pub height : List ℕ
   pub hash : List ℕ
   pub host : List ℕ
+  pub form_at : form ≡ get_or words 0 form
   pub profile_at : profile ≡ get_or words 1 profile
   pub height_at : height ≡ get_or words 2 height
   pub hash_at : hash ≡ get_or words 3 hash
   pub host_at : host ≡ get_or words 4 host
   pub long : 5 ≤ length words
 
+-- the word of a start list at the place of the command
+form_word : (words : List (List ℕ)) (has : HasFields words) (start : Start) (base : Base) (name : List ℕ) → AsksForFiles words start base name → has.form ≡ start_word start
+form_word words has start base name is = has.form_at ∙ ap (λ (w : List (List ℕ)). get_or w 0 has.form) is.words_are
+
+same_start : (a b : Start) → start_word a ≡ start_word b → a ≡ b
+same_start Empty Empty e = refl
+same_start Empty Snapshot e = absurd (omega (arith, ap length e))
+same_start Snapshot Empty e = absurd (omega (arith, ap length e))
+same_start Snapshot Snapshot e = refl
+
+-- without such a word five words ask for nothing
+pub not_asked : (words : List (List ℕ)) (has : HasFields words) → ((start : Start) → has.form ≡ start_word start → ⊥) → (asked : Command) → Asks words asked → ⊥
+not_asked words has none Replay is = omega (arith, has.long, ap length is)
+not_asked words has none Dump is = omega (arith, has.long, ap length is)
+not_asked words has none (Serve plan) is = omega (arith, has.long, ap length is.words_are)
+not_asked words has none (Init start base name) is = none start (form_word words has start base name is)
+
 -- the command of what was found there
-abbrev pub init_of : Option (Base × List ℕ) → Option Command
-init_of None = None
-init_of (Some made) = Some (Init made.0 made.1)
+abbrev pub init_of : Start → Option (Base × List ℕ) → Option Command
+init_of start None = None
+init_of start (Some made) = Some (Init start made.0 made.1)
 
 -- the command whose fields they are is the one that is asked for
-pub asked_by : (words : List (List ℕ)) (has : HasFields words) (found : Option (Base × List ℕ))
+pub asked_by : (words : List (List ℕ)) (has : HasFields words) (start : Start) → has.form ≡ start_word start → (found : Option (Base × List ℕ))
     → ((base : Base) (name : List ℕ) → AreFields has.profile has.height has.hash has.host base name → found ≡ Some (base, name))
-    → (asked : Command) → Asks words asked → init_of found ≡ Some asked
-asked_by words has found one Replay is = absurd (omega (arith, has.long, ap length is))
-asked_by words has found one Dump is = absurd (omega (arith, has.long, ap length is))
-asked_by words has found one (Serve plan) is = absurd (omega (arith, has.long, ap length is.words_are))
-asked_by words has found one (Init base name) is = ap init_of (
+    → (asked : Command) → Asks words asked → init_of start found ≡ Some asked
+asked_by words has start form found one Replay is = absurd (omega (arith, has.long, ap length is))
+asked_by words has start form found one Dump is = absurd (omega (arith, has.long, ap length is))
+asked_by words has start form found one (Serve plan) is = absurd (omega (arith, has.long, ap length is.words_are))
+asked_by words has start form found one (Init other base name) is =
     let profile : has.profile ≡ is.profile = has.profile_at ∙ ap (λ (w : List (List ℕ)). get_or w 1 has.profile) is.words_are in
     let height : has.height ≡ is.height = has.height_at ∙ ap (λ (w : List (List ℕ)). get_or w 2 has.height) is.words_are in
     let hash : has.hash ≡ is.hash = has.hash_at ∙ ap (λ (w : List (List ℕ)). get_or w 3 has.hash) is.words_are in
     let host : has.host ≡ is.host = has.host_at ∙ ap (λ (w : List (List ℕ)). get_or w 4 has.host) is.words_are in
-    one base name (record {
+    ap (init_of start) (one base name (record {
       profile_is = profile ∙ is.fields.profile_is;
       height_is = subst (λ (t : List ℕ). IsHeight t base.height) (sym height) is.fields.height_is;
       hash_is = subst (λ (t : List ℕ). IsHash t base.hash.0) (sym hash) is.fields.hash_is;
       host_is = subst (λ (t : List ℕ). IsHostOf t name) (sym host) is.fields.host_is;
-    }))
+    })) ∙ ap (λ (s : Start). Some (Init s base name)) (same_start start other (sym form ∙ form_word words has other base name is))
 
 -- ---- four words
 
@@ -115,7 +136,7 @@ pub served_by : (words : List (List ℕ)) (has : HasNumbers words) (found : Opti
     → (asked : Command) → Asks words asked → serve_of found ≡ Some asked
 served_by words has found one Replay is = absurd (omega (arith, has.long, ap length is))
 served_by words has found one Dump is = absurd (omega (arith, has.long, ap length is))
-served_by words has found one (Init base name) is = absurd (omega (arith, has.long, ap length is.words_are))
+served_by words has found one (Init start base name) is = absurd (omega (arith, has.long, ap length is.words_are))
 served_by words has found one (Serve plan) is = ap serve_of (
     let udp : has.udp ≡ is.udp = has.udp_at ∙ ap (λ (w : List (List ℕ)). get_or w 1 has.udp) is.words_are in
     let feed : has.feed ≡ is.feed = has.feed_at ∙ ap (λ (w : List (List ℕ)). get_or w 2 has.feed) is.words_are in

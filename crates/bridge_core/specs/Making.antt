@@ -1,4 +1,4 @@
--- What `init` comes to.
+-- What `init` and `init-from` come to.
 use Rattle.std.specs.Prelude.{◌≡◌, ℕ, Bool, IsTrue, List, Result, Ok, Err}
 use Rattle.fault_counts.specs.Faults.{NeverFell}
 use Rattle.nmc_base.specs.declared.chain_ends.Base.{Base}
@@ -10,8 +10,12 @@ use Rattle.name_store.specs.declared.faults.CreateFault.TheVariants as faults
 use Rattle.name_store.specs.Header.{IsInitialised, IsUninitialised}
 use Rattle.name_store.specs.Making.{IsEmpty, EachIsBegun, OnlyReads}
 use Rattle.name_store.specs.Stands.{EachStands, begun_on}
+use Rattle.byte_io.specs.Source.{SourceSeen}
+use Rattle.chain_starts.specs.Starting.{StartsFrom}
+use Rattle.chain_starts.specs.declared.fault.StartFault.{StartFault}
+use Rattle.chain_starts.specs.declared.fault.StartFault.TheVariants as starts
 use Rattle.bridge_core.specs.declared.status.Status.{Status}
-use Rattle.bridge_core.specs.declared.status.Status.TheVariants.{Done, Initialised, DiskFault}
+use Rattle.bridge_core.specs.declared.status.Status.TheVariants.{Done, Initialised, DiskFault, SourceFault, NoMemory, InputLimit, BadSnapshot}
 
 -- the status of a making that ended so
 abbrev pub status_of_making : Result (Unit {0}) CreateFault → Status
@@ -34,3 +38,22 @@ pub record Inits (tells : Bool) (base : Base) (host : List ℕ) (old new : DiskS
   pub from_empty : IsTrue tells → IsEmpty (file_in old 0) → EachMoment (EachIsBegun (begun_on base host)) old.moments new.moments
   pub others : IsTrue tells → EachMoment (LeavesFrom 2 old.moments.now) old.moments new.moments
   pub later : NeverFell old.faults new.faults
+
+-- ---- from a snapshot
+
+-- the status of a making from a snapshot that ended so
+abbrev pub status_of_start : Result (Unit {0}) StartFault → Status
+status_of_start (Ok done) = Done
+status_of_start (Err starts.Initialised) = Initialised
+status_of_start (Err (starts.Bad at)) = BadSnapshot at
+status_of_start (Err starts.InputLimit) = InputLimit
+status_of_start (Err starts.SourceFault) = SourceFault
+status_of_start (Err starts.DiskFault) = DiskFault
+status_of_start (Err starts.NoMemory) = NoMemory
+
+-- What `init-from` of a base, the text of its host and a source did: a snapshot of fewer bytes than the limit is read to its end, and
+-- once it is done, whatever a crash leaves stands for the base with the snapshot's start list.
+pub record InitsFrom (tells : Bool) (base : Base) (host : List ℕ) (limit : ℕ) (old new : DiskSeen) (before after : SourceSeen) (status : Status) : Type 0 where
+  pub ended : Result (Unit {0}) StartFault
+  pub starts : StartsFrom tells base host limit old new before after ended
+  pub status_is : status ≡ status_of_start ended

@@ -10,6 +10,8 @@ use Rattle.name_store.specs.Host.{IsHostOf}
 use Rattle.bridge_core.specs.declared.words.Command.{Command}
 use Rattle.bridge_core.specs.declared.words.Command.TheVariants.{Replay, Dump, Init, Serve}
 use Rattle.bridge_core.specs.declared.words.Plan.{Plan}
+use Rattle.bridge_core.specs.declared.words.Start.{Start}
+use Rattle.bridge_core.specs.declared.words.Start.TheVariants.{Empty, Snapshot}
 
 -- a number within its limits: decimal digits without a leading zero, or `0`
 pub record IsNumber (least most : ℕ) (text : List ℕ) (n : ℕ) : Type 0 where
@@ -45,6 +47,11 @@ abbrev pub profile_word : Profile → List ℕ
 profile_word Regtest = codes "regtest"
 profile_word Main = codes "main"
 
+-- the word of a start list: none, or that of a snapshot
+abbrev pub start_word : Start → List ℕ
+start_word Empty = codes "init"
+start_word Snapshot = codes "init-from"
+
 -- the texts of a base's profile, height and hash and of its host, which has this name
 pub record AreFields (profile height hash host : List ℕ) (base : Base) (name : List ℕ) : Type 0 where
   pub profile_is : profile ≡ profile_word base.profile
@@ -52,13 +59,13 @@ pub record AreFields (profile height hash host : List ℕ) (base : Base) (name :
   pub hash_is : IsHash hash base.hash.0
   pub host_is : IsHostOf host name
 
--- the words `init`, a profile, a height, a hash, and a host
-pub record AsksForFiles (words : List (List ℕ)) (base : Base) (name : List ℕ) : Type 0 where
+-- the word of a start list, a profile, a height, a hash, and a host
+pub record AsksForFiles (words : List (List ℕ)) (start : Start) (base : Base) (name : List ℕ) : Type 0 where
   pub profile : List ℕ
   pub height : List ℕ
   pub hash : List ℕ
   pub host : List ℕ
-  pub words_are : words ≡ codes "init" ∷ (profile ∷ (height ∷ (hash ∷ (host ∷ []))))
+  pub words_are : words ≡ start_word start ∷ (profile ∷ (height ∷ (hash ∷ (host ∷ []))))
   pub fields : AreFields profile height hash host base name
 
 -- the texts of the numbers of two ports, and of the turns
@@ -79,12 +86,13 @@ pub record AsksToServe (words : List (List ℕ)) (plan : Plan) : Type 0 where
 abbrev pub Asks : List (List ℕ) → Command → Type 0
 Asks words Replay = words ≡ codes "replay" ∷ []
 Asks words Dump = words ≡ codes "dump" ∷ []
-Asks words (Init base name) = AsksForFiles words base name
+Asks words (Init start base name) = AsksForFiles words start base name
 Asks words (Serve plan) = AsksToServe words plan
 
 -- what a command has no use for stays as it is: the source, the sink and the port
 abbrev pub Spares : Command → (source sink port : Type 0) → Type 0
 Spares Replay source sink port = port
 Spares Dump source sink port = source × port
-Spares (Init base name) source sink port = source × sink × port
+Spares (Init Empty base name) source sink port = source × sink × port
+Spares (Init Snapshot base name) source sink port = sink × port
 Spares (Serve plan) source sink port = source × sink

@@ -1,19 +1,19 @@
-ghost use Rattle.std.specs.Prelude.{◌≡◌, ◌↔◌, ◌^◌, List, ℕ};
+ghost use Rattle.std.specs.Prelude.{◌≡◌, ◌↔◌, ◌^◌, List, ℕ, IsTrue};
 ghost use Rattle.nmc_base.specs.declared.chain_ends.Base.{Base};
 ghost use Rattle.frame_loop.specs.Transcript.{streams};
 ghost use Rattle.bridge_core.specs.Words.{Asks, AsksForFiles, AsksToServe, Spares};
 ghost use Rattle.bridge_core.specs.Determined.{outside};
-ghost use Rattle.bridge_core.specs.Making.{Inits};
+ghost use Rattle.bridge_core.specs.Making.{Inits, InitsFrom};
 ghost use Rattle.bridge_core.specs.Replaying.{Replays};
 ghost use Rattle.bridge_core.specs.Dumping.{Dumps, dump_seen};
 ghost use Rattle.bridge_core.specs.Serving.{Serves, serve_seen};
 
 use crate::dumping::dump;
-use crate::making::init;
+use crate::making::{init, init_from};
 use crate::replaying::replay;
 use crate::serving::serve;
 use crate::status::Status;
-use crate::words::{Command, Plan, read_words};
+use crate::words::{Command, Plan, Start, read_words};
 use byte_io::{Port, Sink, Source};
 use disk_model::Disk;
 use nmc_base::Words;
@@ -22,11 +22,11 @@ use std::alloc::Global;
 /// The most bytes that one replay reads: 2^40.
 const LIMIT: u64 = 1 << 40;
 
-/// Does what the words say: `replay` or `dump` alone; `init` with a profile, a height, a hash and a host; or `serve` with the
-/// numbers of two ports and of the polls.
+/// Does what the words say: `replay` or `dump` alone; `init` or `init-from` with a profile, a height, a hash and a host; or `serve`
+/// with the numbers of two ports and of the polls.
 ///
 /// Other words end with `Status::Words`, and then nothing is read, written or asked of the disk or the port. `init` makes the
-/// files of a base, which has no command yet. Each command asks nothing of what it has no use for.
+/// files of a base, which has no command yet, and `init-from` those of a base with the start list of a snapshot on the source. Each command asks nothing of what it has no use for.
 pub fn run<S: Source, K: Sink, D: Disk, P: Port>(
     alloc: Global,
     words: &Words,
@@ -43,8 +43,13 @@ pub fn run<S: Source, K: Sink, D: Disk, P: Port>(
     ensures replay { Asks words.now.items Command.Replay
         → Replays D.tells D.seen disk.new (outside (streams (S.seen source.old) (K.seen sink.old)) (D.seen disk.old))
         (outside (streams (S.seen source.new) (K.seen sink.new)) (D.seen disk.new)) (2 ^ 40) result }
-    ensures init { (base : Base) (name : List ℕ) (asked : AsksForFiles words.now.items base name)
+    ensures init { (base : Base) (name : List ℕ) (asked : AsksForFiles words.now.items Start.Empty base name)
         → Inits D.tells base asked.host (D.seen disk.old) (D.seen disk.new) result }
+    ensures init_from { (base : Base) (name : List ℕ) (asked : AsksForFiles words.now.items Start.Snapshot base name)
+        → InitsFrom D.tells base asked.host (2 ^ 32) (D.seen disk.old) (D.seen disk.new) (S.seen source.old) (S.seen source.new) result }
+    // Where the files were made before, the source isn't read.
+    ensures unread { (base : Base) (name : List ℕ) → AsksForFiles words.now.items Start.Snapshot base name
+        → IsTrue D.tells → result ≡ Status.Initialised → source.new ≡ source.old }
     ensures dump { Asks words.now.items Command.Dump
         → Dumps D.tells (dump_seen (K.seen sink.old) (D.seen disk.old)) (dump_seen (K.seen sink.new) (D.seen disk.new)) result }
     ensures serve { (plan : Plan) → AsksToServe words.now.items plan
@@ -53,7 +58,10 @@ pub fn run<S: Source, K: Sink, D: Disk, P: Port>(
 {
     match read_words(words) {
         Some(Command::Replay) => replay(alloc, source, sink, disk, LIMIT),
-        Some(Command::Init(base, host)) => init(disk, &base, &host),
+        Some(Command::Init(Start::Empty, base, host)) => init(disk, &base, &host),
+        Some(Command::Init(Start::Snapshot, base, host)) => {
+            init_from(alloc, source, disk, &base, &host)
+        }
         Some(Command::Dump) => dump(alloc, sink, disk),
         Some(Command::Serve(plan)) => serve(alloc, disk, port, plan),
         None => Status::Words,

@@ -24,4 +24,4 @@ pub use frame_loop::ReplyBuf;
 pub use name_store::OpenFault;
 pub use replaying::replay;
 pub use status::Status;
-pub use words::{Command, Plan};
+pub use words::{Command, Plan, Start};

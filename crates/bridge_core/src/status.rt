@@ -29,10 +29,12 @@ pub enum Status {
     SinkFault,
     /// Memory ran out before anything was read, written or polled.
     NoMemory,
-    /// As many bytes as the limit were read.
+    /// As many bytes as the limit were read, and nothing was wrong with them.
     InputLimit,
     /// The ports couldn't be bound.
     PortFault,
+    /// What the source has is no snapshot on the base: the place of its first fault.
+    BadSnapshot { at: u64 },
 }
 
 impl Status {
@@ -51,6 +53,7 @@ impl Status {
             Status::NoMemory => 8,
             Status::InputLimit => 9,
             Status::PortFault => 10,
+            Status::BadSnapshot { .. } => 11,
         }
     }
 }
@@ -73,6 +76,7 @@ impl fmt::Display for Status {
             Status::NoMemory => write!(f, "out of memory"),
             Status::InputLimit => write!(f, "input limit"),
             Status::PortFault => write!(f, "port fault"),
+            Status::BadSnapshot { at } => write!(f, "bad snapshot at {at}"),
         }
     }
 }

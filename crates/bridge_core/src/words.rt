@@ -2,7 +2,7 @@ ghost use Rattle.std.specs.Prelude.{◌≡◌, ◌↔◌, List, ℕ, Some, IsTru
 ghost use Rattle.nmc_base.specs.declared.chain_ends.Base.{Base};
 ghost use Rattle.name_store.specs.Host.{IsHostOf};
 ghost use Rattle.nmc_base.specs.declared.chain_ends.Profile.{Profile};
-ghost use Rattle.bridge_core.specs.Words.{Asks, AreFields, AreNumbers, IsHash, profile_word};
+ghost use Rattle.bridge_core.specs.Words.{Asks, AreFields, AreNumbers, IsHash, profile_word, start_word};
 
 use crate::numbers::{read_height, read_port, read_turns};
 use domain_text::{Name, absolute_name};
@@ -19,6 +19,15 @@ pub struct Plan {
     pub turns: u32,
 }
 
+/// The start list with which files are made.
+#[derive(Clone, Copy, PartialEq, Eq, Debug)]
+pub enum Start {
+    /// None: the word `init`.
+    Empty,
+    /// That of the snapshot that the source has: the word `init-from`.
+    Snapshot,
+}
+
 /// What a command line asks for.
 #[derive(Drop)]
 pub enum Command {
@@ -26,8 +35,8 @@ pub enum Command {
     Replay,
     /// The word `dump` alone.
     Dump,
-    /// The word `init`, a profile, a height, a hash and a host: the base of the files, and the name of its host.
-    Init(Base, Name),
+    /// The word of a start list, a profile, a height, a hash and a host: the base of the files, and the name of its host.
+    Init(Start, Base, Name),
     /// The word `serve`, the numbers of two ports, and the turns.
     Serve(Plan),
 }
@@ -93,6 +102,32 @@ fn read_profile(word: &[u8]) -> Option<Profile>
     }
 }
 
+fn is_init(word: &[u8]) -> bool
+    ensures { IsTrue result ↔ (word.now ≡ codes "init") }
+{
+    word == b"init".as_slice()
+}
+
+fn is_init_from(word: &[u8]) -> bool
+    ensures { IsTrue result ↔ (word.now ≡ codes "init-from") }
+{
+    word == b"init-from".as_slice()
+}
+
+/// The start list whose word this is.
+fn read_start(word: &[u8]) -> Option<Start>
+    ensures found { IfSome result (λ start. word.now ≡ start_word start) }
+    ensures one { (start : Start) → word.now ≡ start_word start → result ≡ Some start }
+{
+    if is_init(word) {
+        Some(Start::Empty)
+    } else if is_init_from(word) {
+        Some(Start::Snapshot)
+    } else {
+        None
+    }
+}
+
 /// The base of these texts, and the name of its host.
 fn read_fields(profile: &[u8], height: &[u8], hash: &[u8], host: &[u8]) -> Option<(Base, Name)>
     ensures found { IfSome result (λ made. AreFields profile.now height.now hash.now host.now made.0 made.1) }
@@ -133,12 +168,6 @@ fn is_dump(word: &[u8]) -> bool
     word == b"dump".as_slice()
 }
 
-fn is_init(word: &[u8]) -> bool
-    ensures { IsTrue result ↔ (word.now ≡ codes "init") }
-{
-    word == b"init".as_slice()
-}
-
 fn is_serve(word: &[u8]) -> bool
     ensures { IsTrue result ↔ (word.now ≡ codes "serve") }
 {
@@ -157,10 +186,11 @@ pub(crate) fn read_words(words: &Words) -> Option<Command>
             let plan = read_plan(udp.as_slice(), feed.as_slice(), turns.as_slice())?;
             Some(Command::Serve(plan))
         }
-        [form, profile, height, hash, host] if is_init(form.as_slice()) => {
+        [form, profile, height, hash, host] => {
+            let start = read_start(form.as_slice())?;
             let (profile, height) = (profile.as_slice(), height.as_slice());
             let (base, name) = read_fields(profile, height, hash.as_slice(), host.as_slice())?;
-            Some(Command::Init(base, name))
+            Some(Command::Init(start, base, name))
         }
         _ => None,
     }

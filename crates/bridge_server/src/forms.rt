@@ -4,12 +4,13 @@ use std::{fmt, str};
 use system_io::People;
 
 /// What each command is called with.
-const FORMS: [&str; 6] = [
+const FORMS: [&str; 7] = [
     "the commands:",
-    "  init PROFILE HEIGHT HASH HOST    makes the files of a chain's base in this folder",
-    "  serve UDP_PORT FEED_PORT TURNS   answers queries, and takes blocks from a feed",
-    "  replay                           takes blocks from standard input, and replies on standard output",
-    "  dump                             writes what each name has to standard output",
+    "  init PROFILE HEIGHT HASH HOST        makes the files of a chain's base in this folder",
+    "  init-from PROFILE HEIGHT HASH HOST   makes them with the names of a snapshot from standard input",
+    "  serve UDP_PORT FEED_PORT TURNS       answers queries, and takes blocks from a feed",
+    "  replay                               takes blocks from standard input, and replies on standard output",
+    "  dump                                 writes what each name has to standard output",
     "the manual jaqhumpi(8) says more",
 ];
 
@@ -89,12 +90,16 @@ fn first_wrong<'w>(places: &[Place<'w>]) -> Option<Complaint<'w>> {
     None
 }
 
-/// What is wrong with the words behind `init`.
-fn wrong_for_init<'w>(command: &'w [u8], words: &'w [Bytes]) -> Option<Complaint<'w>> {
+/// What is wrong with the words behind `init` or `init-from`, and `text` where there are more or fewer than four.
+fn wrong_for_init<'w>(
+    command: &'w [u8],
+    words: &'w [Bytes],
+    text: &'static str,
+) -> Option<Complaint<'w>> {
     let [profile, height, hash, host] = words else {
         return Some(Complaint {
             word: command,
-            text: "takes four words: init PROFILE HEIGHT HASH HOST",
+            text,
         });
     };
     let (profile, height) = (profile.as_slice(), height.as_slice());
@@ -150,7 +155,16 @@ fn complaint_of<'w>(words: &'w [Bytes]) -> Option<Complaint<'w>> {
         return None;
     };
     match command.as_slice() {
-        b"init" => wrong_for_init(command.as_slice(), rest),
+        b"init" => wrong_for_init(
+            command.as_slice(),
+            rest,
+            "takes four words: init PROFILE HEIGHT HASH HOST",
+        ),
+        b"init-from" => wrong_for_init(
+            command.as_slice(),
+            rest,
+            "takes four words: init-from PROFILE HEIGHT HASH HOST",
+        ),
         b"serve" => wrong_for_serve(command.as_slice(), rest),
         b"replay" | b"dump" => Some(Complaint {
             word: command.as_slice(),

@@ -1,4 +1,4 @@
-//! Drafting an image in the area that is not selected.
+//! Writing an image to a draft, and drafting one in the area that is not selected.
 ghost use Rattle.std.specs.Prelude.{◌≡◌, ◌<◌, ◌≤◌, List, ℕ, [], length, IsTrue, OnOk, IfOk};
 ghost use Rattle.disk_model.specs.Moments.{EachMoment};
 ghost use Rattle.disk_model.specs.Changes.{LeavesOthers};
@@ -48,6 +48,24 @@ fn finish<D: Disk>(disk: &mut D, draft: Draft) -> Result<Ready, Failed>
     }
 }
 
+/// Writes the image of this text to a draft of just that length, which has nothing of it yet, and ends the draft.
+pub fn write_draft<'a, D: Disk>(
+    disk: &mut D,
+    draft: Draft,
+    text: ImageText<'a>,
+) -> Result<Ready, Failed>
+    requires whole { draft.image ≡ length text }
+    requires none { draft.written ≡ 0 }
+    requires holds { IsTrue D.tells → DraftHolds draft [] (bytes_in (D.seen disk.old) draft.file) }
+    ensures ok { IfOk result (λ ready. ready ≡ draft.file) }
+    ensures holds { IsTrue D.tells → OnOk result (HasImage text.entry (file_in (D.seen disk.new) draft.file)) }
+    ensures others { IsTrue D.tells → EachMoment (LeavesOthers draft.file (D.seen disk.old).moments.now) (D.seen disk.old).moments (D.seen disk.new).moments }
+    ensures ends { Ends (D.seen disk.old) (D.seen disk.new) result }
+{
+    let drafted = write_pieces(disk, draft, text)?;
+    finish(disk, drafted)
+}
+
 /// Drafts the image of this text, which has so many bytes.
 pub fn draft_image<'a, D: Disk>(
     disk: &mut D,
@@ -65,6 +83,5 @@ pub fn draft_image<'a, D: Disk>(
     ensures ends { Ends (D.seen disk.old) (D.seen disk.new) result }
 {
     let draft = begin(disk, slots, size)?;
-    let draft = write_pieces(disk, draft, text)?;
-    finish(disk, draft)
+    write_draft(disk, draft, text)
 }

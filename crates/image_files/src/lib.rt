@@ -7,6 +7,7 @@ mod feeding;
 mod front;
 mod law;
 mod loading;
+mod making;
 mod pieces;
 mod reading;
 mod saved;
@@ -15,6 +16,7 @@ mod writing;
 
 pub use fault::ReadFault;
 pub use law::{a_saved_index_is_read, images_of_a_save, one_bad_image, one_index_of_an_image};
+pub use making::make_image;
 pub use reading::read_image;
 pub use saved::{SaveFault, Saved};
 pub use saving::save_index;

@@ -54,7 +54,9 @@ impl Model for Ready {
     ghost invariant = { λ r. r.file < 3 };
 }
 
-/// Empties an area, and writes the length of an image of so many bytes there.
+/// Empties an area, and writes the length of an image of so many bytes there. It asks no selections, so the area may be the selected one.
+///
+/// No other file changes at any moment.
 pub fn begin_draft<D: Disk>(disk: &mut D, file: u8, image: u64) -> Result<Draft, Failed>
     requires file { file < 3 }
     requires short { image ≤ farthest }

@@ -10,7 +10,7 @@ mod reading;
 mod selecting;
 mod slots;
 
-pub use draft::{Draft, Ready};
+pub use draft::{Draft, Ready, begin_draft};
 pub use faults::{DraftFault, SlotFault};
 pub use law::{areas_of_selections, one_damage_of_selections, one_list_of_selections};
 pub use limits::SlotLimits;

@@ -5,7 +5,9 @@ pub mod StateLemmas
 pub mod StoreLemmas
 pub mod OutcomeLemmas
 pub mod StepLemmas
+pub mod MakingHeaderLemmas
 pub mod MakingLemmas
+pub mod StartLemmas
 pub mod SpellingLemmas
 pub mod RunLemmas
 pub mod DamageLaws

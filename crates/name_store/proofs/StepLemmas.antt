@@ -12,12 +12,16 @@ use Rattle.name_store.specs.MakingSteps.{HasSettled, IsShort}
 
 -- ---- what a call leaves of the other files
 
+pub others_then : {P : Files → Type 0} {old mid new : Moments} (file : ℕ) → ((files : Files) → P files → LeavesOthers file mid.now files)
+    → EachMoment (LeavesOthers file old.now) old mid → EachMoment P mid new → EachMoment (LeavesOthers file old.now) old new
+others_then {old} file others so_far did = join so_far (weaken (LeavesOthers file old.now) (λ files so. λ other differ. others files so other differ ∙ last_moment so_far other differ) did)
+
 module _ (file : ℕ) (change : FileState → FileState → Type 0) (old m1 : Moments) where
   pub leaves : EachMoment (Changes file change old.now) old m1 → EachMoment (LeavesOthers file old.now) old m1
   leaves did = weaken (LeavesOthers file old.now) (λ files so. so.others) did
 
   pub leaves_more : (m2 : Moments) → EachMoment (LeavesOthers file old.now) old m1 → EachMoment (Changes file change m1.now) m1 m2 → EachMoment (LeavesOthers file old.now) old m2
-  leaves_more m2 so_far did = join so_far (weaken (LeavesOthers file old.now) (λ files so. λ other differ. so.others other differ ∙ last_moment so_far other differ) did)
+  leaves_more m2 so_far did = others_then file (λ files so. so.others) so_far did
 
 -- ---- what calls to the first two files leave of the third
 

@@ -9,6 +9,7 @@ pub mod Opening
 pub mod HeaderAnswers
 pub mod Making
 pub mod MakingSteps
+pub mod Starting
 pub mod Outcomes
 pub mod ByIndex
 pub mod Connecting

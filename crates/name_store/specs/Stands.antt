@@ -1,5 +1,5 @@
 -- What the bytes of the three files stand for.
-use Rattle.std.specs.Prelude.{◌≡◌, ◌⊎◌, ℕ, ◌≤◌, List, []}
+use Rattle.std.specs.Prelude.{◌⊎◌, ℕ, ◌≤◌, List, []}
 use Rattle.nmc_base.specs.declared.chain_ends.Base.{Base}
 use Rattle.chain_names.specs.Log.{Log}
 use Rattle.disk_model.specs.Moments.{Files, IsImage}

@@ -34,6 +34,19 @@ pub enum CreateFault {
     DiskFault,
 }
 
+/// Why the files were not made from a start list.
+#[derive(Clone, Copy, Debug, PartialEq, Eq)]
+pub enum CreateFromFault {
+    /// File 0 has 50 bytes or more, and its first byte is 1. The files are as they were.
+    Initialised,
+
+    /// A call of the disk failed.
+    DiskFault,
+
+    /// There was no memory for the order of coins and names. The files are as they were.
+    NoMemory,
+}
+
 impl From<Failed> for CreateFault {
     ghost use Rattle.std.specs.Prelude.{◌≡◌};
     ghost use Rattle.name_store.specs.declared.faults.CreateFault.TheVariants.{DiskFault};
@@ -42,6 +55,28 @@ impl From<Failed> for CreateFault {
 
     fn from(_: Failed) -> Self {
         CreateFault::DiskFault
+    }
+}
+
+impl From<Failed> for CreateFromFault {
+    ghost use Rattle.std.specs.Prelude.{◌≡◌};
+    ghost use Rattle.name_store.specs.declared.faults.CreateFromFault.TheVariants.{DiskFault};
+
+    ghost from_gives = { λ _ e. e ≡ DiskFault };
+
+    fn from(_: Failed) -> Self {
+        CreateFromFault::DiskFault
+    }
+}
+
+impl From<NoRoom> for CreateFromFault {
+    ghost use Rattle.std.specs.Prelude.{◌≡◌};
+    ghost use Rattle.name_store.specs.declared.faults.CreateFromFault.TheVariants.{NoMemory};
+
+    ghost from_gives = { λ _ e. e ≡ NoMemory };
+
+    fn from(_: NoRoom) -> Self {
+        CreateFromFault::NoMemory
     }
 }
 

@@ -1,4 +1,4 @@
-ghost use Rattle.std.specs.Prelude.{◌≡◌, ◌≤◌, List, ℕ, length, IsTrue, OnOk, IsErrOf};
+ghost use Rattle.std.specs.Prelude.{◌≤◌, List, ℕ, IsTrue, OnOk, IsErrOf};
 ghost use Rattle.disk_model.specs.Moments.{EachMoment};
 ghost use Rattle.disk_model.specs.Changes.{LeavesFrom};
 ghost use Rattle.disk_model.specs.DiskSeen.{EndsWith, file_in, bytes_in};
@@ -8,22 +8,12 @@ ghost use Rattle.name_store.specs.Making.{CreateAnswer, OnlyReads, IsEmpty, Each
 ghost use Rattle.name_store.specs.Stands.{EachStands, begun_on};
 
 use crate::faults::CreateFault;
-use crate::host_text::HostText;
 use crate::initialised::is_initialised;
-use crate::limits::HEADER_FILE;
-use crate::making_steps::{make_area, make_fields, make_gate};
+use crate::making_header::make_header;
+use crate::making_steps::make_area;
 use disk_model::Disk;
 use domain_text::Name;
-use gate_journal::open_gate;
 use nmc_base::Base;
-
-/// The base, whose hash has 32 bytes.
-fn whole(base: Base) -> Base
-    ensures value { result ≡ base }
-    ensures hash { length base.hash.0 ≡ 32 }
-{
-    base
-}
 
 /// Makes the files of a base and its host, without a command.
 ///
@@ -45,11 +35,7 @@ pub fn create<D: Disk>(disk: &mut D, base: &Base, host: &Name) -> Result<(), Cre
     if is_initialised(disk)? {
         return Err(CreateFault::Initialised);
     }
-    let base = whole(*base);
-    let text = HostText::of(host);
     make_area(disk)?;
-    make_gate(disk)?;
-    make_fields(disk, &base, text.as_slice())?;
-    open_gate(disk, HEADER_FILE, 0)?;
+    make_header(disk, base, host)?;
     Ok(())
 }

@@ -2,7 +2,7 @@ ghost use Rattle.std.specs.Prelude.{◌≡◌, ◌+◌, ◌<◌, ◌≤◌, ◌^
 
 use crate::heights::before;
 use name_tables::Parts;
-use nmc_base::Base;
+use nmc_base::{Base, NoMemory};
 use state_image::{ImageFault, Loader};
 use std::alloc::Global;
 use std::cmp;
@@ -96,22 +96,40 @@ fn told(found: Result<(Base, Parts), ImageFault>) -> Result<Told, ImageFault> {
     }
 }
 
-/// What is told of pieces of so many bytes.
-fn is_told(alloc: Global, row: &Row, size: usize) -> Result<bool, Fail>
+/// Whether pieces of so many bytes tell what the row wants, unless memory is wanted.
+fn is_told(alloc: Global, row: &Row, size: usize) -> Result<bool, NoMemory>
     requires { 0 < size }
 {
-    let bytes = hex::decode(alloc, row.text)?;
-    match bytes.get(..row.len) {
-        Some(text) => Ok(text.len() < 2000 && told(load(alloc, text, size)) == row.want),
-        None => Ok(false),
+    let bytes = match hex::decode(alloc, row.text) {
+        Ok(bytes) => bytes,
+        Err(_) => return Err(NoMemory),
+    };
+    let text = match bytes.get(..row.len) {
+        Some(text) if text.len() < 2000 => text,
+        _ => return Ok(false),
+    };
+    match told(load(alloc, text, size)) {
+        Err(ImageFault::NoMemory) => Err(NoMemory),
+        told => Ok(told == row.want),
     }
 }
 
-#[test]
-fn an_image_in_pieces(rt: HostRuntime) -> Result<(), Fail> {
+fn are_told(rt: &impl Abort, alloc: Global) -> Result<(), NoMemory> {
     for (i, row) in ROWS.iter().enumerate() {
-        assert!(rt; is_told(rt.alloc(), row, 1)?, "row {i} byte by byte");
-        assert!(rt; is_told(rt.alloc(), row, 2000)?, "row {i} whole");
+        assert!(rt; is_told(alloc, row, 1)?, "row {i} byte by byte");
+        assert!(rt; is_told(alloc, row, 2000)?, "row {i} whole");
     }
+    Ok(())
+}
+
+#[test]
+fn an_image_is_loaded_or_memory_is_wanted(rt: HostRuntime) -> Result<(), Fail> {
+    let _told = are_told(&rt, rt.alloc());
+    Ok(())
+}
+
+#[test]
+fn with_memory_each_image_is_loaded(rt: HostRuntime) -> Result<(), Fail> {
+    are_told(&rt, rt.alloc())?;
     Ok(())
 }

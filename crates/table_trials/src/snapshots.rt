@@ -3,7 +3,7 @@ ghost use Rattle.std.specs.Prelude.{◌≡◌, ◌+◌, ◌<◌, ◌^◌, length
 use name_snapshot::{Snapshot, SnapshotFault};
 use name_table::Table;
 use name_tables::Parts;
-use nmc_base::{Base, Hash32, Profile, Steps};
+use nmc_base::{Base, Hash32, NoMemory, Profile, Steps};
 use std::alloc::Global;
 use std::cmp;
 use std::marker::Brand;
@@ -117,19 +117,26 @@ fn told(found: Result<Parts, SnapshotFault>) -> Result<Told, SnapshotFault> {
     }
 }
 
-/// What is told of pieces of so many bytes.
-fn is_told(alloc: Global, row: &Row, size: usize) -> Result<bool, Fail>
+/// Whether pieces of so many bytes tell what the row wants, unless memory is wanted.
+fn is_told(alloc: Global, row: &Row, size: usize) -> Result<bool, NoMemory>
     requires { 0 < size }
 {
-    let bytes = hex::decode(alloc, row.text)?;
-    match bytes.get(..row.len) {
-        Some(text) => Ok(text.len() < 100 && told(read(alloc, text, size)) == row.want),
-        None => Ok(false),
+    let bytes = match hex::decode(alloc, row.text) {
+        Ok(bytes) => bytes,
+        Err(_) => return Err(NoMemory),
+    };
+    let text = match bytes.get(..row.len) {
+        Some(text) if text.len() < 100 => text,
+        _ => return Ok(false),
+    };
+    match told(read(alloc, text, size)) {
+        Err(SnapshotFault::NoMemory) => Err(NoMemory),
+        told => Ok(told == row.want),
     }
 }
 
 /// Each row in pieces of one byte, of seven, and whole.
-fn are_told(rt: &impl Abort, alloc: Global, rows: &[Row]) -> Result<(), Fail> {
+fn are_told(rt: &impl Abort, alloc: Global, rows: &[Row]) -> Result<(), NoMemory> {
     for (i, row) in rows.iter().enumerate() {
         assert!(rt; is_told(alloc, row, 1)?, "row {i} byte by byte");
         assert!(rt; is_told(alloc, row, 7)?, "row {i} in pieces of seven bytes");
@@ -139,16 +146,25 @@ fn are_told(rt: &impl Abort, alloc: Global, rows: &[Row]) -> Result<(), Fail> {
 }
 
 #[test]
+fn a_snapshot_is_read_or_memory_is_wanted(rt: HostRuntime) -> Result<(), Fail> {
+    let _told = are_told(&rt, rt.alloc(), &WHOLE);
+    Ok(())
+}
+
+#[test]
 fn a_snapshot_of_one_value(rt: HostRuntime) -> Result<(), Fail> {
-    are_told(&rt, rt.alloc(), &WHOLE)
+    are_told(&rt, rt.alloc(), &WHOLE)?;
+    Ok(())
 }
 
 #[test]
 fn the_lowest_height_of_a_value(rt: HostRuntime) -> Result<(), Fail> {
-    are_told(&rt, rt.alloc(), &HEIGHTS)
+    are_told(&rt, rt.alloc(), &HEIGHTS)?;
+    Ok(())
 }
 
 #[test]
 fn where_a_snapshot_ends(rt: HostRuntime) -> Result<(), Fail> {
-    are_told(&rt, rt.alloc(), &ENDS)
+    are_told(&rt, rt.alloc(), &ENDS)?;
+    Ok(())
 }

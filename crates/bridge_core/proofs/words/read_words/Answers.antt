@@ -39,37 +39,41 @@ returns-in_err-plan-in-len4-clause-one c = λ asked is.
 pub returns-in_ok-base-in-len5-clause-one : goal.returns-in_ok-base-in-len5-clause-one
 returns-in_ok-base-in-len5-clause-one c = λ asked is.
     asked_by c.as_slice.result.now (record {
+      form = c.form-item-then-this-lt6.result;
       profile = c.profile-item.result;
       height = c.height-item.result;
       hash = c.hash-item.result;
       host = c.host-item.result;
+      form_at = c.form-item-then-this-lt6.is;
       profile_at = c.profile-item.is;
       height_at = c.height-item.is;
       hash_at = c.hash-item.is;
       host_at = c.host-item.is;
       long = c.in-len5.len_at_least;
-    }) (Some (c.in_ok-base-in-len5.base, c.in_ok-base-in-len5.name)) (λ base name are. c.in_ok-base-in-len5.ensures.one base name (record {
+    }) c.in_ok-start-in-len5.start (sym c.as_slice-in-len5.ensures ∙ c.in_ok-start-in-len5.ensures.found) (Some (c.in_ok-base-in-len5.base, c.in_ok-base-in-len5.name)) (λ base name are. c.in_ok-base-in-len5.ensures.one base name (record {
       profile_is = c.as_slice-profile.ensures ∙ are.profile_is;
       height_is = subst (λ (t : List ℕ). IsHeight t base.height) (sym c.as_slice-height.ensures) are.height_is;
-      hash_is = subst (λ (t : List ℕ). IsHash t base.hash.0) (sym c.as_slice-in-len5.ensures) are.hash_is;
-      host_is = subst (λ (t : List ℕ). IsHostOf t name) (sym c.as_slice-in-len5-2.ensures) are.host_is;
+      hash_is = subst (λ (t : List ℕ). IsHash t base.hash.0) (sym c.as_slice-in-len5-2.ensures) are.hash_is;
+      host_is = subst (λ (t : List ℕ). IsHostOf t name) (sym c.as_slice-in-len5-3.ensures) are.host_is;
     })) asked (subst (λ (w : List (List ℕ)). Asks w asked) (sym c.as_slice.ensures) is)
 
 pub returns-in_err-base-in-len5-clause-one : goal.returns-in_err-base-in-len5-clause-one
 returns-in_err-base-in-len5-clause-one c = λ asked is.
     c.from_residual-in_err-base-in-len5.ensures ∙ asked_by c.as_slice.result.now (record {
+      form = c.form-item-then-this-lt6.result;
       profile = c.profile-item.result;
       height = c.height-item.result;
       hash = c.hash-item.result;
       host = c.host-item.result;
+      form_at = c.form-item-then-this-lt6.is;
       profile_at = c.profile-item.is;
       height_at = c.height-item.is;
       hash_at = c.hash-item.is;
       host_at = c.host-item.is;
       long = c.in-len5.len_at_least;
-    }) None (λ base name are. c.in_err-base-in-len5.ensures.one base name (record {
+    }) c.in_ok-start-in-len5.start (sym c.as_slice-in-len5.ensures ∙ c.in_ok-start-in-len5.ensures.found) None (λ base name are. c.in_err-base-in-len5.ensures.one base name (record {
       profile_is = c.as_slice-profile.ensures ∙ are.profile_is;
       height_is = subst (λ (t : List ℕ). IsHeight t base.height) (sym c.as_slice-height.ensures) are.height_is;
-      hash_is = subst (λ (t : List ℕ). IsHash t base.hash.0) (sym c.as_slice-in-len5.ensures) are.hash_is;
-      host_is = subst (λ (t : List ℕ). IsHostOf t name) (sym c.as_slice-in-len5-2.ensures) are.host_is;
+      hash_is = subst (λ (t : List ℕ). IsHash t base.hash.0) (sym c.as_slice-in-len5-2.ensures) are.hash_is;
+      host_is = subst (λ (t : List ℕ). IsHostOf t name) (sym c.as_slice-in-len5-3.ensures) are.host_is;
     })) asked (subst (λ (w : List (List ℕ)). Asks w asked) (sym c.as_slice.ensures) is)
