@@ -7,6 +7,8 @@ use std::process::Abort;
 use std::sync::ledger::{Blank, Ledger};
 
 mod held;
+mod made_snapshot;
+mod many_names;
 mod rows;
 mod stop;
 mod trial;

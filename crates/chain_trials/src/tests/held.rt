@@ -6,7 +6,7 @@ ghost use Rattle.nmc_base.specs.declared.limits.TheConstants.{HIGHEST_HEIGHT};
 use super::stop::Stop;
 use chain_state::{BackOutcome, Chain, Refusal, StageOutcome};
 use index_commands::{stage_bytes, stage_hash};
-use nmc_base::{Base, LONGEST_BLOCK, Steps};
+use nmc_base::{Base, LONGEST_BLOCK, Steps, Tip};
 use std::alloc::Global;
 use std::sync::ledger::Ledger;
 
@@ -64,16 +64,38 @@ impl Held {
         requires { base.height ≤ HIGHEST_HEIGHT }
     {
         match Chain::at_base(alloc, base) {
-            Ok(chain) => Ok(Held { chain: Some(chain) }),
+            Ok(chain) => Ok(Held::of(chain)),
             Err(_) => Err(Stop::NoMemory),
         }
     }
 
+    /// This chain.
+    pub fn of(chain: Chain) -> Held {
+        Held { chain: Some(chain) }
+    }
+
+    fn chain(&self) -> Result<&Chain, Stop> {
+        match &self.chain {
+            Some(chain) => Ok(chain),
+            None => Err(Stop::Wrong("a chain")),
+        }
+    }
+
+    /// The newest block, or the base.
+    pub fn tip(&self) -> Result<Tip, Stop> {
+        Ok(self.chain()?.tip())
+    }
+
     /// The height of the tip.
     pub fn height(&self) -> Result<u32, Stop> {
-        match &self.chain {
-            Some(chain) => Ok(chain.tip().height),
-            None => Err(Stop::Wrong("a chain")),
+        Ok(self.tip()?.height)
+    }
+
+    /// Whether this value is served for the name.
+    pub fn serves(&self, name: &[u8], value: &[u8]) -> Result<bool, Stop> {
+        match self.chain()?.live(name) {
+            Some(live) => Ok(live == value),
+            None => Ok(false),
         }
     }
 
