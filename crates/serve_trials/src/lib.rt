@@ -3,6 +3,8 @@
 #![tactic(auto)]
 
 #[cfg(test)]
+mod crashes;
+#[cfg(test)]
 mod feed;
 #[cfg(test)]
 mod first_block;
@@ -18,6 +20,8 @@ mod replays;
 mod reports;
 #[cfg(test)]
 mod saves;
+#[cfg(test)]
+mod starts;
 #[cfg(test)]
 mod statuses;
 #[cfg(test)]

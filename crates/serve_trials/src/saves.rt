@@ -1,16 +1,15 @@
 //! Saves: their replies, the files opened again behind them, each stop of the disk meanwhile, and each of its calls failing.
 
+use crate::crashes::{Crashed, is_right_wherever};
 use crate::feed::FEED;
 use crate::outside::{INIT, Outside, Trial, each_is_right, end_of};
-use crate::stops::{CHOICES, make};
+use crate::stops::make;
 use crate::texts::{bytes_of, field};
 use bridge_core::Status;
 use byte_io::Polled;
-use memory_disk::{Choice, MemoryDisk};
 use memory_io::MemoryPort;
 use nmc_base::{Bytes, NoMemory};
 use std::alloc::Global;
-use std::mem;
 use std::test::Fail;
 
 /// Replays the input over the files, and says whether it is answered with this.
@@ -169,57 +168,22 @@ fn is_right(calls: usize, came: Came) -> bool {
     }
 }
 
-/// A stop after so many calls, with this choice.
-fn is_right_after(
-    alloc: Global,
-    disk: &MemoryDisk,
-    after: &mut Outside,
-    calls: usize,
-    choice: Choice,
-) -> Result<bool, NoMemory> {
-    after.disk = disk.image(alloc, calls, choice)?;
-    Ok(is_right(calls, replay_of(alloc, after, "first save")?))
-}
+struct SavedOrNot;
 
-/// With each choice.
-fn is_right_by_each(
-    alloc: Global,
-    disk: &MemoryDisk,
-    after: &mut Outside,
-    calls: usize,
-) -> Result<bool, NoMemory> {
-    for choice in &CHOICES {
-        if !is_right_after(alloc, disk, after, calls, *choice)? {
-            return Ok(false);
-        }
+impl Crashed for SavedOrNot {
+    fn is_right(alloc: Global, after: &mut Outside, calls: usize) -> Result<bool, NoMemory> {
+        Ok(is_right(calls, replay_of(alloc, after, "first save")?))
     }
-    Ok(true)
-}
-
-/// Each stop of these files.
-fn is_right_always(
-    alloc: Global,
-    disk: &MemoryDisk,
-    after: &mut Outside,
-) -> Result<bool, NoMemory> {
-    for calls in OPENED..MANY + 1 {
-        if !is_right_by_each(alloc, disk, after, calls)? {
-            return Ok(false);
-        }
-    }
-    Ok(true)
-}
-
-fn opens_always(alloc: Global, after: &mut Outside) -> Result<bool, NoMemory> {
-    let saved = mem::replace(&mut after.disk, MemoryDisk::new(alloc, &[])?);
-    is_right_always(alloc, &saved, after)
 }
 
 struct EachStop;
 
 impl Trial for EachStop {
     fn is_right(alloc: Global, outside: &mut Outside, _row: &str) -> Result<bool, NoMemory> {
-        Ok(save_of(alloc, outside, 0)? == Came::Saved && opens_always(alloc, outside)?)
+        Ok(
+            save_of(alloc, outside, 0)? == Came::Saved
+                && is_right_wherever::<SavedOrNot>(alloc, outside, OPENED, MANY + 1)?,
+        )
     }
 }
 

@@ -2,14 +2,14 @@
 
 ghost use Rattle.std.specs.Prelude.{◌<◌};
 
+use crate::crashes::{Crashed, is_right_wherever};
 use crate::outside::{INIT, Outside, Trial, each_is_right, end_of};
 use crate::texts::bytes_of;
 use bridge_core::Status;
 use disk_model::{Disk, Failed};
-use memory_disk::{Choice, MemoryDisk};
+use memory_disk::MemoryDisk;
 use nmc_base::NoMemory;
 use std::alloc::Global;
-use std::mem;
 use std::test::Fail;
 
 /// So many calls make the files: three for file 1, and a length, four, two and two for file 0.
@@ -65,14 +65,6 @@ fn is_made(alloc: Global, outside: &mut Outside) -> Result<bool, NoMemory> {
 
 // ---- stops
 
-pub(crate) static CHOICES: [Choice; 5] = [
-    Choice::Old,
-    Choice::New,
-    Choice::Fill(0),
-    Choice::Fill(1),
-    Choice::Fill(255),
-];
-
 /// Whether files that were stopped after so many calls may be those of which this comes: before they were made to their end, or
 /// with the block or without it; and behind all calls with it.
 fn is_right(calls: usize, came: Came) -> bool {
@@ -84,58 +76,19 @@ fn is_right(calls: usize, came: Came) -> bool {
     }
 }
 
-/// A stop after so many calls, with this choice.
-fn is_right_after(
-    alloc: Global,
-    disk: &MemoryDisk,
-    after: &mut Outside,
-    calls: usize,
-    choice: Choice,
-) -> Result<bool, NoMemory> {
-    after.disk = disk.image(alloc, calls, choice)?;
-    Ok(is_right(calls, replay_first(alloc, after)?))
-}
+struct Replayed;
 
-/// With each choice.
-fn is_right_by_each(
-    alloc: Global,
-    disk: &MemoryDisk,
-    after: &mut Outside,
-    calls: usize,
-) -> Result<bool, NoMemory> {
-    for choice in &CHOICES {
-        if !is_right_after(alloc, disk, after, calls, *choice)? {
-            return Ok(false);
-        }
+impl Crashed for Replayed {
+    fn is_right(alloc: Global, after: &mut Outside, calls: usize) -> Result<bool, NoMemory> {
+        Ok(is_right(calls, replay_first(alloc, after)?))
     }
-    Ok(true)
-}
-
-/// Each stop of these files.
-fn is_right_always(
-    alloc: Global,
-    disk: &MemoryDisk,
-    after: &mut Outside,
-) -> Result<bool, NoMemory> {
-    for calls in 0..MANY + 1 {
-        if !is_right_by_each(alloc, disk, after, calls)? {
-            return Ok(false);
-        }
-    }
-    Ok(true)
-}
-
-/// Each stop of the files that were made.
-fn opens_always(alloc: Global, after: &mut Outside) -> Result<bool, NoMemory> {
-    let made = mem::replace(&mut after.disk, MemoryDisk::new(alloc, &[])?);
-    is_right_always(alloc, &made, after)
 }
 
 struct EachStop;
 
 impl Trial for EachStop {
     fn is_right(alloc: Global, outside: &mut Outside, _row: &str) -> Result<bool, NoMemory> {
-        Ok(is_made(alloc, outside)? && opens_always(alloc, outside)?)
+        Ok(is_made(alloc, outside)? && is_right_wherever::<Replayed>(alloc, outside, 0, MANY + 1)?)
     }
 }
 
@@ -236,9 +189,13 @@ fn has(disk: &mut MemoryDisk, file: u8, bytes: &[u8]) -> bool
 }
 
 /// Whether the files are these.
-fn are_files(alloc: Global, disk: &mut MemoryDisk) -> Result<bool, NoMemory> {
+pub(crate) fn are_files(
+    alloc: Global,
+    disk: &mut MemoryDisk,
+    files: &[&str; 3],
+) -> Result<bool, NoMemory> {
     for file in 0..3u8 {
-        let bytes = bytes_of(alloc, FILES[file as usize])?;
+        let bytes = bytes_of(alloc, files[file as usize])?;
         if !has(disk, file, &bytes) {
             return Ok(false);
         }
@@ -250,7 +207,7 @@ struct FilesOfOneBlock;
 
 impl Trial for FilesOfOneBlock {
     fn is_right(alloc: Global, outside: &mut Outside, _row: &str) -> Result<bool, NoMemory> {
-        Ok(is_made(alloc, outside)? && are_files(alloc, &mut outside.disk)?)
+        Ok(is_made(alloc, outside)? && are_files(alloc, &mut outside.disk, &FILES)?)
     }
 }
 

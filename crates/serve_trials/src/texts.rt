@@ -38,9 +38,10 @@ fn digit(letter: u8) -> u8 {
 }
 
 /// The words that aren't digits, each with the bytes that it stands for, in two parts.
-static WORDS: [(&str, &[u8], &[u8]); 12] = [
+static WORDS: [(&str, &[u8], &[u8]); 14] = [
     ("block", &FIRST_BLOCK, &[]),
     ("zeros", &[0; 32], &[]),
+    ("aas", &[0xAA; 32], &[]),
     // the frame of the first block, and the reply that accepts it: code 0, a length of 36, and height 1
     ("first", &[1, 0x1d, 1, 0, 0], &FIRST_BLOCK),
     ("accepted", &[0, 36, 0, 0, 0, 1, 0, 0, 0], &FIRST_HASH),
@@ -56,6 +57,8 @@ static WORDS: [(&str, &[u8], &[u8]); 12] = [
     // a message that asks nothing, and the reply to it
     ("asked", &[0x12, 0x34, 1, 0], &[0; 8]),
     ("told", &[0x12, 0x34, 0x81, 1], &[0; 8]),
+    // a name and its value, as a make of a snapshot tells them
+    ("example", b"\x09d/example", b"\x10\x00{\"ip\":\"1.2.3.4\"}"),
 ];
 
 /// What a word stands for. None where it is digits.
