@@ -7,7 +7,7 @@ import collections
 import pathlib
 import typing
 
-from .blocks import BELOW_ALL, HEADER, Block, Header, Place, block_hash, shown
+from .blocks import BELOW_ALL, HEADER, NO_HASH, Block, Header, Place, block_hash, shown
 from .troubles import Status, Stop
 
 BEFORE = 8
@@ -83,6 +83,11 @@ class BlockFiles:
         for file in self.files:
             file.bytes.close()
 
+    @property
+    def knows_heights(self):
+        """Whether the chain begins with the first block of its network; otherwise heights are counted from the first that is there."""
+        return self.records[self.chain[0]].previous == NO_HASH
+
     def find_chain(self):
         """The heights of all blocks, those that have none before them having 0, and the chain with the most work."""
         above = collections.defaultdict(list)
@@ -127,13 +132,14 @@ class BlockFiles:
         return None
 
     def runs(self, first, last):
-        run, size = [], 0
+        """The blocks from one height to another, some at a time; the first alone."""
+        run, size, most = [], 0, 1
         for hash in self.chain[first : last + 1]:
             run.append(self.block(hash))
             size += len(run[-1].data)
-            if size >= RUN_BYTES or len(run) == MOST_IN_A_RUN:
+            if size >= RUN_BYTES or len(run) == most:
                 yield run
-                run, size = [], 0
+                run, size, most = [], 0, MOST_IN_A_RUN
         if run:
             yield run
 

@@ -32,7 +32,8 @@ exit statuses:
   0    with --once or --blocks: the server stands at the tip of the best chain
   2    the words are wrong, a file that they name can't be read, or the port of --metrics can't be had
   3    the server refuses a block: its code, the rule's name, the block and the transaction are told
-  4    the server's blocks aren't those of the best chain, and may not be taken off (--deepest, --base, --unknown, block files)
+  4    the server's blocks aren't those of the best chain, and may not be taken off (--deepest, --base, --unknown, block files);
+       or they stand at other heights than the node's, since the server's files were made with another HEIGHT
   5    the node refuses the name and the password, has pruned a block, or nothing went well for --patience
   6    what answers isn't the feed of a server, or it gave no good answer for --patience
   130  interrupted from the terminal

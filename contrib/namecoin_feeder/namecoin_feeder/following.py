@@ -5,6 +5,7 @@ import typing
 
 from .blocks import MOST_BYTES, shown, too_long
 from .going_back import Blind, Wait, way_back
+from .heights import Heights
 from .measures import Measures
 from .pauses import Calm, Waits
 from .progress import spoken
@@ -37,6 +38,7 @@ class Follower:
         self.waits, self.calm = Waits(progress.say, clock), Calm(pauses.shortest, pauses.longest, clock)
         self.measures = Measures(clock)
         self.saves = Saves(choices.save_every, progress.say, self.measures, clock)
+        self.heights = Heights(source, server)
         # Moves of the best chain since a block was taken; and blocks taken off in this run that the source doesn't know.
         self.moves, self.unknown = 0, 0
         # The height of the server's tip and of the source's, as the source counts.
@@ -92,6 +94,7 @@ class Follower:
         self.settle(0)
         best = self.source.best()
         self.top = self.measures.node_height = best.height
+        self.heights.look_again()
         if best.hash == self.server.tip:
             self.is_level(best)
             return True
@@ -134,9 +137,10 @@ class Follower:
         self.height, tip = height, self.server.tip
         with contextlib.closing(self.source.runs(height + 1, top)) as runs:
             try:
-                for run in runs:
+                for number, run in enumerate(runs):
                     tip = self.send(run, tip)
-                    self.settle(len(run))
+                    # The first run is one block, whose reply tells the server's height before more is sent.
+                    self.settle(len(run) if number else 0)
                     if self.saves.is_due():
                         self.settle(0)
                         self.save()
@@ -168,6 +172,7 @@ class Follower:
                 self.height += 1
                 self.measures.is_connected(self.height)
                 self.saves.connected(block)
+                self.heights.compare(self.height)
         finally:
             if self.height > before:
                 self.went_well()
@@ -223,6 +228,7 @@ class Follower:
                     raise Moved
                 self.take_off(f" of height {self.height}")
                 self.height = self.measures.server_height = self.height - 1
+                self.heights.compare(self.height)
         finally:
             self.calm.ended()
 

@@ -41,6 +41,7 @@ def header_of(hash, found):
 class Node:
     name = "the node"
     is_fixed = False
+    knows_heights = True
 
     def __init__(self, url, credentials, seconds):
         self.calls = Calls(url, credentials, seconds)

@@ -37,6 +37,8 @@ class Server:
     def __init__(self, address, seconds):
         self.address, self.seconds = address, seconds
         self.socket = self.stream = self.tip = None
+        # The height that the reply to the last accepted command told.
+        self.height = None
         # What was sent and isn't answered yet, the oldest first.
         self.sent = collections.deque()
 
@@ -109,6 +111,14 @@ class Server:
             raise self.unexpected(reply)
         return reply.code == ACCEPTED
 
+    def is_on_base(self):
+        """Whether the chain has no block on its base: what the refusal of a disconnect tells whose hash is no block's."""
+        self.write(frame(DISCONNECT, NO_HASH))
+        reply = self.read()
+        if reply.code not in (AT_BASE, NOT_TIP):
+            raise self.unexpected(reply)
+        return reply.code == AT_BASE
+
     def save(self):
         """Asks for a save, all blocks being answered. Its reply: how many saves there were, a refusal of one, or that memory is wanting."""
         self.write(frame(SAVE, b""))
@@ -125,7 +135,7 @@ class Server:
     def accepts(self, reply):
         if len(reply.payload) != 4 + len(NO_HASH):
             raise self.unexpected(reply)
-        self.tip = reply.payload[4:]
+        self.height, self.tip = reply.number, reply.payload[4:]
 
     def moved(self, reply):
         """The trouble that the server stands on another block than it said; the reply tells which."""
