@@ -3,6 +3,7 @@ import subprocess
 
 from . import FEEDER
 from .case import SECONDS, Case, unittest
+from .chains import NO_HASH
 from .serving import Serve
 from .stand_in import ModelChain, Replay, initialised, surviving
 from .test_from_a_snapshot import HEIGHT, MAGIC, ON_BASE, has_starts, makes_at
@@ -75,6 +76,12 @@ class OverANode(Heights):
         self.has_files(HEIGHT, self.chains.back(self.base, 1))
         self.assertIn(self.line(self.base, HEIGHT + 1, HEIGHT), self.feed(*ON_BASE, status=4))
         self.assert_has(self.base)
+
+    def test_below_the_first_block(self):
+        """No height fits a base of 32 zero bytes, since the network's first block has the height 0."""
+        self.has_files(0, NO_HASH)
+        self.assertIn(self.line(self.chains.first, 1, 0), self.feed(status=4))
+        self.assert_has(self.chains.first)
 
     def test_each_start_sends_one_block(self):
         self.has_files(HIGH)
