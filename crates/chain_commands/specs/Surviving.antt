@@ -44,5 +44,5 @@ accepted_of [] replies = []
 accepted_of (event ∷ events) [] = []
 accepted_of (Do command ∷ events) (reply ∷ replies) =
     if reply.code == 0 then command ∷ accepted_of events replies else accepted_of events replies
-accepted_of (Ask message ∷ events) (reply ∷ replies) = accepted_of events replies
+accepted_of (Ask carrier message ∷ events) (reply ∷ replies) = accepted_of events replies
 accepted_of (Save ∷ events) (reply ∷ replies) = accepted_of events replies

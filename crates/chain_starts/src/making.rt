@@ -67,8 +67,8 @@ fn start_files<S: Source, D: Disk>(
     }
 }
 
-/// Makes the files of a base and its host, with the start list of a snapshot that is read from the source to its end; of at most
-/// `limit` bytes, a number that stops it too.
+/// Makes the files of a base and its host, with the start list of a snapshot that is read from the source to its end: of fewer
+/// than `limit` bytes.
 ///
 /// File 0 is looked at first: files that are initialised stay as they are, and then the source isn't read. All memory is taken before
 /// the first write, and with any fault but the disk's none is asked for. From an empty file 0 a crash leaves files that are uninitialised,

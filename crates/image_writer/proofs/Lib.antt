@@ -1,5 +1,6 @@
 pub mod PieceLemmas
 pub mod KeyLemmas
+pub mod FrontLemmas
 pub mod OrderLemmas
 pub mod WholeLemmas
 pub mod LengthLemmas

@@ -14,16 +14,17 @@ use Rattle.image_grammar.specs.Text.{history_text}
 use Rattle.image_writer.specs.declared.listed.Listed.{Listed}
 use Rattle.image_writer.specs.declared.stage.Stage.{Stage}
 use Rattle.image_writer.specs.declared.stage.Stage.TheVariants.{InUndos, InOps, InExpired, InCoins, InNames, InItems}
-use Rattle.image_writer.specs.Listed.{seen_entry, history_by, IsShortItem}
+use Rattle.image_writer.specs.Listed.{IsShortItem}
+use Rattle.image_writer.specs.Places.{held_at, history_at}
 
 module _ (l : Listed) where
   -- the names from one on, each with its items
   abbrev pub names_left : ℕ → List ℕ
-  names_left from = flat_map (history_text Two) (map (history_by l.table.now) (drop from l.names.items))
+  names_left from = flat_map (history_text Two) (map (history_at l.name_table.now) (drop from l.names.items))
 
   -- the coins from one on, and then the names behind their count
   abbrev pub coins_left : ℕ → List ℕ
-  coins_left from = flat_map held_text (map seen_entry (drop from l.coins.items)) ++ (to_le_bytes w32 (length l.names.items) ++ names_left 0)
+  coins_left from = flat_map held_text (map (held_at l.coin_table) (drop from l.coins.items)) ++ (to_le_bytes w32 (length l.names.items) ++ names_left 0)
 
   -- records, and then the coins behind their count
   abbrev pub undos_left : List Undo → List ℕ

@@ -1,5 +1,7 @@
 pub mod Page
 pub mod Ordered
+pub mod Front
+pub mod Places
 pub mod Listed
 pub mod Left
 pub mod Whole

@@ -1,11 +1,14 @@
 //! The text of an image of an index, given out in pieces, and its length.
 #![tactic(auto)]
 
+mod copy;
+mod front;
 mod length;
 mod lengths;
 mod listed;
 mod order;
 mod page;
+mod places;
 mod stage;
 mod text;
 mod values;

@@ -1,18 +1,14 @@
-ghost use Rattle.std.specs.Prelude.{◌≡◌, ◌<◌, []};
+ghost use Rattle.std.specs.Prelude.{◌≡◌, []};
 ghost use Rattle.std.specs.List.{AllByRecursion};
 ghost use Rattle.chain_names.specs.Limits.{IsWithinLimitsOp, HoldsName};
-ghost use Rattle.chain_names.specs.Tables.{names_in};
 ghost use Rattle.image_writer.specs.Left.{AreWithin, IsWithin, Writes};
 ghost use Rattle.image_writer.specs.Listed.{AreShort, IsShortItem};
 
 use crate::listed::Listed;
 use crate::page::Page;
+use crate::places::entry;
 use crate::values::{put_count, put_held, put_item, put_name, put_op};
 use chain_names::{HeldCoin, Item, KeptOp, Undo};
-use name_table::Table;
-use nmc_base::Steps;
-use std::marker::Brand;
-use std::sync::ledger::{Blank, Ledger};
 
 /// Where the writing of an image stands: what comes next, and what behind it.
 #[derive(Clone, Copy)]
@@ -132,8 +128,9 @@ fn step_coins<'a>(from: usize, listed: &Listed<'a>, page: &mut Page) -> Stage<'a
     ensures { Writes listed.now (Stage.InCoins from) result page.new }
 {
     match listed.coins.get(from) {
-        Some(entry) => {
-            put_held(page, entry.at, entry.coin);
+        Some(place) => {
+            let (at, coin) = listed.coin_table.listed(place);
+            put_held(page, at, coin);
             Stage::InCoins { from: from + 1 }
         }
         None => {
@@ -143,17 +140,6 @@ fn step_coins<'a>(from: usize, listed: &Listed<'a>, page: &mut Page) -> Stage<'a
     }
 }
 
-/// The items of a name. Nobody reads the steps that it takes.
-fn history<'a, L: Ledger>(names: &'a Table, name: &[u8], blank: Blank) -> &'a [Item]
-    requires name { blank.name ≡ L.name }
-    requires parts { blank.parts ≡ L.parts }
-    requires some { 0 < blank.parts }
-    ensures { result.now ≡ names_in names.now name.now }
-{
-    let mut steps = Steps::<L>::new(blank);
-    names.history(name, &mut steps)
-}
-
 /// The next name with the number of its items; behind the last, nothing.
 fn step_names<'a>(from: usize, listed: &Listed<'a>, page: &mut Page) -> Stage<'a>
     requires short { AreShort listed.now }
@@ -161,8 +147,8 @@ fn step_names<'a>(from: usize, listed: &Listed<'a>, page: &mut Page) -> Stage<'a
     ensures { Writes listed.now (Stage.InNames from) result page.new }
 {
     match listed.names.get(from) {
-        Some(name) => {
-            let items = history::<Brand>(listed.table, name, Blank::new(1));
+        Some(place) => {
+            let (name, items) = entry(listed.name_table, place);
             put_name(page, name);
             put_count(page, items.len());
             Stage::InItems {

@@ -7,6 +7,7 @@ ghost use Rattle.image_grammar.specs.Text.{IsStateText};
 ghost use Rattle.image_writer.specs.Pieces.{Gives};
 ghost use Rattle.image_writer.specs.Whole.{IsReadAgain};
 
+use crate::copy::copy_into;
 use crate::listed::Listed;
 use crate::order::list_parts;
 use crate::page::Page;
@@ -17,18 +18,6 @@ use name_tables::Parts;
 use nmc_base::{Base, NoMemory};
 use std::alloc::Global;
 use std::marker::Model;
-
-/// Copies bytes into the buffer, from a place on, as many as there are or as have room there. Answers how many.
-fn copy_into(bytes: &[u8], buf: &mut [u8], at: usize) -> usize
-    requires { at ≤ length buf.old }
-    ensures count { result ≡ min (length bytes.now) (length buf.old - at) }
-    ensures front { take (at + result) buf.new ≡ take at buf.old ++ take result bytes.now }
-    ensures behind { drop (at + result) buf.new ≡ drop (at + result) buf.old }
-{
-    let count = bytes.len().min(buf.len() - at);
-    buf[at..at + count].copy_from_slice(&bytes[..count]);
-    count
-}
 
 /// The text of an image that is still to be given out. Contracts see the bytes.
 ///
@@ -93,7 +82,7 @@ impl<'a> ImageText<'a> {
 
 /// The text of the image of an index, in version 2: its base, and its parts.
 ///
-/// It takes all its memory here: the order of coins and names, 16 bytes for each. Giving the text out takes none.
+/// It takes all its memory here: the order of coins, 8 bytes for each, and of names, 12 for each. Giving the text out takes none.
 pub fn image_text<'a>(
     alloc: Global,
     base: &'a Base,

@@ -1,4 +1,4 @@
-use Rattle.std.proofs.Common.{arith, refl, sym}
+use Rattle.std.proofs.Common.{arith, refl}
 use Rattle.image_writer.proofs.CountLemmas.{names_counted, names_past, names_many}
 use Rattle.image_writer.proofs.length.add_names.Goals as goal
 

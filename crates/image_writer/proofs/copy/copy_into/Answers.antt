@@ -1,6 +1,6 @@
 use Rattle.std.proofs.Common.{◌+◌, ◌-◌, arith}
 use Rattle.std.proofs.lemmas.Slice.{drop-put_mid}
-use Rattle.image_writer.proofs.text.copy_into.Goals as goal
+use Rattle.image_writer.proofs.copy.copy_into.Goals as goal
 
 pub returns-clause-behind : goal.returns-clause-behind
 returns-clause-behind c =
