@@ -1,7 +1,9 @@
+pub mod NumberTests
 pub mod BufferLemmas
 pub mod RecordLemmas
 pub mod ReplyLemmas
 pub mod FinishLemmas
 pub mod HeaderLaws
+pub mod OptLaws
 pub mod QueryLaws
 pub mod ReplyLaws

@@ -2,6 +2,7 @@
 use Rattle.std.proofs.Common.{◌≡◌, ℕ, ◌+◌, ◌-◌, ◌<◌, ◌≤◌, List, ◌++◌, length, take, drop, true, false, refl, sym, ap, ◌∙◌, arith, length-append, length-drop}
 use Rattle.std.proofs.lemmas.List.{take_at}
 use Rattle.std.proofs.lemmas.Grind.{common_steps}
+use Rattle.dns_message.specs.Edns.{opt_size_of_reply}
 use Rattle.dns_message.specs.Query.{Query, question_text}
 use Rattle.dns_message.specs.Header.{word_text}
 use Rattle.dns_message.specs.Records.{Record, record_text}
@@ -28,11 +29,11 @@ asked_name q buf start s l h =
 
 -- the reply, with a record more up to this place
 abbrev pub longer : Section → ℕ → Reply → Reply
-longer section n r = record { id = r.id; flags = r.flags; limit = r.limit; start = r.start; len = n; counts = one_more_of section r.counts; truncated = r.truncated }
+longer section n r = record { id = r.id; flags = r.flags; edns = r.edns; limit = r.limit; start = r.start; len = n; counts = one_more_of section r.counts; truncated = r.truncated }
 
 -- a record that fits
 pub added : (section : Section) (rec : Record) (t : Contents) (r : Reply) (old new : List ℕ) (n : ℕ) → Holds t r old → MayAdd section t
-    → r.truncated ≡ false → n ≤ r.limit → length new ≡ length old → take n new ≡ take r.len old ++ record_text t.query.name rec
+    → r.truncated ≡ false → n + opt_size_of_reply r.edns ≤ r.limit → length new ≡ length old → take n new ≡ take r.len old ++ record_text t.query.name rec
     → Holds (with_record section rec t) (longer section n r) new
 added section rec t r old new n h may whole fits same text =
     let piece = record_text t.query.name rec in
@@ -45,6 +46,7 @@ added section rec t r old new n h may whole fits same text =
       small = h.small;
       id = h.id;
       flags = h.flags;
+      edns = h.edns;
       start = h.start;
       from = omega (arith, h.from);
       within = fits;
@@ -58,11 +60,11 @@ added section rec t r old new n h may whole fits same text =
 
 -- the reply, truncated
 abbrev pub shortened : Reply → Reply
-shortened r = record { id = r.id; flags = r.flags; limit = r.limit; start = r.start; len = r.len; counts = r.counts; truncated = true }
+shortened r = record { id = r.id; flags = r.flags; edns = r.edns; limit = r.limit; start = r.start; len = r.len; counts = r.counts; truncated = true }
 
 -- a record that doesn't fit, or that comes after one that didn't
 pub not_added : (section : Section) (rec : Record) (t : Contents) (r : Reply) (buf : List ℕ) → Holds t r buf → MayAdd section t
-    → r.limit < HEADER_SIZE + (length (body_text t) + length (record_text t.query.name rec))
+    → r.limit < HEADER_SIZE + (length (body_text t) + length (record_text t.query.name rec) + opt_size_of_reply r.edns)
     → Holds (with_record section rec t) (shortened r) buf
 not_added section rec t r buf h may full =
     let more = length-body_text-with_record section rec t may in
@@ -71,6 +73,7 @@ not_added section rec t r buf h may full =
       small = h.small;
       id = h.id;
       flags = h.flags;
+      edns = h.edns;
       start = h.start;
       from = h.from;
       within = h.within;
@@ -91,6 +94,7 @@ Holds-front t r old new h room same =
       small = h.small;
       id = h.id;
       flags = h.flags;
+      edns = h.edns;
       start = h.start;
       from = h.from;
       within = h.within;

@@ -1,5 +1,6 @@
 -- What a reply that is being written, and its buffer, hold.
 use Rattle.std.specs.Prelude.{◌≡◌, ℕ, ◌+◌, ◌<◌, ◌≤◌, true, false, List, [], ◌∷◌, ◌++◌, length, take, drop}
+use Rattle.dns_message.specs.Edns.{opt_size_of_reply}
 use Rattle.dns_message.specs.Query.{question_text}
 use Rattle.dns_message.specs.Records.{Record}
 use Rattle.dns_message.specs.Replies.{Contents, body_text}
@@ -10,21 +11,23 @@ use Rattle.dns_message.specs.declared.counts.Section.TheVariants.{Answer, Author
 use Rattle.dns_message.specs.declared.reply.Reply.{Reply}
 
 -- The reply says this so far: the buffer has room for its limit, and begins with the text behind a header that is
--- still to be written; or that text passes the limit, and the reply is truncated.
+-- still to be written, as is the OPT record, for which there is room; or text and OPT pass the limit, and the reply is
+-- truncated.
 pub record Holds (t : Contents) (r : Reply) (buf : List ℕ) : Type 0 where
   pub room : r.limit ≤ length buf
   pub small : r.limit ≤ GREATEST_LIMIT
   pub id : r.id ≡ t.query.id
   pub flags : r.flags ≡ t.query.flags
+  pub edns : r.edns ≡ t.query.edns
   pub start : r.start ≡ HEADER_SIZE + length (question_text t.query)
   pub from : r.start ≤ r.len
-  pub within : r.len ≤ r.limit
+  pub within : r.len + opt_size_of_reply r.edns ≤ r.limit
   pub question : drop HEADER_SIZE (take r.start buf) ≡ question_text t.query
   pub few : r.counts.answers + r.counts.authorities < r.len
   pub answers : r.truncated ≡ false → r.counts.answers ≡ length t.answer
   pub authorities : r.truncated ≡ false → r.counts.authorities ≡ length t.authority
   pub text : r.truncated ≡ false → drop HEADER_SIZE (take r.len buf) ≡ body_text t
-  pub over : r.truncated ≡ true → r.limit < HEADER_SIZE + length (body_text t)
+  pub over : r.truncated ≡ true → r.limit < HEADER_SIZE + (length (body_text t) + opt_size_of_reply r.edns)
 
 -- records behind those of the answer, and of the authority section
 abbrev pub answer_with : Section → List Record → List Record → List Record

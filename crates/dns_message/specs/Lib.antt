@@ -1,6 +1,9 @@
 pub mod Header
+pub mod Edns
 pub mod Query
+pub mod Limits
 pub mod Reading
 pub mod Records
 pub mod Replies
+pub mod ReplyLaws
 pub mod Holding

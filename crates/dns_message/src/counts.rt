@@ -1,8 +1,10 @@
 ghost use Rattle.std.specs.Prelude.{◌≡◌, ◌+◌, ◌<◌};
+ghost use Rattle.dns_message.specs.Edns.{additionals_of_reply};
 ghost use Rattle.dns_message.specs.Replies.{header_by};
 ghost use Rattle.dns_message.specs.Holding.{one_more_of};
 ghost use Rattle.dns_message.specs.declared.numbers.TheConstants.{GREATEST_LIMIT};
 
+use crate::edns::{Edns, additionals};
 use crate::header::Header;
 
 /// The sections of a reply that hold records (RFC 1035, 4.1).
@@ -47,9 +49,9 @@ impl Counts {
         }
     }
 
-    /// The header of a reply with one question and these records.
-    pub(crate) fn header(self, id: u16, flags: u16) -> Header
-        ensures { result ≡ header_by id flags self.answers self.authorities }
+    /// The header of a reply with one question and these records, to a query of this EDNS.
+    pub(crate) fn header(self, id: u16, flags: u16, edns: Option<Edns>) -> Header
+        ensures { result ≡ header_by id flags self.answers self.authorities (additionals_of_reply edns) }
     {
         Header {
             id,
@@ -57,7 +59,7 @@ impl Counts {
             questions: 1,
             answers: self.answers,
             authorities: self.authorities,
-            additionals: 0,
+            additionals: additionals(edns),
         }
     }
 }

@@ -8,6 +8,10 @@ pub const LEAST_LIMIT: usize = 512;
 /// (RFC 1035, 4.2.2).
 pub const GREATEST_LIMIT: usize = 65_535;
 
+/// The bytes of a message over UDP that this server reads, and the most that it sends: what the least MTU of IPv6 leaves
+/// beside the headers of IPv6 and UDP, so that no datagram is split (RFC 6891, 6.2.5; RFC 8200, 5).
+pub const EDNS_SIZE: u16 = 1232;
+
 /// The time to live of each record, in seconds (RFC 1035, 4.1.3).
 pub const TIME_TO_LIVE: u32 = 600;
 
@@ -19,6 +23,18 @@ pub(crate) const FIXED_SIZE: usize = 10;
 
 /// The bytes of a question behind its name: QTYPE and QCLASS (RFC 1035, 4.1.2).
 pub(crate) const TYPE_AND_CLASS_SIZE: usize = 4;
+
+/// The TYPE of an OPT record (RFC 6891, 6.1.2).
+pub(crate) const OPT: u16 = 41;
+
+/// The bytes of an OPT record without options (RFC 6891, 6.1.2).
+pub(crate) const OPT_SIZE: usize = 11;
+
+/// The version of EDNS that this server knows (RFC 6891, 6.1.3).
+pub(crate) const EDNS_VERSION: u8 = 0;
+
+/// DO, the highest bit of an OPT record's flags (RFC 3225, 3; RFC 6891, 6.1.3).
+pub(crate) const DO: u16 = 0x8000;
 
 /// A pointer to the question's name, which stands right behind the header: two bits 1, and the offset 12
 /// (RFC 1035, 4.1.4).

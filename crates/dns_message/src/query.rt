@@ -1,10 +1,11 @@
 ghost use Rattle.std.specs.Prelude.{◌≡◌, ◌↔◌, option_map};
-ghost use Rattle.dns_message.specs.Query.{Reading, ReadsAs, IsQuery, IfQuery, query_of, asked_of};
-ghost use Rattle.dns_message.specs.Reading.{query_at, reading_behind, reading_of};
+ghost use Rattle.dns_message.specs.Query.{Reading, ReadsAs, IsQuery, IfQuery, IsByVersion, query_of, asked_of};
+ghost use Rattle.dns_message.specs.Reading.{query_at, with_additional, reading_behind, reading_of};
 
+use crate::edns::{Additional, Edns, read_additional};
 use crate::header::{Header, is_response, opcode, word};
 use crate::name::name_len;
-use crate::numbers::{HEADER_SIZE, QUERY, TYPE_AND_CLASS_SIZE};
+use crate::numbers::{EDNS_VERSION, HEADER_SIZE, QUERY, TYPE_AND_CLASS_SIZE};
 use domain_text::LONGEST_WIRE;
 
 /// A question (RFC 1035, 4.1.2), and the ID and the flags of its query. The name is in its wire form, as it stands
@@ -19,25 +20,29 @@ pub struct Question<'a> {
     pub kind: u16,
     /// QCLASS.
     pub class: u16,
+    /// What its OPT record tells, if it has one (RFC 6891, 6.1).
+    pub edns: Option<Edns>,
 }
 
 /// What comes of a message.
 #[derive(Clone, Copy, Debug)]
 pub enum Asked<'a> {
-    /// It is a query of one question.
+    /// It is a query of one question, without an OPT record or with one of version 0.
     Query(Question<'a>),
+    /// It gets a reply that tells version 0: its OPT record has another one (RFC 6891, 6.1.3).
+    BadVersion(Question<'a>),
     /// It gets no reply: it has no whole header, or it is a response.
     Drop,
-    /// It gets a format error: it isn't one question.
+    /// It gets a format error: it isn't one question, or it ends inside its OPT record.
     FormErr { id: u16, flags: u16 },
     /// It gets 'not implemented': its opcode isn't that of a standard query.
     NotImp { id: u16, flags: u16 },
 }
 
-/// The question behind a header.
+/// The question behind a header, and the bytes behind it, which aren't read yet.
 #[tactic(auto, unfolding(crate::specs::Reading::query_at))]
-fn read_question<'a>(header: Header, bytes: &'a [u8]) -> Option<Question<'a>>
-    ensures { option_map query_of result ≡ query_at header bytes.now }
+fn read_question<'a>(header: Header, bytes: &'a [u8]) -> Option<(Question<'a>, &'a [u8])>
+    ensures { option_map (λ found. (query_of found.0, found.1.now)) result ≡ query_at header bytes.now }
 {
     let len = name_len(bytes)?;
     if len > LONGEST_WIRE {
@@ -47,13 +52,39 @@ fn read_question<'a>(header: Header, bytes: &'a [u8]) -> Option<Question<'a>>
     if rest.len() < TYPE_AND_CLASS_SIZE {
         return None;
     }
-    Some(Question {
+    let question = Question {
         id: header.id,
         flags: header.flags,
         name,
         kind: word(rest, 0),
         class: word(rest, 2),
-    })
+        edns: None,
+    };
+    Some((question, rest.split_at(TYPE_AND_CLASS_SIZE).1))
+}
+
+/// What comes of a question, and of what stands behind it.
+fn with_additional<'a>(question: &Question<'a>, additional: Additional) -> Asked<'a>
+    ensures { asked_of result ≡ with_additional (query_of question.now) additional }
+{
+    match additional {
+        Additional::NoOpt => Asked::Query(*question),
+        Additional::CutOpt => Asked::FormErr {
+            id: question.id,
+            flags: question.flags,
+        },
+        Additional::Opt(edns) => {
+            let asked = Question {
+                edns: Some(edns),
+                ..*question
+            };
+            if edns.version == EDNS_VERSION {
+                Asked::Query(asked)
+            } else {
+                Asked::BadVersion(asked)
+            }
+        }
+    }
 }
 
 /// What comes of a message of this header.
@@ -72,7 +103,7 @@ fn read_behind<'a>(header: Header, rest: &'a [u8]) -> Asked<'a>
         return Asked::FormErr { id, flags };
     }
     match read_question(header, rest) {
-        Some(question) => Asked::Query(question),
+        Some((question, more)) => with_additional(&question, read_additional(header, more)),
         None => Asked::FormErr { id, flags },
     }
 }
@@ -88,7 +119,8 @@ fn read_message<'a>(bytes: &'a [u8]) -> Asked<'a>
     read_behind(Header::read(bytes), bytes.split_at(HEADER_SIZE).1)
 }
 
-/// What comes of a message (RFC 1035, 4.1). Nothing behind the question is read.
+/// What comes of a message (RFC 1035, 4.1). Behind the question only an OPT record is read that stands right there
+/// (RFC 6891, 6.1), and of it neither the extended RCODE nor the options.
 pub fn read_query<'a>(bytes: &'a [u8]) -> Asked<'a>
     // It depends on the message alone.
     ensures reading { asked_of result ≡ reading_of bytes.now }
@@ -96,6 +128,8 @@ pub fn read_query<'a>(bytes: &'a [u8]) -> Asked<'a>
     ensures rules { (reading : Reading) → (asked_of result ≡ reading) ↔ ReadsAs bytes.now reading }
     // A question that is found is that of a query, so its name is a name.
     ensures query { IfQuery result (λ question. IsQuery (query_of question) bytes.now) }
+    // Its version of EDNS is 0, or it is found as one of another version.
+    ensures version { IsByVersion result }
 {
     read_message(bytes)
 }

@@ -18,3 +18,6 @@ pub const REFUSED: u8 = 5;
 
 /// A name that a DNAME leads to is too long (RFC 6672, 2.2; RFC 2136, 2.2).
 pub const YXDOMAIN: u8 = 6;
+
+/// The query's version of EDNS is none that is known: its high bits stand in the OPT record (RFC 6891, 6.1.3 and 9).
+pub const BADVERS: u8 = 16;

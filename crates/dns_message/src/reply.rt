@@ -1,25 +1,30 @@
-ghost use Rattle.std.specs.Prelude.{◌≡◌, ◌≤◌, length, take};
+ghost use Rattle.std.specs.Prelude.{◌≡◌, ◌+◌, ◌≤◌, ◌++◌, length, take, drop};
 ghost use Rattle.domain_text.specs.Names.{IsName};
-ghost use Rattle.dns_message.specs.Query.{query_of};
+ghost use Rattle.dns_message.specs.Edns.{opt_of_reply, opt_size_of_reply};
+ghost use Rattle.dns_message.specs.Header.{header_text};
+ghost use Rattle.dns_message.specs.Query.{Query, query_of};
 ghost use Rattle.dns_message.specs.Records.{record_of};
-ghost use Rattle.dns_message.specs.Replies.{Contents, without_records, reply_text, bare_text};
+ghost use Rattle.dns_message.specs.Replies.{Contents, without_records, reply_text, bad_version_text, bare_text};
 ghost use Rattle.dns_message.specs.Holding.{Holds, with_record, MayAdd};
 ghost use Rattle.dns_message.specs.declared.numbers.TheConstants.{HEADER_SIZE, LEAST_LIMIT, GREATEST_LIMIT};
 
 use crate::counts::{Counts, Section};
+use crate::edns::{Edns, opt_size, put_opt};
 use crate::header::{Header, reply_flags};
 use crate::numbers::{HEADER_SIZE, TYPE_AND_CLASS_SIZE};
 use crate::query::Question;
+use crate::rcode;
 use crate::record::{append_record, is_asked, put_question};
 use domain_text::Name;
 
 /// A reply that is being written into a buffer. It keeps lengths and counts, and no buffer: each call is given the
-/// buffer again, which begins with the bytes that the call before left. The header is written last.
+/// buffer again, which begins with the bytes that the call before left. The header and the OPT record are written last.
 #[derive(Drop)]
 pub struct Reply {
     id: u16,
     flags: u16,
-    /// The reply may have so many bytes.
+    edns: Option<Edns>,
+    /// The reply may have so many bytes, its OPT record with them.
     limit: usize,
     /// The place behind the question.
     start: usize,
@@ -44,6 +49,7 @@ impl Reply {
         Reply {
             id: asked.id,
             flags: asked.flags,
+            edns: asked.edns,
             limit,
             start: end,
             len: end,
@@ -74,7 +80,8 @@ impl Reply {
             return;
         }
         let asked = is_asked(&buf[HEADER_SIZE..self.start - TYPE_AND_CLASS_SIZE], owner);
-        match append_record(buf, self.len, self.limit, asked, owner, kind, rdata) {
+        let limit = self.limit - opt_size(self.edns);
+        match append_record(buf, self.len, limit, asked, owner, kind, rdata) {
             Some(len) => {
                 self.len = len;
                 self.counts = self.counts.one_more(section);
@@ -83,7 +90,8 @@ impl Reply {
         }
     }
 
-    /// Writes the header, and gives the bytes of the reply. Of RCODE the four low bits are written.
+    /// Writes the header and the OPT record, which a reply has where its query has one, and gives the bytes of the reply. Of
+    /// RCODE the header has the four low bits, and the OPT record the others (RFC 6891, 6.1.3).
     pub fn finish(self, buf: &mut [u8], rcode: u8, aa: bool) -> usize
         requires { (t : Contents) × Holds t self buf.old }
         ensures text { (t : Contents) → Holds t self buf.old
@@ -93,6 +101,7 @@ impl Reply {
         let Reply {
             id,
             flags,
+            edns,
             limit: _,
             start,
             len,
@@ -100,13 +109,34 @@ impl Reply {
             truncated,
         } = self;
         let bits = reply_flags(flags, aa, truncated, rcode);
+        let extended = rcode / 16;
         if truncated {
-            Counts::none().header(id, bits).put(buf);
-            return start;
+            let header = Counts::none().header(id, bits, edns);
+            return put_ends(buf, start, header, edns, extended);
         }
-        counts.header(id, bits).put(buf);
-        len
+        let header = counts.header(id, bits, edns);
+        put_ends(buf, len, header, edns, extended)
     }
+
+    /// Finishes a reply without records as the one to a query whose version of EDNS isn't known (RFC 6891, 6.1.3).
+    pub fn bad_version(self, buf: &mut [u8]) -> usize
+        requires { (q : Query) × Holds (without_records q) self buf.old }
+        ensures text { (q : Query) → Holds (without_records q) self buf.old → take result buf.new ≡ bad_version_text q }
+        ensures within { result ≤ self.limit }
+    {
+        self.finish(buf, rcode::BADVERS, false)
+    }
+}
+
+/// Writes the header, and the OPT record where the records end, and gives the place behind it.
+fn put_ends(buf: &mut [u8], end: usize, header: Header, edns: Option<Edns>, extended: u8) -> usize
+    requires head { HEADER_SIZE ≤ end }
+    requires room { end + opt_size_of_reply edns ≤ length buf.old }
+    ensures end { result ≡ end + opt_size_of_reply edns }
+    ensures text { take result buf.new ≡ header_text header ++ (drop HEADER_SIZE (take end buf.old) ++ opt_of_reply edns extended) }
+{
+    header.put(buf);
+    put_opt(buf, end, edns, extended)
 }
 
 /// Writes a reply of a header alone, to a query of this ID and these flags, and gives its 12 bytes. Of RCODE the four

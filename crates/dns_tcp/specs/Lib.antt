@@ -1,0 +1,5 @@
+pub mod Messages
+pub mod Buffer
+pub mod Streams
+pub mod Held
+pub mod Lend
