@@ -5,19 +5,24 @@ use Rattle.byte_io.specs.declared.errors.Failed.{Failed}
 use Rattle.byte_io.specs.declared.port.Polled.{Polled}
 use Rattle.byte_io.specs.declared.port.Polled.TheVariants as polls
 
--- what a poll brought: a datagram of this client, a piece of the feed, the end of the feed's connection, nothing, or a fault
+-- what a poll brought: a datagram of this client, a piece of this client's stream, the stream's end, a piece of the feed, the end of the
+-- feed's connection, nothing, or a fault
 pub data Got : Type 0 where
   datagram : (client : ℕ) (bytes : List ℕ) → Got
+  stream : (client : ℕ) (bytes : List ℕ) → Got
+  stream_end : (client : ℕ) → Got
   piece : (bytes : List ℕ) → Got
   feed_end : Got
   nothing : Got
   fault : Got
 
--- what a port was asked, and what came of it: a poll; a reply to this client, and whether it was sent; a reply to the feed,
--- and whether it was sent; and the feed's connection closed
+-- what a port was asked, and what came of it: a poll; a reply to this client, and whether it was sent; the same over this client's stream;
+-- this client's stream closed; a reply to the feed, and whether it was sent; and the feed's connection closed
 pub data Note : Type 0 where
   polled : Got → Note
   replied : (client : ℕ) (bytes : List ℕ) (is_sent : Bool) → Note
+  stream_replied : (client : ℕ) (bytes : List ℕ) (is_sent : Bool) → Note
+  stream_closed : (client : ℕ) → Note
   fed_back : (bytes : List ℕ) (is_sent : Bool) → Note
   closed : Note
 
@@ -70,6 +75,8 @@ pub record Brings (old new : PortSeen) (buffer : List ℕ) (n : ℕ) (got : List
 
 abbrev pub Polls : (old new : PortSeen) (buffer : List ℕ) → Polled → Type 0
 Polls old new buffer (polls.Query client n) = Brings old new buffer n (datagram client)
+Polls old new buffer (polls.Stream client n) = Brings old new buffer n (stream client)
+Polls old new buffer (polls.StreamEnd client) = Notes old new (polled (stream_end client) ∷ [])
 Polls old new buffer (polls.Feed n) = Brings old new buffer n piece
 Polls old new buffer polls.FeedEnd = Notes old new (polled feed_end ∷ [])
 Polls old new buffer polls.Nothing = Notes old new (polled nothing ∷ [])

@@ -1,8 +1,12 @@
-/// What a port in memory sent, or that it dropped the feed's connection.
+/// What a port in memory sent, or that it dropped a connection.
 #[derive(Clone, Copy, PartialEq, Eq, Debug)]
 pub enum Sent<'a> {
     /// A datagram to this client.
     Reply { client: u64, bytes: &'a [u8] },
+    /// Bytes over this client's stream.
+    Stream { client: u64, bytes: &'a [u8] },
+    /// This client's stream was dropped.
+    StreamClosed { client: u64 },
     /// Bytes to the feed.
     Feed { bytes: &'a [u8] },
     /// The feed's connection was dropped.

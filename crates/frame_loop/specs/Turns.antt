@@ -2,11 +2,15 @@
 use Rattle.std.specs.Prelude.{◌≡◌, ◌⊎◌, ℕ, List, [], ◌∷◌, ◌++◌, Result, Ok, Err}
 use Rattle.feed_frames.specs.Frames.{Frame, IsFramed}
 use Rattle.feed_frames.specs.Replies.{Reply}
-use Rattle.frame_loop.specs.declared.answerer.TheConstants.{QUERY}
+use Rattle.frame_loop.specs.declared.answerer.TheConstants.{QUERY, STREAM_QUERY}
 
--- a frame that a stream may hold, or a query of any length: a datagram may be longer than a stream's message
+-- a query that comes by itself, as a datagram or over a stream of its own
+abbrev pub IsQuery : Frame → Type 0
+IsQuery frame = (frame.kind ≡ QUERY) ⊎ (frame.kind ≡ STREAM_QUERY)
+
+-- a frame that a stream of frames may hold, or a query of any length: a datagram may be longer than such a stream's message
 abbrev pub IsAskable : (kinds : ℕ) → Frame → Type 0
-IsAskable kinds frame = IsFramed kinds frame ⊎ (frame.kind ≡ QUERY)
+IsAskable kinds frame = IsFramed kinds frame ⊎ IsQuery frame
 
 -- wherever it was, one frame and one reply lead on from there, to where the next turn may begin
 pub record GoesOn {Start X : Type 0} (Ready : X → Type 0) (Reached : Start → List Frame → List Reply → X → Type 0) (old : X) (frame : Frame) (reply : Reply) (new : X) : Type 0 where

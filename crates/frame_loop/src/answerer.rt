@@ -13,6 +13,9 @@ use std::sync::ledger::Ledger;
 /// The kind of a query's frame.
 pub const QUERY: u8 = 3;
 
+/// The kind of the frame of a query over a stream of its own. No stream of frames holds such a frame: their kinds begin at 1.
+pub const STREAM_QUERY: u8 = 0;
+
 /// What answers has ended the run: it answers no more frames.
 #[derive(Clone, Copy, PartialEq, Eq, Debug)]
 pub struct Over;

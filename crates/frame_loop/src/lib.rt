@@ -10,7 +10,7 @@ mod law;
 mod outlet;
 mod reply;
 
-pub use answerer::{Answerer, Over, QUERY};
+pub use answerer::{Answerer, Over, QUERY, STREAM_QUERY};
 pub use answering::{Halted, answer_all};
 pub use delivery::{Undelivered, deliver};
 pub use filling::Buffers;

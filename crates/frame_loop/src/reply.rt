@@ -21,7 +21,7 @@ pub struct ReplyBuf {
 }
 
 impl Model for ReplyBuf {
-    ghost use Rattle.std.specs.Prelude.{◌≡◌, ◌≤◌, ◌+◌, drop, vec_capacity};
+    ghost use Rattle.std.specs.Prelude.{◌≡◌, ◌≤◌, ◌+◌, drop, length, vec_capacity};
     ghost use Rattle.feed_frames.specs.Replies.{Reply, reply_text};
     ghost use Rattle.frame_loop.specs.declared.reply.TheConstants.{LONGEST_REPLY};
 
@@ -30,7 +30,7 @@ impl Model for ReplyBuf {
     ghost view = { λ r. record { code = r.code; payload = drop 5 r.text.items } };
 
     ghost invariant = { λ r. (r.text.items ≡ reply_text (record { code = r.code; payload = drop 5 r.text.items }))
-        × (5 + LONGEST_REPLY ≤ vec_capacity r.text) };
+        × (length (drop 5 r.text.items) ≤ LONGEST_REPLY) × (5 + LONGEST_REPLY ≤ vec_capacity r.text) };
 }
 
 /// Writes a reply whose payload is two pieces in place of the text.
@@ -69,7 +69,8 @@ impl ReplyBuf {
 
     /// The bytes behind the length.
     pub fn payload(&self) -> &[u8]
-        ensures { result.now ≡ self.now.payload }
+        ensures value { result.now ≡ self.now.payload }
+        ensures short { length result.now ≤ LONGEST_REPLY }
     {
         &self.text[HEAD..]
     }

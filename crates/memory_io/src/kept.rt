@@ -13,6 +13,8 @@ use std::alloc::Global;
 #[derive(Drop)]
 pub(crate) enum KeptPoll {
     Query { client: u64, bytes: PollBytes },
+    Stream { client: u64, bytes: PollBytes },
+    StreamEnd { client: u64 },
     Feed { bytes: PollBytes },
     FeedEnd,
     Nothing,
@@ -22,6 +24,7 @@ pub(crate) enum KeptPoll {
 #[derive(Clone, Copy)]
 pub(crate) enum Recipient {
     Client(u64),
+    Stream(u64),
     Feed,
 }
 
@@ -35,6 +38,7 @@ pub(crate) enum KeptNote {
         bytes: Vec<u8>,
         is_sent: bool,
     },
+    StreamClosed(u64),
     Closed,
 }
 
@@ -48,6 +52,11 @@ impl KeptPoll {
                 client,
                 bytes: PollBytes::copy_of(alloc, bytes)?,
             },
+            Polled::Stream { client, .. } => KeptPoll::Stream {
+                client,
+                bytes: PollBytes::copy_of(alloc, bytes)?,
+            },
+            Polled::StreamEnd { client } => KeptPoll::StreamEnd { client },
             Polled::Feed { .. } => KeptPoll::Feed {
                 bytes: PollBytes::copy_of(alloc, bytes)?,
             },
@@ -68,6 +77,11 @@ impl KeptPoll {
                 client: *client,
                 len: bytes.put(buffer),
             },
+            KeptPoll::Stream { client, bytes } => Polled::Stream {
+                client: *client,
+                len: bytes.put(buffer),
+            },
+            KeptPoll::StreamEnd { client } => Polled::StreamEnd { client: *client },
             KeptPoll::Feed { bytes } => Polled::Feed {
                 len: bytes.put(buffer),
             },
@@ -92,8 +106,13 @@ impl KeptNote {
                     client: *client,
                     bytes,
                 },
+                Recipient::Stream(client) => Sent::Stream {
+                    client: *client,
+                    bytes,
+                },
                 Recipient::Feed => Sent::Feed { bytes },
             }),
+            KeptNote::StreamClosed(client) => Some(Sent::StreamClosed { client: *client }),
             KeptNote::Closed => Some(Sent::Closed),
             _ => None,
         }

@@ -3,8 +3,8 @@ ghost use Rattle.std.specs.Option.{option_map};
 ghost use Rattle.fault_counts.specs.Counts.{after_call, after_refusal, faults_of, is_next_listed};
 ghost use Rattle.fault_counts.specs.Faults.{HasCause, NeverFell, no_faults};
 ghost use Rattle.byte_io.specs.declared.port.TheConstants.{POLL_ROOM};
-ghost use Rattle.byte_io.specs.Port.{IsBound, Binds, Polls, Sends, Notes, polled, replied, fed_back, closed};
-ghost use Rattle.memory_io.specs.Kept.{Fits, Shows, brought, outgoing, seen_poll, seen_send, sent_note};
+ghost use Rattle.byte_io.specs.Port.{IsBound, Binds, Polls, Sends, Notes, polled, replied, stream_replied, stream_closed, fed_back, closed};
+ghost use Rattle.memory_io.specs.Kept.{Fits, Shows, brought, outgoing, seen_note, seen_poll, seen_send, sent_note};
 ghost use Rattle.memory_io.specs.MemoryPort.{IsNoted, first_coming, fresh_port, left_coming, memory_seen, next_got};
 
 use crate::kept::{KeptNote, KeptPoll, Recipient};
@@ -120,6 +120,16 @@ impl MemoryPort {
         self.count_note(is_noted);
         if is_failed { Err(Failed) } else { Ok(()) }
     }
+
+    /// Notes a closing.
+    #[tactic(auto, using(fault_counts::proofs::FaultLemmas::NeverFell_trans, fault_counts::proofs::FaultLemmas::Rose_then_stayed))]
+    fn close(&mut self, note: KeptNote)
+        ensures noted { IsNoted self.old self.new (seen_note note) self.old.coming self.old.counts }
+        ensures later { NeverFell (faults_of self.old.counts) (faults_of self.new.counts) }
+    {
+        let is_noted = self.log.note(note);
+        self.count_note(is_noted);
+    }
 }
 
 impl Port for MemoryPort {
@@ -174,6 +184,23 @@ impl Port for MemoryPort {
         self.send(Recipient::Client(client), bytes)
     }
 
+    fn stream_reply(&mut self, client: u64, bytes: &[u8]) -> Result<(), Failed>
+        requires { IsBound (memory_seen self.old) }
+        ensures sends { Sends (memory_seen self.old) (memory_seen self.new) (stream_replied client bytes.now) result }
+        ensures listed { is_err result ≡ is_next_listed self.old.counts }
+        ensures noted { IsNoted self.old self.new (stream_replied client bytes.now (is_ok result)) self.old.coming (after_call self.old.counts) }
+    {
+        self.send(Recipient::Stream(client), bytes)
+    }
+
+    fn close_stream(&mut self, client: u64)
+        requires { IsBound (memory_seen self.old) }
+        ensures notes { Notes (memory_seen self.old) (memory_seen self.new) (stream_closed client ∷ []) }
+        ensures noted { IsNoted self.old self.new (stream_closed client) self.old.coming self.old.counts }
+    {
+        self.close(KeptNote::StreamClosed(client));
+    }
+
     fn feed_reply(&mut self, bytes: &[u8]) -> Result<(), Failed>
         requires { IsBound (memory_seen self.old) }
         ensures sends { Sends (memory_seen self.old) (memory_seen self.new) (fed_back bytes.now) result }
@@ -183,13 +210,11 @@ impl Port for MemoryPort {
         self.send(Recipient::Feed, bytes)
     }
 
-    #[tactic(auto, using(fault_counts::proofs::FaultLemmas::NeverFell_trans, fault_counts::proofs::FaultLemmas::Rose_then_stayed))]
     fn close_feed(&mut self)
         requires { IsBound (memory_seen self.old) }
         ensures notes { Notes (memory_seen self.old) (memory_seen self.new) (closed ∷ []) }
         ensures noted { IsNoted self.old self.new closed self.old.coming self.old.counts }
     {
-        let is_noted = self.log.note(KeptNote::Closed);
-        self.count_note(is_noted);
+        self.close(KeptNote::Closed);
     }
 }

@@ -157,10 +157,12 @@ fn poll_buffer(alloc: Global) -> Result<Vec<u8>, Fail>
     Ok(vec![in alloc; 0u8; POLL_ROOM]?)
 }
 
-/// Adds a query of client 7, nothing, a piece of the feed and the feed's end.
+/// Adds a query of client 7, nothing, a piece of client 9's stream and its end, a piece of the feed and the feed's end.
 fn add_polls(port: &mut MemoryPort) -> Result<(), Fail> {
     port.add(Polled::Query { client: 7, len: 2 }, &[10, 20])?;
     port.add(Polled::Nothing, &[])?;
+    port.add(Polled::Stream { client: 9, len: 1 }, &[60])?;
+    port.add(Polled::StreamEnd { client: 9 }, &[])?;
     port.add(Polled::Feed { len: 3 }, &[30, 40, 50])?;
     Ok(port.add(Polled::FeedEnd, &[])?)
 }
@@ -202,6 +204,14 @@ fn replies(rt: &impl Abort, port: &mut MemoryPort, client: u64, bytes: &[u8], is
     assert!(rt; port.reply(client, bytes).is_ok() == is_sent);
 }
 
+/// A reply over this client's stream is sent.
+fn replies_over_stream(rt: &impl Abort, port: &mut MemoryPort, client: u64, bytes: &[u8])
+    requires { IsBound (memory_seen port.old) }
+    ensures { IsBound (memory_seen port.new) }
+{
+    assert!(rt; port.stream_reply(client, bytes).is_ok());
+}
+
 /// A reply to the feed is sent.
 fn replies_to_feed(rt: &impl Abort, port: &mut MemoryPort, bytes: &[u8])
     requires { IsBound (memory_seen port.old) }
@@ -217,6 +227,9 @@ enum Call {
     Poll(Polled, &'static [u8]),
     /// The client, the bytes, and whether they are sent.
     Reply(u64, &'static [u8], bool),
+    /// Bytes that are sent over this client's stream.
+    StreamReply(u64, &'static [u8]),
+    CloseStream(u64),
     /// Bytes that are sent to the feed.
     FeedReply(&'static [u8]),
     CloseFeed,
@@ -231,6 +244,8 @@ fn makes(rt: &impl Abort, port: &mut MemoryPort, buffer: &mut [u8], call: Call)
     match call {
         Call::Poll(want, bytes) => polls(rt, port, buffer, want, bytes),
         Call::Reply(client, bytes, is_sent) => replies(rt, port, client, bytes, is_sent),
+        Call::StreamReply(client, bytes) => replies_over_stream(rt, port, client, bytes),
+        Call::CloseStream(client) => port.close_stream(client),
         Call::FeedReply(bytes) => replies_to_feed(rt, port, bytes),
         Call::CloseFeed => port.close_feed(),
     }
@@ -276,10 +291,14 @@ fn keeps(rt: &impl Abort, port: &MemoryPort, kept: &[Option<Sent<'static>>]) {
 /// A query of client 7, as a poll brings it.
 const QUERY: Call = Call::Poll(Polled::Query { client: 7, len: 2 }, &[10, 20]);
 
-static CALLS: [Call; 8] = [
+static CALLS: [Call; 12] = [
     QUERY,
     Call::Poll(Polled::Nothing, &[]),
     Call::Reply(7, &[1, 2], true),
+    Call::Poll(Polled::Stream { client: 9, len: 1 }, &[60]),
+    Call::StreamReply(9, &[4, 5]),
+    Call::Poll(Polled::StreamEnd { client: 9 }, &[]),
+    Call::CloseStream(9),
     Call::Poll(Polled::Feed { len: 3 }, &[30, 40, 50]),
     Call::FeedReply(&[3]),
     Call::CloseFeed,
@@ -287,11 +306,16 @@ static CALLS: [Call; 8] = [
     Call::Poll(Polled::Nothing, &[]),
 ];
 
-static SENT: [Option<Sent<'static>>; 4] = [
+static SENT: [Option<Sent<'static>>; 6] = [
     Some(Sent::Reply {
         client: 7,
         bytes: &[1, 2],
     }),
+    Some(Sent::Stream {
+        client: 9,
+        bytes: &[4, 5],
+    }),
+    Some(Sent::StreamClosed { client: 9 }),
     Some(Sent::Feed { bytes: &[3] }),
     Some(Sent::Closed),
     None,

@@ -1,12 +1,14 @@
 -- What each transcript of polls keeps.
 use Rattle.std.proofs.Common.{◌≡◌, ◌⊎◌, inl, inr, ℕ, suc, ◌+◌, ◌==◌, Bool, true, false, List, [], ◌∷◌, ◌++◌, refl, sym, ap, subst, ◌∙◌, append_assoc, arith}
 use Rattle.std.proofs.lemmas.Bool.{cases_Bool}
-use Rattle.byte_io.specs.Port.{Note, polled, replied, fed_back, closed, Got, datagram, piece, feed_end, nothing, fault}
+use Rattle.byte_io.specs.Port.{Note, polled, replied, stream_replied, stream_closed, fed_back, closed, Got, datagram, stream, stream_end, piece, feed_end, nothing, fault}
+use Rattle.dns_tcp.specs.Streams.{left_or_nothing, with_left}
+use Rattle.dns_tcp.proofs.MessageLemmas.{one_splitting as one_splitting_of}
 use Rattle.feed_frames.specs.Frames.{Frame, IsPartialFrame, bad, partial}
 use Rattle.feed_frames.specs.Replies.{Reply}
 use Rattle.feed_frames.proofs.SplittingLemmas.{splitting, one_splitting, bad_or_partial}
-use Rattle.port_loop.specs.Polls.{Parts, with_feed, Closing, the_feed, Brings, from_client, from_feed, at_bad_frame, at_end, at_nothing, at_fault}
-use Rattle.port_loop.specs.Sends.{to_client, sends_of, Replied, none, one, closings}
+use Rattle.port_loop.specs.Polls.{Parts, with_feed, with_streams, stream_queries, Closing, the_feed, the_stream, Brings, from_client, from_stream, refused, at_stream_end, from_feed, at_bad_frame, at_end, at_nothing, at_fault}
+use Rattle.port_loop.specs.Sends.{to_client, to_stream, sends_of, Replied, none, one, closings}
 use Rattle.port_loop.specs.Transcript.{DealsWith, DealsWithAll, none_yet, one_more}
 use Rattle.port_loop.specs.Laws.{BringsSame, IsInItsPlace, polls_in}
 use Rattle.port_loop.specs.declared.sending.TheConstants.{DROPPED}
@@ -18,6 +20,8 @@ place_then : (last : Got) (notes : List Note) (got : Got) (more : List Note) →
 place_then last [] got more first second = second
 place_then last (polled next ∷ notes) got more first second = place_then next notes got more first second
 place_then last (replied client bytes is_sent ∷ notes) got more first second = (first.0, place_then last notes got more first.1 second)
+place_then last (stream_replied client bytes is_sent ∷ notes) got more first second = (first.0, place_then last notes got more first.1 second)
+place_then last (stream_closed client ∷ notes) got more first second = (first.0, place_then last notes got more first.1 second)
 place_then last (fed_back bytes is_sent ∷ notes) got more first second = (first.0, place_then last notes got more first.1 second)
 place_then last (closed ∷ notes) got more first second = (first.0, place_then last notes got more first.1 second)
 
@@ -27,9 +31,16 @@ to_client_then : (client : ℕ) (message : List ℕ) (reply : Reply) (is_sent : 
 to_client_then client message reply is_sent more rest (inl is-dropped) = rw is-dropped rest
 to_client_then client message reply is_sent more rest (inr other) = rw other (refl, rest)
 
+to_stream_then : (client : ℕ) (bytes : List ℕ) (reply : Reply) (is_sent : Bool) (more : List Note) → IsInItsPlace (stream client bytes) more
+    → ((reply.code == DROPPED) ≡ true) ⊎ ((reply.code == DROPPED) ≡ false) → IsInItsPlace (stream client bytes) (to_stream client reply is_sent ++ more)
+to_stream_then client bytes reply is_sent more rest (inl is-dropped) = rw is-dropped rest
+to_stream_then client bytes reply is_sent more rest (inr other) = rw other (refl, rest)
+
 -- one reply, and what is behind it
 send_then : (got : Got) (reply : Reply) (is_sent : Bool) (more : List Note) → IsInItsPlace got more → IsInItsPlace got (sends_of got reply is_sent ++ more)
 send_then (datagram client message) reply is_sent more rest = to_client_then client message reply is_sent more rest (cases_Bool (reply.code == DROPPED))
+send_then (stream client bytes) reply is_sent more rest = to_stream_then client bytes reply is_sent more rest (cases_Bool (reply.code == DROPPED))
+send_then (stream_end client) reply is_sent more rest = rest
 send_then (piece bytes) reply is_sent more rest = (tt, rest)
 send_then feed_end reply is_sent more rest = rest
 send_then nothing reply is_sent more rest = rest
@@ -46,6 +57,8 @@ polls_in-append : (notes more : List Note) → polls_in (notes ++ more) ≡ poll
 polls_in-append [] more = omega arith
 polls_in-append (polled got ∷ notes) more = let rest = polls_in-append notes more in omega (arith, rest)
 polls_in-append (replied client bytes is_sent ∷ notes) more = polls_in-append notes more
+polls_in-append (stream_replied client bytes is_sent ∷ notes) more = polls_in-append notes more
+polls_in-append (stream_closed client ∷ notes) more = polls_in-append notes more
 polls_in-append (fed_back bytes is_sent ∷ notes) more = polls_in-append notes more
 polls_in-append (closed ∷ notes) more = polls_in-append notes more
 
@@ -54,8 +67,14 @@ no_poll_to : (client : ℕ) (reply : Reply) (is_sent : Bool) → ((reply.code ==
 no_poll_to client reply is_sent (inl is-dropped) = rw is-dropped refl
 no_poll_to client reply is_sent (inr other) = rw other refl
 
+no_poll_over : (client : ℕ) (reply : Reply) (is_sent : Bool) → ((reply.code == DROPPED) ≡ true) ⊎ ((reply.code == DROPPED) ≡ false) → polls_in (to_stream client reply is_sent) ≡ 0
+no_poll_over client reply is_sent (inl is-dropped) = rw is-dropped refl
+no_poll_over client reply is_sent (inr other) = rw other refl
+
 no_poll_in : (got : Got) (reply : Reply) (is_sent : Bool) → polls_in (sends_of got reply is_sent) ≡ 0
 no_poll_in (datagram client message) reply is_sent = no_poll_to client reply is_sent (cases_Bool (reply.code == DROPPED))
+no_poll_in (stream client bytes) reply is_sent = no_poll_over client reply is_sent (cases_Bool (reply.code == DROPPED))
+no_poll_in (stream_end client) reply is_sent = refl
 no_poll_in (piece bytes) reply is_sent = refl
 no_poll_in feed_end reply is_sent = refl
 no_poll_in nothing reply is_sent = refl
@@ -69,6 +88,7 @@ no_poll_among got (one frame reply is_sent frames replies notes others) =
 closing_is_none : (shut : List Closing) → polls_in (closings shut) ≡ 0
 closing_is_none [] = refl
 closing_is_none (the_feed ∷ shut) = closing_is_none shut
+closing_is_none (the_stream client ∷ shut) = closing_is_none shut
 
 module _ {kinds : ℕ} where
   -- ---- one reading of a poll
@@ -76,6 +96,13 @@ module _ {kinds : ℕ} where
   pub one_reading : (part : Parts) (got : Got) (frames others : List Frame) (after behind : Parts) (shut others_shut : List Closing)
       → Brings kinds part got frames after shut → Brings kinds part got others behind others_shut → BringsSame frames others after behind shut others_shut
   one_reading part _ _ _ _ _ _ _ (from_client client message) (from_client _ _) = record { frames_are = refl; after_is = refl; shut_are = refl }
+  one_reading part _ _ _ _ _ _ _ (from_stream client bytes messages rest h s p) (from_stream _ _ others behind _ t q) =
+      let same = one_splitting_of (left_or_nothing client part.streams ++ bytes) messages others rest behind s p t q in
+      record { frames_are = ap stream_queries same.messages_are; after_is = ap (λ (q : List ℕ). with_streams (with_left client q part.streams) part) same.rest_is; shut_are = refl }
+  one_reading part _ _ _ _ _ _ _ (from_stream client bytes messages rest h s p) (refused _ _ full) = absurd (full h)
+  one_reading part _ _ _ _ _ _ _ (refused client bytes full) (from_stream _ _ others behind h t q) = absurd (full h)
+  one_reading part _ _ _ _ _ _ _ (refused client bytes full) (refused _ _ _) = record { frames_are = refl; after_is = refl; shut_are = refl }
+  one_reading part _ _ _ _ _ _ _ (at_stream_end client) (at_stream_end _) = record { frames_are = refl; after_is = refl; shut_are = refl }
   one_reading part _ _ _ _ _ _ _ (from_feed bytes frames rest s p) (from_feed _ others behind t q) =
       let same = one_splitting kinds (part.feed ++ bytes) (splitting kinds frames rest s (partial p)) (splitting kinds others behind t (partial q)) in
       record { frames_are = same.frames; after_is = ap (λ (q : List ℕ). with_feed q part) same.rest; shut_are = refl }
@@ -95,6 +122,9 @@ module _ {kinds : ℕ} where
   -- the feed is closed behind a piece alone
   closing_behind : {part after : Parts} {got : Got} {frames : List Frame} {shut : List Closing} → Brings kinds part got frames after shut → IsInItsPlace got (closings shut)
   closing_behind (from_client client message) = tt
+  closing_behind (from_stream client bytes messages rest h s p) = tt
+  closing_behind (refused client bytes full) = (refl, tt)
+  closing_behind (at_stream_end client) = tt
   closing_behind (from_feed bytes frames rest s p) = tt
   closing_behind (at_bad_frame bytes frames rest s b) = (tt, tt)
   closing_behind at_end = tt

@@ -1,15 +1,15 @@
 -- What a port noted, call by call.
-use Rattle.std.specs.Prelude.{Result, Ok, Err}
-use Rattle.std.proofs.Common.{◌≡◌, ◌⊎◌, inl, inr, ℕ, ◌==◌, Bool, true, false, List, [], ◌∷◌, ◌++◌, refl, sym, ap, subst, ◌∙◌, append_assoc}
+use Rattle.std.specs.Prelude.{Result, Ok, Err, if◌then◌else◌}
+use Rattle.std.proofs.Common.{◌≡◌, ◌⊎◌, inl, inr, ◌==◌, Bool, true, false, List, [], ◌∷◌, ◌++◌, refl, sym, ap, subst, ◌∙◌, append_assoc}
 use Rattle.std.proofs.lemmas.List.{append-nil}
 use Rattle.std.proofs.lemmas.Bool.{eqb-true, eq-eqb, cases_Bool}
 use Rattle.fault_counts.proofs.FaultLemmas.{NeverFell_refl, NeverFell_trans}
-use Rattle.byte_io.specs.Port.{Note, replied, PortSeen, IsBound, Notes, Sends}
+use Rattle.byte_io.specs.Port.{Note, PortSeen, IsBound, Notes, Sends}
 use Rattle.byte_io.specs.declared.errors.Failed.{Failed}
 use Rattle.feed_frames.specs.Frames.{Frame}
 use Rattle.feed_frames.specs.Replies.{Reply}
 use Rattle.frame_loop.specs.Answering.{GivesAll, none_yet, one_more}
-use Rattle.port_loop.specs.Sends.{to_client, to_feed, Replied, none, one, SendsOne, SendsToFeed}
+use Rattle.port_loop.specs.Sends.{to_feed, Replied, none, one, SendsOne, SendsToFeed}
 use Rattle.port_loop.specs.declared.sending.TheConstants.{DROPPED}
 
 pub Notes_nothing : (port : PortSeen) → Notes port port []
@@ -61,17 +61,21 @@ sent_all {old = old} (one_more {mid = mid} {new = new} frame reply before sent) 
       noted = Notes_append old mid new first.sends send first.noted sent.noted;
     }
 
+-- this note, but none for the code of a dropped query
+abbrev pub unless_dropped : (Bool → Note) → Reply → Bool → List Note
+unless_dropped note reply is_sent = if reply.code == DROPPED then [] else (note is_sent ∷ [])
+
 -- the reply to a dropped query isn't sent
-pub dropped : (port : PortSeen) (client : ℕ) (reply : Reply) → reply.code ≡ DROPPED → SendsOne port port (to_client client reply)
-dropped port client reply same =
+pub dropped : (note : Bool → Note) (port : PortSeen) (reply : Reply) → reply.code ≡ DROPPED → SendsOne port port (unless_dropped note reply)
+dropped note port reply same =
     let test : (reply.code == DROPPED) ≡ true = eq-eqb reply.code DROPPED same in
     record { is_sent = true; noted = rw test (Notes_nothing port) }
 
--- a reply to a client was sent, or the send failed
-pub sent_to_client : (old new : PortSeen) (client : ℕ) (reply : Reply) (result : Result (Unit {0}) Failed) → (reply.code ≡ DROPPED → ⊥) → Sends old new (replied client reply.payload) result
-    → SendsOne old new (to_client client reply)
-sent_to_client old new client reply result other sends = after (cases_Bool (reply.code == DROPPED)) result sends where
-  after : ((reply.code == DROPPED) ≡ true) ⊎ ((reply.code == DROPPED) ≡ false) → (r : Result (Unit {0}) Failed) → Sends old new (replied client reply.payload) r → SendsOne old new (to_client client reply)
+-- another was sent, or the send failed
+pub sent_to_client : (note : Bool → Note) (old new : PortSeen) (reply : Reply) (result : Result (Unit {0}) Failed) → (reply.code ≡ DROPPED → ⊥) → Sends old new note result
+    → SendsOne old new (unless_dropped note reply)
+sent_to_client note old new reply result other sends = after (cases_Bool (reply.code == DROPPED)) result sends where
+  after : ((reply.code == DROPPED) ≡ true) ⊎ ((reply.code == DROPPED) ≡ false) → (r : Result (Unit {0}) Failed) → Sends old new note r → SendsOne old new (unless_dropped note reply)
   after (inl same) r s = absurd (other (eqb-true reply.code DROPPED same))
   after (inr differs) (Ok done) s = record { is_sent = true; noted = rw differs s }
   after (inr differs) (Err e) s = record { is_sent = false; noted = rw differs s.noted }

@@ -5,5 +5,7 @@ pub mod Polls
 pub mod Sends
 pub mod Transcript
 pub mod Laws
+pub mod Stretches
 pub mod Answering
+pub mod Streaming
 pub mod Attending

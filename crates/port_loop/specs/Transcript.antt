@@ -9,8 +9,7 @@ use Rattle.port_loop.specs.Sends.{sends_of, Replied, closings}
 use Rattle.port_loop.specs.declared.attending.Ending.{Ending}
 use Rattle.port_loop.specs.declared.attending.Ending.TheVariants.{Done, Ended}
 
--- one poll that was dealt with: each of its frames was answered, and each reply sent, in order; and then the feed was closed,
--- if a bad frame stood there
+-- one poll that was dealt with: each of its frames was answered, and each reply sent, in order; and then was closed what was to be
 pub record DealsWith (kinds : ℕ) (part after : Parts) (frames : List Frame) (replies : List Reply) (notes : List Note) : Type 0 where
   pub got : Got
   pub shut : List Closing
@@ -28,7 +27,7 @@ pub record BreaksOff (kinds : ℕ) (part : Parts) (frames : List Frame) (replies
   pub replied : Replied (sends_of got) frames replies sends
   pub notes_are : notes ≡ polled got ∷ sends
 
--- so many polls were made, each dealt with before the next: what of the feed is a part of a frame, the frames, the replies, and what the port noted
+-- so many polls were made, each dealt with before the next: what is a part of a frame or a message, the frames, the replies, and what the port noted
 pub data DealsWithAll (kinds : ℕ) : ℕ → Parts → List Frame → List Reply → List Note → Type 0 where
   none_yet : DealsWithAll kinds 0 no_parts [] [] []
   one_more : (polls : ℕ) (part after : Parts) {frames more : List Frame} {replies answers : List Reply} {notes added : List Note}

@@ -4,10 +4,10 @@ ghost use Rattle.frame_loop.specs.Turns.{IsAskable};
 ghost use Rattle.port_loop.specs.Sends.{sends_to};
 ghost use Rattle.port_loop.specs.Answering.{Answers, held};
 
-use crate::sending::{Destination, send};
+use crate::sending::{Destination, Outbox, send};
 use byte_io::Port;
 use feed_frames::Frame;
-use frame_loop::{Answerer, Over, ReplyBuf};
+use frame_loop::{Answerer, Over};
 use nmc_base::Steps;
 use std::alloc::Global;
 use std::sync::ledger::Ledger;
@@ -19,7 +19,7 @@ pub(crate) fn answer<W, T: Answerer<W>, P: Port, L: Ledger>(
     world: &mut W,
     frame: Frame<'_>,
     destination: Destination,
-    reply: &mut ReplyBuf,
+    outbox: &mut Outbox,
     port: &mut P,
     steps: &mut Steps<L>,
 ) -> Result<(), Over>
@@ -28,7 +28,7 @@ pub(crate) fn answer<W, T: Answerer<W>, P: Port, L: Ledger>(
     requires ready { T.ready (answerer.old, world.old) }
     ensures { Answers T.ready T.reached T.broken (sends_to destination) (frame_of frame.entry) (held (P.seen port.old) (answerer.old, world.old)) (held (P.seen port.new) (answerer.new, world.new)) result }
 {
-    let turned = answerer.turn(alloc, world, frame, reply, steps);
-    send(port, destination, reply);
+    let turned = answerer.turn(alloc, world, frame, &mut outbox.reply, steps);
+    send(port, destination, outbox);
     turned
 }

@@ -19,9 +19,11 @@ pub enum Ending {
 
 /// Makes so many polls, each dealt with before the next.
 ///
-/// A datagram is a query, whose reply goes to its client without code and length. A piece of the feed gives the frames
-/// that it completes, whose replies go to the feed, whole. For a bad frame the feed is closed. A poll or a send that
-/// failed is dealt with. It takes no memory of its own: the buffers have all of it.
+/// A datagram is a query, whose reply goes to its client without code and length. A piece of a client's stream gives the
+/// messages that it completes, each a query, whose replies go back over the stream behind their lengths of two bytes (RFC
+/// 1035, 4.2.2). Up to 16 clients' streams are held; a piece of one more is dropped, and its stream closed. A piece of the
+/// feed gives the frames that it completes, whose replies go to the feed, whole. For a bad frame the feed is closed. A
+/// poll or a send that failed is dealt with. It takes no memory of its own: the buffers have all of it.
 pub fn attend<W, T: Answerer<W>, P: Port, L: Ledger>(
     alloc: Global,
     answerer: &mut T,
@@ -37,6 +39,7 @@ pub fn attend<W, T: Answerer<W>, P: Port, L: Ledger>(
 {
     let mut polls: u32 = 0;
     buffers.frames.restart(T::KINDS);
+    buffers.streams.clear();
     while polls < turns {
         match answer_poll(alloc, answerer, world, buffers, port, steps) {
             Ok(()) => {}

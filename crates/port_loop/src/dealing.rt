@@ -3,12 +3,15 @@ ghost use Rattle.byte_io.specs.Port.{IsBound};
 ghost use Rattle.byte_io.specs.declared.port.TheConstants.{POLL_ROOM};
 ghost use Rattle.feed_frames.specs.Frames.{IsPartialFrame};
 ghost use Rattle.frame_loop.specs.Answering.{desk, fed_to};
-ghost use Rattle.port_loop.specs.Attending.{AnswersPiece, AnswersPoll};
+ghost use Rattle.port_loop.specs.Polls.{AreParts};
+ghost use Rattle.port_loop.specs.Attending.{AnswersPiece, AnswersPoll, station};
 
 use crate::answering::answer;
 use crate::polling::{PollRoom, feed_front};
-use crate::sending::{Destination, ToFeed, drop_feed, forget_feed};
+use crate::sending::{Destination, Outbox, ToFeed, drop_feed, forget_feed};
+use crate::streaming::answer_stream;
 use byte_io::{Polled, Port};
+use dns_tcp::Streams;
 use feed_frames::{Frame, Frames};
 use frame_loop::{Answerer, Halted, Over, QUERY, ReplyBuf, answer_all};
 use nmc_base::{NoMemory, Steps};
@@ -20,16 +23,19 @@ use std::sync::ledger::Ledger;
 pub struct PollBuffers {
     pub(crate) frames: Frames,
     pub(crate) room: PollRoom,
-    pub(crate) reply: ReplyBuf,
+    pub(crate) streams: Streams,
+    pub(crate) outbox: Outbox,
 }
 
 impl PollBuffers {
-    /// Room for the longest frame and a piece behind it, for what a poll brings, and for a reply.
+    /// Room for the longest frame and a piece behind it, for what a poll brings, for the streams of clients, and for a reply, also
+    /// behind its length.
     pub fn new(alloc: Global) -> Result<PollBuffers, NoMemory> {
         Ok(PollBuffers {
             frames: Frames::new(alloc, 0)?,
             room: PollRoom::new(alloc)?,
-            reply: ReplyBuf::new(alloc)?,
+            streams: Streams::new(alloc)?,
+            outbox: Outbox::new(alloc)?,
         })
     }
 }
@@ -73,13 +79,15 @@ pub(crate) fn answer_poll<W, T: Answerer<W>, P: Port, L: Ledger>(
     requires ready { T.ready (answerer.old, world.old) }
     requires reads { buffers.old.frames.kinds ≡ T.KINDS }
     requires answered { IsPartialFrame T.KINDS buffers.old.frames.left }
+    requires parts { AreParts buffers.old.streams }
     requires short { fed_to buffers.old.frames + POLL_ROOM < 2 ^ 63 }
-    ensures { AnswersPoll T.KINDS T.ready T.reached T.broken (desk (P.seen port.old) buffers.old.frames (answerer.old, world.old)) (desk (P.seen port.new) buffers.new.frames (answerer.new, world.new)) result }
+    ensures { AnswersPoll T.KINDS T.ready T.reached T.broken (station (P.seen port.old) buffers.old.frames buffers.old.streams (answerer.old, world.old)) (station (P.seen port.new) buffers.new.frames buffers.new.streams (answerer.new, world.new)) result }
 {
     let PollBuffers {
         frames,
         room,
-        reply,
+        streams,
+        outbox,
     } = buffers;
     match room.poll(port) {
         Polled::Query { client, len } => {
@@ -94,13 +102,24 @@ pub(crate) fn answer_poll<W, T: Answerer<W>, P: Port, L: Ledger>(
                 world,
                 frame,
                 destination,
-                reply,
+                outbox,
                 port,
                 steps,
             )
         }
+        Polled::Stream { client, len } => {
+            let piece = room.front(len);
+            answer_stream(
+                alloc, answerer, world, client, piece, streams, outbox, port, steps,
+            )
+        }
+        Polled::StreamEnd { client } => {
+            streams.end(client);
+            Ok(())
+        }
         Polled::Feed { len } => {
             feed_front(frames, room, len);
+            let reply = &mut outbox.reply;
             answer_piece(alloc, answerer, world, frames, reply, port, steps)
         }
         Polled::FeedEnd => {

@@ -5,12 +5,14 @@ mod answering;
 mod attending;
 mod dealing;
 mod law;
+mod message_text;
 mod polling;
 mod sending;
+mod streaming;
 
 pub use attending::{Ending, attend};
 pub use dealing::PollBuffers;
-pub use law::{in_its_place, one_reading};
+pub use law::{in_its_place, one_reading, streams_are_answered};
 pub use sending::DROPPED;
 
 #[cfg(test)]

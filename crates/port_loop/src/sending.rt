@@ -1,11 +1,14 @@
 ghost use Rattle.std.specs.Prelude.{◌≡◌, ◌∷◌, []};
 ghost use Rattle.byte_io.specs.Port.{IsBound, Notes, closed};
 ghost use Rattle.feed_frames.specs.Feed.{fresh_feed};
-ghost use Rattle.port_loop.specs.Sends.{to_client, sends_to, SendsOne};
+ghost use Rattle.port_loop.specs.Sends.{to_client, to_stream, sends_to, SendsOne};
 
+use crate::message_text::MessageText;
 use byte_io::Port;
 use feed_frames::Frames;
 use frame_loop::{Outlet, ReplyBuf, Undelivered};
+use nmc_base::NoMemory;
+use std::alloc::Global;
 
 /// The code of a query that gets no reply.
 pub const DROPPED: u8 = 8;
@@ -15,8 +18,26 @@ pub const DROPPED: u8 = 8;
 pub(crate) enum Destination {
     /// To the client that sent the datagram.
     Client(u64),
+    /// To the client, over its stream.
+    Stream(u64),
     /// To the feed.
     Feed,
+}
+
+/// The reply that is sent next, and room for it behind its length.
+#[derive(Drop)]
+pub(crate) struct Outbox {
+    pub(crate) reply: ReplyBuf,
+    text: MessageText,
+}
+
+impl Outbox {
+    pub(crate) fn new(alloc: Global) -> Result<Outbox, NoMemory> {
+        Ok(Outbox {
+            reply: ReplyBuf::new(alloc)?,
+            text: MessageText::new(alloc)?,
+        })
+    }
 }
 
 /// Sends the payload of a reply to a client, unless it is the reply to a query that gets none.
@@ -30,15 +51,29 @@ fn send_to_client<P: Port>(port: &mut P, client: u64, reply: &ReplyBuf)
     let _ = port.reply(client, reply.payload());
 }
 
-/// Sends a reply. A send that fails is dealt with.
-pub(crate) fn send<P: Port>(port: &mut P, destination: Destination, reply: &ReplyBuf)
+/// Sends the payload of a reply behind its length over a client's stream, unless it is the reply to a query that gets none.
+fn send_to_stream<P: Port>(port: &mut P, client: u64, outbox: &mut Outbox)
     requires { IsBound (P.seen port.old) }
-    ensures { SendsOne (P.seen port.old) (P.seen port.new) (sends_to destination reply.now) }
+    ensures { SendsOne (P.seen port.old) (P.seen port.new) (to_stream client outbox.old.reply) }
+{
+    let Outbox { reply, text } = outbox;
+    if reply.code() == DROPPED {
+        return;
+    }
+    text.set(reply.payload());
+    let _ = port.stream_reply(client, text.bytes());
+}
+
+/// Sends a reply. A send that fails is dealt with.
+pub(crate) fn send<P: Port>(port: &mut P, destination: Destination, outbox: &mut Outbox)
+    requires { IsBound (P.seen port.old) }
+    ensures { SendsOne (P.seen port.old) (P.seen port.new) (sends_to destination outbox.old.reply) }
 {
     match destination {
-        Destination::Client(client) => send_to_client(port, client, reply),
+        Destination::Client(client) => send_to_client(port, client, &outbox.reply),
+        Destination::Stream(client) => send_to_stream(port, client, outbox),
         Destination::Feed => {
-            let _ = port.feed_reply(reply.text());
+            let _ = port.feed_reply(outbox.reply.text());
         }
     }
 }

@@ -2,4 +2,5 @@ pub mod Arrival
 pub mod Client
 pub mod Silence
 pub mod SocketPort
+pub mod Streams
 pub mod Unsent

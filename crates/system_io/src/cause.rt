@@ -20,7 +20,7 @@ pub(crate) enum Cause {
         what: &'static str,
         error: io::Error,
     },
-    /// The two ports are bound.
+    /// The ports are bound.
     Listening {
         udp: u16,
         feed: u16,
@@ -63,7 +63,7 @@ fn write_listening<W: fmt::Write>(
 ) -> fmt::Result {
     write!(
         f,
-        "queries are taken at 127.0.0.1 port {udp} (UDP), and a feed at 127.0.0.1 port {feed} (TCP); the tip is at height {tip}"
+        "queries are taken at 127.0.0.1 port {udp} (UDP and TCP), and a feed at 127.0.0.1 port {feed} (TCP); the tip is at height {tip}"
     )
 }
 

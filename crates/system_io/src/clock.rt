@@ -6,6 +6,9 @@ pub(crate) const MILLISECOND: u64 = 1_000;
 /// So many are a second.
 pub(crate) const SECOND: u64 = 1_000_000;
 
+/// For so long one side is waited for alone.
+pub(crate) const LOOK: u64 = 10 * MILLISECOND;
+
 /// No time is later.
 pub(crate) const NEVER: u64 = u64::MAX;
 

@@ -1,6 +1,7 @@
 use crate::cause::Cause;
 use crate::clock::{self, NEVER, SECOND};
 use crate::newcomer::{Newcomer, Verdict};
+use crate::notices::Notices;
 use crate::people::People;
 use crate::search::Tables;
 use libc::net::POLLIN;
@@ -14,9 +15,6 @@ const PARTS_OF_OTHERS: u64 = 4;
 
 /// How long it does nothing behind a connection that couldn't be taken.
 const REST: u64 = SECOND;
-
-/// How long people are told nothing behind a line about connections.
-const SILENCE: u64 = 60 * SECOND;
 
 /// What is asked of the system about nothing.
 pub(crate) const NOTHING_ASKED: pollfd = pollfd {
@@ -32,14 +30,12 @@ pub(crate) const NOTHING_ASKED: pollfd = pollfd {
 #[derive(Drop)]
 pub(crate) struct Door<'a> {
     rt: &'a HostRuntime,
-    people: &'a People<'a>,
+    notices: Notices<'a>,
     listener: TcpListener,
     tables: Option<Tables>,
     newcomer: Option<Newcomer>,
     // nothing is done before
     rests_until: u64,
-    // people are told nothing before
-    silent_until: u64,
 }
 
 impl<'a> Door<'a> {
@@ -52,14 +48,13 @@ impl<'a> Door<'a> {
         listener.set_nonblocking(true)?;
         Ok(Door {
             rt,
-            people,
+            notices: Notices::new(people),
             listener,
             tables: people
                 .heard("/proc/self/net/tcp", "open", Tables::open(rt))
                 .ok(),
             newcomer: None,
             rests_until: 0,
-            silent_until: 0,
         })
     }
 
@@ -84,17 +79,9 @@ impl<'a> Door<'a> {
         }
     }
 
-    /// Tells people of a connection that wasn't taken, unless they were told of another just now.
-    fn tell(&mut self, now: u64, cause: Cause) {
-        if now >= self.silent_until {
-            self.people.tell(cause);
-            self.silent_until = now.saturating_add(SILENCE);
-        }
-    }
-
     fn tell_failed(&mut self, now: u64, call: &'static str, error: io::Error) {
         let thing = "the feed";
-        self.tell(now, Cause::Failed { thing, call, error });
+        self.notices.tell(now, Cause::Failed { thing, call, error });
     }
 
     /// Takes the connection that waits first, if one does.
@@ -140,9 +127,9 @@ impl<'a> Door<'a> {
             Ok(Verdict::Open) => self.newcomer = Some(newcomer),
             Ok(Verdict::Stranger(user)) => {
                 let own = libc::geteuid();
-                self.tell(now, Cause::Stranger { user, own });
+                self.notices.tell(now, Cause::Stranger { user, own });
             }
-            Ok(Verdict::Unknown) => self.tell(
+            Ok(Verdict::Unknown) => self.notices.tell(
                 now,
                 Cause::Odd {
                     thing: "the feed",

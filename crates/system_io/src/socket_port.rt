@@ -13,8 +13,12 @@ struct Bound<'a> {
     sockets: Sockets<'a>,
 }
 
-/// A UDP socket and a listener for the feed, on the loopback address, as a port. It counts the calls that failed, tells people
-/// where it listens or why it can't, and tells contracts nothing of what came and went.
+/// A UDP socket, a listener for clients' connections on the same number and one for the feed, on the loopback address, as a port.
+/// It counts the calls that failed, tells people where it listens or why it can't, and tells contracts nothing of what came and
+/// went.
+///
+/// Anybody on the machine may connect as a client. One that has sent nothing and taken no reply for ten seconds is closed, and so
+/// is one that leaves too much of its replies; nothing of a client's connection is ever a failed call.
 ///
 /// The feed takes connections of the program's own user and of root alone. One that has sent nothing for ten seconds gives its
 /// place to one that waits.
@@ -37,7 +41,7 @@ impl<'a> SocketPort<'a> {
         }
     }
 
-    /// Lets the feed's connection go: its peer gets the replies that it is still to take, within five seconds. Whether the port
+    /// Closes the clients' connections, and lets the feed's go: its peer gets the replies that it is still to take, within five seconds. Whether the port
     /// was bound at all.
     pub fn finish(&mut self) -> bool {
         match &mut self.bound {
@@ -78,6 +82,21 @@ impl<'a> Port for SocketPort<'a> {
                 let answer = bound.sockets.reply(Client(client), bytes);
                 self.tally.count(answer, Failed)
             }
+            None => unreachable!(),
+        }
+    }
+
+    fn stream_reply(&mut self, client: u64, bytes: &[u8]) -> Result<(), Failed> {
+        match &mut self.bound {
+            Some(bound) => bound.sockets.stream_reply(client, bytes),
+            None => unreachable!(),
+        }
+        Ok(())
+    }
+
+    fn close_stream(&mut self, client: u64) {
+        match &mut self.bound {
+            Some(bound) => bound.sockets.close_stream(client),
             None => unreachable!(),
         }
     }
