@@ -1,0 +1,4 @@
+pub mod Cached
+pub mod KeyLaws
+pub mod Keys
+pub mod Lend

@@ -1,0 +1,67 @@
+ghost use Rattle.std.specs.Prelude.{◌≡◌, ◌++◌, ◌∷◌, []};
+ghost use Rattle.std.specs.Cmp.{on_per, on_equiv};
+ghost use Rattle.answer_cache.specs.Keys.{key_of, same_key, key_writes};
+ghost use Rattle.answer_cache.specs.KeyLaws.{same_key-equivalence, same_key-partial_equivalence, same_writes};
+
+use crate::cache_key::CacheKey;
+use std::collections::hash_map::Equivalent;
+use std::hash::{Hash, Hasher};
+
+/// What an answer is asked for by: a [`CacheKey`] whose name lies elsewhere. A look-up by it takes no memory.
+#[derive(Clone, Copy)]
+pub struct AskedKey<'a> {
+    /// How many connects and disconnects were accepted so far.
+    pub accepted: u64,
+    /// The QTYPE (RFC 1035, 3.2.3).
+    pub kind: u16,
+    /// The QNAME in its wire form (RFC 1035, 3.1), in lower case.
+    pub name: &'a [u8],
+    /// How many bytes the reply may have.
+    pub limit: u16,
+    /// Whether the query has an OPT record (RFC 6891, 6.1).
+    pub edns: bool,
+}
+
+impl PartialEq for AskedKey<'_> {
+    ghost eq = { λ a b. same_key (key_of a) (key_of b) };
+
+    ghost laws = { on_per key_of same_key-partial_equivalence };
+
+    fn eq(&self, other: &AskedKey<'_>) -> bool {
+        self.accepted == other.accepted
+            && self.kind == other.kind
+            && self.limit == other.limit
+            && self.edns == other.edns
+            && self.name == other.name
+    }
+}
+
+impl Eq for AskedKey<'_> {
+    ghost laws = { on_equiv key_of same_key-equivalence };
+}
+
+impl Hash for AskedKey<'_> {
+    ghost hash_input = { λ a. key_writes (key_of a) };
+
+    ghost respects_eq = { λ a b. same_writes (key_of a) (key_of b) };
+
+    fn hash<H: Hasher>(&self, state: &mut H) {
+        self.accepted.hash(state);
+        self.kind.hash(state);
+        self.limit.hash(state);
+        self.edns.hash(state);
+        state.write(self.name);
+    }
+}
+
+impl Equivalent<CacheKey> for AskedKey<'_> {
+    ghost equivalent = { λ a k. same_key (key_of a) k };
+
+    ghost respects_hash = { λ a k. same_writes (key_of a) k };
+
+    ghost respects_eq = { λ a x y. same_key-equivalence.congr (key_of a) x y };
+
+    fn equivalent(&self, key: &CacheKey) -> bool {
+        *self == key.asked()
+    }
+}

@@ -1,0 +1,7 @@
+pub mod AnswerLemmas
+pub mod KeepingLemmas
+pub mod QuestionLemmas
+pub mod RcodeLemmas
+pub mod RightLemmas
+pub mod WholeLemmas
+pub mod MessageLemmas

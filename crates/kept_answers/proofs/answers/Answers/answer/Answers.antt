@@ -1,0 +1,18 @@
+use Rattle.std.proofs.Common.{take, subst}
+use Rattle.dns_message.specs.Query.{query_of}
+use Rattle.bit_resolver.specs.Replies.{told}
+use Rattle.kept_answers.specs.Answering.{AnswersQuestion}
+use Rattle.kept_answers.proofs.MessageLemmas.{by_question, by_names}
+use Rattle.kept_answers.proofs.answers.Answers.answer.Goals as goal
+
+pub returns-in-Some-clause-message : goal.returns-in-Some-clause-message
+returns-in-Some-clause-message g c =
+    let live = g.N.Names.served c.args.names.now in
+    let q = query_of c.in-Some.asked in
+    let text = take c.reply.result c.reply.new.buffer in
+    by_question live c.args.zone.now c.args.transport c.args.message.now q text c.args.self.now c.reply.new.self c.in-Some.ensures.found.0 c.in-Some.ensures.found.1
+    (subst (λ limit. AnswersQuestion live c.args.zone.now limit q c.args.self.now text c.reply.new.self) c.limit-limit.ensures.limit c.reply.ensures.answers)
+
+pub returns-clause-message : goal.returns-clause-message
+returns-clause-message g c =
+    by_names (g.N.Names.served c.args.names.now) c.args.zone.now c.args.transport c.args.message.now (told c.answer.result c.answer.new.buffer) c.args.self.now c.in_default.ensures.none c.answer.ensures.reply

@@ -1,0 +1,167 @@
+ghost use Rattle.std.specs.Prelude.{◌≡◌, ◌↔◌, ◌<◌, ◌≤◌, length, take, Some, None, IsTrue, IfSome, IfNone};
+ghost use Rattle.domain_text.specs.Names.{IsName, lower};
+ghost use Rattle.dns_message.specs.Limits.{most_of};
+ghost use Rattle.dns_message.specs.Query.{Query, query_of};
+ghost use Rattle.dns_message.specs.Query.Reading.{Asks};
+ghost use Rattle.dns_message.specs.Reading.{reading_of};
+ghost use Rattle.dns_message.specs.declared.numbers.TheConstants.{LEAST_LIMIT, GREATEST_LIMIT};
+ghost use Rattle.bit_resolver.specs.Replies.{told, IsWithin};
+ghost use Rattle.answer_cache.specs.Cached.{held};
+ghost use Rattle.answer_cache.specs.Keys.{key_of};
+ghost use Rattle.kept_replies.specs.Kept.{Kept, IsKept, reply_with};
+ghost use Rattle.kept_answers.specs.Answering.{AnswersMessage, AnswersQuestion, GivesKept, IsLookedFor, Stores, key_for};
+
+use crate::answers::Answers;
+use crate::limits::LONGEST_KEPT;
+use crate::lower::lower_in;
+use answer_cache::AskedKey;
+use bit_resolver::{Answered, CLASS_IN, Replied, Zone, reply_to_question};
+use dns_message::{Asked, Question, Transport, read_query};
+use domain_text::LONGEST_WIRE;
+use import_expand::Names;
+use kept_replies::{give, keep};
+use std::alloc::Global;
+
+impl Answers {
+    /// Whether the answer to a question is looked for.
+    fn looks_for(&self, asked: &Question<'_>) -> bool
+        ensures { IsTrue result ↔ IsLookedFor self.now (query_of asked.now) }
+    {
+        asked.class == CLASS_IN && self.accepted < u64::MAX
+    }
+
+    /// The question of a message, where its answer is looked for.
+    fn question<'a>(&self, message: &'a [u8]) -> Option<Question<'a>>
+        ensures name { IfSome result (λ asked. IsName asked.name.now) }
+        ensures found { IfSome result (λ asked. (Asks (query_of asked) ≡ reading_of message.now) × IsLookedFor self.now (query_of asked)) }
+        ensures none { IfNone result ((q : Query) → reading_of message.now ≡ Asks q → ¬ (IsLookedFor self.now q)) }
+    {
+        match read_query(message) {
+            Asked::Query(asked) => {
+                if self.looks_for(&asked) {
+                    Some(asked)
+                } else {
+                    None
+                }
+            }
+            Asked::BadVersion(_) | Asked::Drop | Asked::FormErr { .. } | Asked::NotImp { .. } => {
+                None
+            }
+        }
+    }
+
+    /// What the answer to a question is kept under, in a reply of at most so many bytes. The name lies in the room.
+    fn key<'a>(
+        &self,
+        asked: &Question<'_>,
+        limit: usize,
+        room: &'a mut [u8; LONGEST_WIRE],
+    ) -> AskedKey<'a>
+        requires name { IsName asked.now.name.now }
+        requires greatest { limit ≤ GREATEST_LIMIT }
+        ensures key { key_of result ≡ key_for self.now.accepted limit (query_of asked.now) }
+        ensures limit { result.limit ≡ limit }
+    {
+        AskedKey {
+            accepted: self.accepted,
+            kind: asked.kind,
+            name: lower_in(room, asked.name),
+            limit: limit as u16,
+            edns: asked.edns.is_some(),
+        }
+    }
+
+    /// Keeps the reply to a question, unless its records are too many or memory is wanting.
+    fn keep(&mut self, alloc: Global, key: AskedKey<'_>, asked: &Question<'_>, reply: &[u8])
+        requires kept { (k : Kept) × IsKept k × (reply.now ≡ reply_with (query_of asked.now) k) }
+        requires key { key_of key ≡ key_for key.accepted key.limit (query_of asked.now) }
+        requires within { length reply.now ≤ key.limit }
+        ensures { (k : Kept) → IsKept k → reply.now ≡ reply_with (query_of asked.now) k → Stores (key_of key.entry) k self.old self.new }
+    {
+        let kept = keep(reply, asked);
+        if kept.records.len() <= LONGEST_KEPT {
+            let _ = self.cache.put(alloc, key, &kept.head, kept.records);
+        }
+    }
+
+    /// Writes the reply to a question from the answer that is kept under its key, and gives its bytes. None where none is.
+    fn give_kept(
+        &mut self,
+        key: AskedKey<'_>,
+        asked: &Question<'_>,
+        buffer: &mut [u8],
+    ) -> Option<usize>
+        requires key { key_of key ≡ key_for self.old.accepted key.limit (query_of asked.now) }
+        requires room { key.limit ≤ length buffer.old }
+        ensures given { IfSome result (λ size. GivesKept (key_of key.entry) (query_of asked.now) self.old self.new (take size buffer.new)) }
+        ensures within { IfSome result (λ size. size ≤ key.entry.limit) }
+        ensures none { IfNone result ((held (key_of key.entry) self.old.cache ≡ None) × (self.new ≡ self.old) × (buffer.new ≡ buffer.old)) }
+    {
+        if let Some(kept) = self.cache.get(key) {
+            return Some(give(kept, asked, buffer));
+        }
+        None
+    }
+
+    /// Writes the reply to a question, from the answer that is kept or by the names that are served, and gives its bytes.
+    fn reply<N: Names>(
+        &mut self,
+        alloc: Global,
+        names: &N,
+        zone: &Zone,
+        asked: &Question<'_>,
+        limit: usize,
+        buffer: &mut [u8],
+        values: &mut u16,
+    ) -> usize
+        requires room { limit ≤ length buffer.old }
+        requires least { LEAST_LIMIT ≤ limit }
+        requires greatest { limit ≤ GREATEST_LIMIT }
+        requires name { IsName asked.now.name.now }
+        requires looked_for { IsLookedFor self.old (query_of asked.now) }
+        ensures answers { AnswersQuestion (N.served names.now) zone.now limit (query_of asked.now) self.old (take result buffer.new) self.new }
+        ensures within { result ≤ limit }
+        ensures bound { values.new ≤ 2048 }
+    {
+        *values = 0;
+        let mut room = [0; LONGEST_WIRE];
+        let key = self.key(asked, limit, &mut room);
+        if let Some(size) = self.give_kept(key, asked, buffer) {
+            return size;
+        }
+        match reply_to_question(alloc, names, zone, asked, limit, buffer, values) {
+            Replied::Answer(size) => {
+                self.keep(alloc, key, asked, &buffer[..size]);
+                size
+            }
+            Replied::Failure(size) => size,
+        }
+    }
+
+    /// Writes the reply to a message at the front of the buffer, in as many bytes as the transport and the message allow. The answer to
+    /// a question of class IN is taken from those that are kept, and is kept where it isn't one of them; no SERVFAIL is. `values` becomes how
+    /// many values were read for it: an answer that would need more than 2,048 is SERVFAIL.
+    pub fn answer<N: Names>(
+        &mut self,
+        alloc: Global,
+        names: &N,
+        zone: &Zone,
+        message: &[u8],
+        transport: Transport,
+        buffer: &mut [u8],
+        values: &mut u16,
+    ) -> Answered
+        requires { most_of transport ≤ length buffer.old }
+        // Where the answers that are kept are right the reply is the definition's, or SERVFAIL for want of memory.
+        ensures message { AnswersMessage (N.served names.now) zone.now transport message.now self.old (told result buffer.new) self.new }
+        ensures most { IsWithin (most_of transport) result }
+        // At most 2,048 values are read for it.
+        ensures bound { values.new ≤ 2048 }
+    {
+        if let Some(asked) = self.question(message) {
+            let limit = transport.limit(&asked);
+            return Answered::Text(self.reply(alloc, names, zone, &asked, limit, buffer, values));
+        }
+        bit_resolver::answer(alloc, names, zone, message, transport, buffer, values)
+    }
+}

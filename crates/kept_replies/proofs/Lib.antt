@@ -1,0 +1,3 @@
+pub mod HeadLemmas
+pub mod ReplyLemmas
+pub mod KeptLaws
