@@ -2,8 +2,9 @@ ghost use Rattle.std.specs.Prelude.{◌≤◌};
 
 use crate::comparing::same;
 use chain_state::Chain;
-use dns_message::LEAST_LIMIT;
+use dns_message::{EDNS_SIZE, Transport};
 use domain_text::{Name, absolute_name};
+use kept_answers::Answers;
 use machine::{Answered, answer};
 use nmc_base::{Base, Hash32, NoMemory, Profile};
 use std::alloc::Global;
@@ -31,31 +32,40 @@ fn empty_chain(alloc: Global) -> Result<Chain, NoMemory> {
 /// The reply to a message from a chain, and its bytes. None has 0.
 fn reply_of(
     alloc: Global,
+    answers: &mut Answers,
     chain: &Chain,
     host: &Name,
     message: &[u8],
-    buffer: &mut [u8; 512],
+    buffer: &mut [u8; EDNS_SIZE as usize],
 ) -> usize
-    ensures { result ≤ 512 }
+    ensures { result ≤ 1232 }
 {
-    match answer(alloc, chain, host, message, LEAST_LIMIT, buffer) {
+    match answer(alloc, answers, chain, host, message, Transport::Udp, buffer) {
         Answered::Dropped => 0,
         Answered::Text(size) => size,
     }
 }
 
 /// The same from a chain of the base alone.
-fn reply_to(alloc: Global, host: &Name, message: &[u8], buffer: &mut [u8; 512]) -> usize
-    ensures { result ≤ 512 }
+fn reply_to(
+    alloc: Global,
+    host: &Name,
+    message: &[u8],
+    buffer: &mut [u8; EDNS_SIZE as usize],
+) -> usize
+    ensures { result ≤ 1232 }
 {
+    let Ok(mut answers) = Answers::new(alloc) else {
+        return 0;
+    };
     match empty_chain(alloc) {
-        Ok(chain) => reply_of(alloc, &chain, host, message, buffer),
+        Ok(chain) => reply_of(alloc, &mut answers, &chain, host, message, buffer),
         Err(_) => 0,
     }
 }
 
 fn replies(rt: &impl Abort, alloc: Global, message: &[u8], want: &[u8]) {
-    let mut buffer = [0xaa; 512];
+    let mut buffer = [0xaa; EDNS_SIZE as usize];
     match absolute_name(b"ns.example.") {
         Some(host) => {
             let len = reply_to(alloc, &host, message, &mut buffer);

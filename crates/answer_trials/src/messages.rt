@@ -4,7 +4,7 @@ ghost use Rattle.dns_message.specs.Replies.{Contents};
 ghost use Rattle.dns_message.specs.Holding.{Holds, MayAdd};
 
 use crate::comparing::same;
-use dns_message::{Asked, Question, Reply, Section, bare, rcode, read_query};
+use dns_message::{Asked, Question, Reply, Section, Transport, bare, rcode, read_query};
 use domain_text::Name;
 use std::process::Abort;
 
@@ -22,7 +22,7 @@ struct Exchange {
 }
 
 /// Replies, as another reading of the standard has them.
-static EXCHANGES: [Exchange; 6] = [
+static EXCHANGES: [Exchange; 10] = [
     // an address
     Exchange {
         query: b"1234 0100 0001 0000 0000 0000 07 6578616d706c65 03 626974 00 0001 0001",
@@ -47,7 +47,7 @@ static EXCHANGES: [Exchange; 6] = [
     },
     // a chase, in letters of either case, of a query with an OPT
     Exchange {
-        query: b"80b1 0100 0001 0000 0000 0001 0141 026e36 03426974 00 0001 0001 00002904b001000000ffff",
+        query: b"80b1 0100 0001 0000 0000 0001 0141 026e36 03426974 00 0001 0001 00002904b0010000000000",
         answer: &[
             (b"026e36 03626974 00", 39, b"026e37 03626974 00"),
             (b"0141 026e36 03426974 00", 5, b"0161 026e37 03626974 00"),
@@ -60,9 +60,9 @@ static EXCHANGES: [Exchange; 6] = [
         )],
         rcode: rcode::NXDOMAIN,
         aa: true,
-        reply: b"80b1 8503 0001 0003 0001 0000 0141026e36034269740000010001 026e36036269740000270001000002580008026e370362697400 c00c0005000100000258000a0161026e370362697400 0161026e3703626974000005000100000258000a0161026e380362697400 036269740000060001000002580031025f78012d02795f000a686f73746d6173746572025f78012d02795f0000000028000002580000025800001c2000000258",
+        reply: b"80b1 8503 0001 0003 0001 0001 0141026e36034269740000010001 026e36036269740000270001000002580008026e370362697400 c00c0005000100000258000a0161026e370362697400 0161026e3703626974000005000100000258000a0161026e380362697400 036269740000060001000002580031025f78012d02795f000a686f73746d6173746572025f78012d02795f0000000028000002580000025800001c2000000258 000029 04d0 00000000 0000",
     },
-    // a cut
+    // a cut, of a query with DO
     Exchange {
         query: b"aeac 0130 0001 0000 0000 0001 0161 03626954 00 00ff 0001 00002904cf010080000000",
         answer: &[],
@@ -73,7 +73,7 @@ static EXCHANGES: [Exchange; 6] = [
         ],
         rcode: rcode::NOERROR,
         aa: false,
-        reply: b"aeac 8100 0001 0000 0003 0000 01610362695400 00ff0001 c00c00020001000002580009016101610362697400 c00c00020001000002580009017801620362697400 c00c0002000100000258000e0161045f34343301610362697400",
+        reply: b"aeac 8100 0001 0000 0003 0001 01610362695400 00ff0001 c00c00020001000002580009016101610362697400 c00c00020001000002580009017801620362697400 c00c0002000100000258000e0161045f34343301610362697400 000029 04d0 00008000 0000",
     },
     // RCODE's high bits aren't the header's
     Exchange {
@@ -83,6 +83,42 @@ static EXCHANGES: [Exchange; 6] = [
         rcode: 21,
         aa: false,
         reply: b"1234 8005 0001 0000 0000 0000 00 00ff 0003",
+    },
+    // they are the OPT's
+    Exchange {
+        query: b"1234 0000 0001 0000 0000 0001 00 00ff 0003 000029 0200 00007fff 0000",
+        answer: &[],
+        authority: &[],
+        rcode: 21,
+        aa: false,
+        reply: b"1234 8005 0001 0000 0000 0001 00 00ff 0003 000029 04d0 01000000 0000",
+    },
+    // an address, of a query with an OPT: 56 bytes
+    Exchange {
+        query: b"1234 0100 0001 0000 0000 0001 07 6578616d706c65 03 626974 00 0001 0001 000029 1000 00000000 0000",
+        answer: &[(b"07 6578616d706c65 03 626974 00", 1, b"01020304")],
+        authority: &[],
+        rcode: rcode::NOERROR,
+        aa: true,
+        reply: b"1234 8500 0001 0001 0000 0001 07 6578616d706c65 03 626974 00 0001 0001 c00c 0001 0001 00000258 0004 01020304 000029 04d0 00000000 0000",
+    },
+    // version 1, with an option: 40 bytes
+    Exchange {
+        query: b"1234 0100 0001 0000 0000 0001 07 6578616d706c65 03 626974 00 0001 0001 000029 1000 00010000 0004 000a 0000",
+        answer: &[],
+        authority: &[],
+        rcode: rcode::NOERROR,
+        aa: true,
+        reply: b"1234 8100 0001 0000 0000 0001 07 6578616d706c65 03 626974 00 0001 0001 000029 04d0 01000000 0000",
+    },
+    // an OPT behind another record isn't read
+    Exchange {
+        query: b"1234 0100 0001 0001 0000 0001 07 6578616d706c65 03 626974 00 0001 0001 000029 1000 00010000 0000",
+        answer: &[],
+        authority: &[],
+        rcode: rcode::NOERROR,
+        aa: true,
+        reply: b"1234 8500 0001 0000 0000 0000 07 6578616d706c65 03 626974 00 0001 0001",
     },
     // all bits that a query may set beside the opcode
     Exchange {
@@ -96,7 +132,7 @@ static EXCHANGES: [Exchange; 6] = [
 ];
 
 /// Messages, and the replies where each question is refused. None is 0 bytes.
-static MESSAGES: [(&[u8], &[u8]); 17] = [
+static MESSAGES: [(&[u8], &[u8]); 25] = [
     (b"", b""),
     (b"1234 0100 0001 0000 0000 00", b""),
     // a header without a question, and an opcode before it
@@ -153,6 +189,41 @@ static MESSAGES: [(&[u8], &[u8]); 17] = [
     ),
     (
         b"1234 0100 0001 0000 0000 0000 00 0002 0001 ff ff",
+        b"1234 8105 0001 0000 0000 0000 00 0002 0001",
+    ),
+    // an OPT that is cut, in its fields and in its options; a record that is none
+    (
+        b"1234 0100 0001 0000 0000 0001 00 0002 0001 000029 10",
+        b"1234 8101 0000 0000 0000 0000",
+    ),
+    (
+        b"1234 0100 0001 0000 0000 0001 00 0002 0001 000029 1000 00000000 0005 000a 0000",
+        b"1234 8101 0000 0000 0000 0000",
+    ),
+    (
+        b"1234 0100 0001 0000 0000 0001 00 0002 0001 000028 10",
+        b"1234 8105 0001 0000 0000 0000 00 0002 0001",
+    ),
+    // one that is cut behind its type, and in another version
+    (
+        b"1234 0100 0001 0000 0000 0001 00 0002 0001 000029",
+        b"1234 8101 0000 0000 0000 0000",
+    ),
+    (
+        b"1234 0100 0001 0000 0000 0001 00 0002 0001 000029 1000 00010000 00",
+        b"1234 8101 0000 0000 0000 0000",
+    ),
+    // none: its type is cut; its owner isn't the root; it is counted nowhere
+    (
+        b"1234 0100 0001 0000 0000 0001 00 0002 0001 0000",
+        b"1234 8105 0001 0000 0000 0000 00 0002 0001",
+    ),
+    (
+        b"1234 0100 0001 0000 0000 0001 00 0002 0001 c00c0029 1000 00010000 0000",
+        b"1234 8105 0001 0000 0000 0000 00 0002 0001",
+    ),
+    (
+        b"1234 0100 0001 0000 0000 0000 00 0002 0001 000029 1000 00010000 0000",
         b"1234 8105 0001 0000 0000 0000 00 0002 0001",
     ),
     // a label of any bytes
@@ -255,23 +326,33 @@ fn add_rows(reply: &mut Reply, buf: &mut [u8], section: Section, rows: &[Row])
 
 /// The reply to a question, and its bytes.
 fn write_records(buf: &mut [u8], said: &Exchange, asked: &Question<'_>) -> usize
-    requires room { 512 ≤ length buf.old }
+    requires room { 1232 ≤ length buf.old }
     requires name { IsName asked.now.name.now }
-    ensures { result ≤ 512 }
+    ensures { result ≤ 1232 }
 {
-    let mut reply = Reply::new(buf, 512, asked);
+    let mut reply = Reply::new(buf, Transport::Udp.limit(asked), asked);
     add_rows(&mut reply, buf, Section::Answer, said.answer);
     add_rows(&mut reply, buf, Section::Authority, said.authority);
     reply.finish(buf, said.rcode, said.aa)
 }
 
-/// The reply to a message, and its bytes.
+/// The reply to a question of another version, and its bytes.
+fn write_version(buf: &mut [u8], asked: &Question<'_>) -> usize
+    requires room { 1232 ≤ length buf.old }
+    requires name { IsName asked.now.name.now }
+    ensures { result ≤ 1232 }
+{
+    Reply::new(buf, Transport::Udp.limit(asked), asked).bad_version(buf)
+}
+
+/// The reply to a message over UDP, and its bytes.
 fn reply_to(buf: &mut [u8], said: &Exchange, message: &[u8]) -> usize
-    requires { 512 ≤ length buf.old }
-    ensures { result ≤ 512 }
+    requires { 1232 ≤ length buf.old }
+    ensures { result ≤ 1232 }
 {
     match read_query(message) {
         Asked::Query(asked) => write_records(buf, said, &asked),
+        Asked::BadVersion(asked) => write_version(buf, &asked),
         Asked::Drop => 0,
         Asked::FormErr { id, flags } => bare(buf, id, flags, rcode::FORMERR),
         Asked::NotImp { id, flags } => bare(buf, id, flags, rcode::NOTIMP),
@@ -280,7 +361,7 @@ fn reply_to(buf: &mut [u8], said: &Exchange, message: &[u8]) -> usize
 
 /// The reply to the message is this one.
 fn replies(rt: &impl Abort, said: &Exchange, message: &[u8], reply: &[u8]) {
-    let mut buf = [0xaa; 512];
+    let mut buf = [0xaa; 1232];
     let len = reply_to(&mut buf, said, message);
     same(rt, &buf[..len], reply);
 }
@@ -360,7 +441,7 @@ fn query_of_labels(labels: &[u8]) -> [u8; 300] {
 /// Such a query is refused in so many bytes.
 fn refuses_labels(rt: &impl Abort, labels: &[u8], len: usize, flags: u8) {
     let query = query_of_labels(labels);
-    let mut buf = [0xaa; 512];
+    let mut buf = [0xaa; 1232];
     let got = reply_to(&mut buf, &REFUSED, &query);
     assert_eq!(rt; (got, buf[3]), (len, flags));
     same(rt, &buf[12..got.max(12)], &query[12..len.clamp(12, 300)]);
@@ -374,40 +455,60 @@ fn longest_labels_and_names(rt: HostRuntime) {
     refuses_labels(&rt, &[63, 63, 63, 62, 0], 12, rcode::FORMERR);
 }
 
-/// A reply with one record of so many bytes of RDATA, and room for a reply of 512.
+/// A reply with one record of so many bytes of RDATA, and room for the most.
 fn reply_with_rdata(buf: &mut [u8], asked: &Question<'_>, len: usize) -> usize
-    requires room { 512 ≤ length buf.old }
+    requires room { 1232 ≤ length buf.old }
     requires name { IsName asked.now.name.now }
-    ensures { result ≤ 512 }
+    ensures { result ≤ 1232 }
 {
-    let rdata = [7; 600];
-    let mut reply = Reply::new(buf, 512, asked);
+    let rdata = [7; 1300];
+    let mut reply = Reply::new(buf, Transport::Udp.limit(asked), asked);
     add_record(
         &mut reply,
         buf,
         Section::Answer,
         asked.name,
         16,
-        &rdata[..len.min(600)],
+        &rdata[..len.min(1300)],
     );
     reply.finish(buf, rcode::NOERROR, true)
 }
 
-/// That reply has so many bytes, these flags and so many answers.
-fn has_rdata(rt: &impl Abort, len: usize, want: usize, flags: u8, answers: u8) {
-    let mut buf = [0xaa; 512];
-    match read_query(&QUERY) {
+/// That reply to a query has so many bytes, these flags and so many answers.
+fn has_rdata(rt: &impl Abort, query: &[u8], len: usize, want: (usize, u8, u8)) {
+    let mut buf = [0xaa; 1232];
+    match read_query(query) {
         Asked::Query(asked) => {
             let got = reply_with_rdata(&mut buf, &asked, len);
-            assert_eq!(rt; (got, buf[2], buf[7]), (want, flags, answers));
+            assert_eq!(rt; (got, buf[2], buf[7]), want);
         }
         _ => assert!(rt; false),
     }
 }
 
+/// The query, with an OPT of this size.
+fn query_of_size(size: u16) -> [u8; 40] {
+    let [high, low] = size.to_be_bytes();
+    let mut query = [0; 40];
+    query[..29].copy_from_slice(&QUERY);
+    query[11] = 1;
+    query[31] = 41;
+    query[32] = high;
+    query[33] = low;
+    query
+}
+
+/// The reply is whole where the record has so many bytes, and so long; with one byte more it is truncated.
+fn is_limited(rt: &impl Abort, query: &[u8], most: usize, limit: usize, truncated: usize) {
+    has_rdata(rt, query, most, (limit, 0x85, 1));
+    has_rdata(rt, query, most.wrapping_add(1), (truncated, 0x87, 0));
+}
+
 #[test]
 fn truncated_above_the_limit(rt: HostRuntime) {
-    has_rdata(&rt, 471, 512, 0x85, 1);
-    has_rdata(&rt, 472, 29, 0x87, 0);
-    has_rdata(&rt, 600, 29, 0x87, 0);
+    is_limited(&rt, &QUERY, 471, 512, 29);
+    is_limited(&rt, &query_of_size(100), 460, 512, 40);
+    is_limited(&rt, &query_of_size(600), 548, 600, 40);
+    is_limited(&rt, &query_of_size(1232), 1180, 1232, 40);
+    is_limited(&rt, &query_of_size(4096), 1180, 1232, 40);
 }

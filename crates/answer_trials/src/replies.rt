@@ -3,9 +3,11 @@ ghost use Rattle.std.specs.Option.{option_map};
 ghost use Rattle.std.specs.Str.{bytes_eq};
 
 use crate::comparing::same;
-use bit_resolver::{Answered, Zone, answer};
+use bit_resolver::{Answered, Zone};
+use dns_message::{EDNS_SIZE, Transport};
 use domain_text::absolute_name;
 use import_expand::Names;
+use kept_answers::Answers;
 use rows::{EXCHANGES, Exchange, Row};
 use std::alloc::Global;
 use std::process::Abort;
@@ -52,20 +54,26 @@ fn read_hex(text: &[u8], into: &mut [u8]) -> usize
 }
 
 /// The reply to a message, and its bytes. None has 0.
-fn reply_to(alloc: Global, served: &'static [Row], message: &[u8], buffer: &mut [u8; 512]) -> usize
-    ensures { result ≤ 512 }
+fn reply_to(
+    alloc: Global,
+    answers: &mut Answers,
+    served: &'static [Row],
+    message: &[u8],
+    buffer: &mut [u8; EDNS_SIZE as usize],
+) -> usize
+    ensures { result ≤ 1232 }
 {
     let Some(host) = absolute_name(b"ns.example.") else {
         return 0;
     };
     let zone = Zone { host, serial: 40 };
     let mut values = 0;
-    match answer(
+    match answers.answer(
         alloc,
         &Index { rows: served },
         &zone,
         message,
-        512,
+        Transport::Udp,
         buffer,
         &mut values,
     ) {
@@ -84,23 +92,40 @@ fn is_failure(query: &[u8], reply: &[u8]) -> bool {
 }
 
 /// The reply to a query is this one, or, where that is allowed, SERVFAIL.
-fn replies(rt: &impl Abort, alloc: Global, row: &Exchange, may_fail: bool) {
+fn replies(rt: &impl Abort, alloc: Global, answers: &mut Answers, row: &Exchange, may_fail: bool) {
     let mut message = [0; 64];
     let mut want = [0; 512];
-    let mut buffer = [0xaa; 512];
+    let mut buffer = [0xaa; EDNS_SIZE as usize];
     let message_len = read_hex(row.query, &mut message);
     let want_len = read_hex(row.reply, &mut want);
-    let len = reply_to(alloc, row.served, &message[..message_len], &mut buffer);
+    let len = reply_to(
+        alloc,
+        answers,
+        row.served,
+        &message[..message_len],
+        &mut buffer,
+    );
     if may_fail && is_failure(&message[..message_len], &buffer[..len]) {
         return;
     }
     same(rt, &buffer[..len], &want[..want_len]);
 }
 
-/// Each query of the table is answered by its reply, or, where that is allowed, by SERVFAIL.
+/// So it is where none is kept, and where the answer may be.
+fn replies_again(rt: &impl Abort, alloc: Global, row: &Exchange, may_fail: bool) {
+    match Answers::new(alloc) {
+        Ok(mut answers) => {
+            replies(rt, alloc, &mut answers, row, may_fail);
+            replies(rt, alloc, &mut answers, row, may_fail);
+        }
+        Err(_) => assert!(rt; may_fail),
+    }
+}
+
+/// Each query of the table is answered by its reply, twice, or, where that is allowed, by SERVFAIL.
 fn each_replies(rt: &impl Abort, alloc: Global, may_fail: bool) {
     for row in &EXCHANGES {
-        replies(rt, alloc, row, may_fail);
+        replies_again(rt, alloc, row, may_fail);
     }
 }
 

@@ -123,6 +123,7 @@ fn resolved(
         name: name.wire(),
         kind,
         class,
+        edns: None,
     };
     let mut values = 0;
     Ok(resolve(alloc, index, zone, &asked, &mut values)?)

@@ -6,4 +6,3 @@ pub mod Places
 pub mod Rdata
 pub mod Way
 pub mod Replies
-pub mod ReplyLaws

@@ -20,6 +20,6 @@ pub use limits::{CLASS_IN, EXPIRE, MINIMUM, MOST_CNAMES, REFRESH, RETRY};
 pub use numbers::numbers_of_answers;
 pub use question::resolve;
 pub use reply_laws::{replies_are_lawful, truncated_replies_are_headed};
-pub use replying::{Answered, answer};
+pub use replying::{Answered, Replied, answer, reply_to_question};
 pub use resource::{Resource, Resources, Sections};
 pub use zone::Zone;

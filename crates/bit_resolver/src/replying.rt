@@ -1,13 +1,15 @@
 ghost use Rattle.std.specs.Prelude.{◌≡◌, ◌≤◌, length, take};
 ghost use Rattle.domain_text.specs.Names.{IsName};
+ghost use Rattle.dns_message.specs.Limits.{most_of};
 ghost use Rattle.dns_message.specs.Query.{query_of};
+ghost use Rattle.dns_message.specs.Reading.{reading_of};
 ghost use Rattle.dns_message.specs.declared.numbers.TheConstants.{LEAST_LIMIT, GREATEST_LIMIT};
-ghost use Rattle.bit_resolver.specs.Replies.{IsAnswered, MayReply, told, IsWithin};
+ghost use Rattle.bit_resolver.specs.Replies.{MayReply, limit_for, told, replied_size, IsReplied, IsWithin};
 
 use crate::question::resolve;
-use crate::writing::{put_answer, put_failure};
+use crate::writing::{put_answer, put_bad_version, put_failure};
 use crate::zone::Zone;
-use dns_message::{Asked, Question, bare, rcode, read_query};
+use dns_message::{Asked, Question, Transport, bare, rcode, read_query};
 use import_expand::Names;
 use std::alloc::Global;
 
@@ -20,8 +22,29 @@ pub enum Answered {
     Text(usize),
 }
 
-/// Writes the reply to a question, and gives its bytes.
-fn reply_to_question<N: Names>(
+/// What comes of a question: a reply of so many bytes at the front of the buffer.
+#[derive(Clone, Copy, Debug)]
+pub enum Replied {
+    /// The question's answer.
+    Answer(usize),
+    /// SERVFAIL: memory ran out, or the answer would need more than 2,048 values.
+    Failure(usize),
+}
+
+impl Replied {
+    /// The bytes of the reply.
+    pub fn size(&self) -> usize
+        ensures { result ≡ replied_size self.now }
+    {
+        match *self {
+            Replied::Answer(size) | Replied::Failure(size) => size,
+        }
+    }
+}
+
+/// Writes the reply to a question at the front of the buffer, in at most so many bytes: 512 to 65,535. `values` becomes how
+/// many values were read for it.
+pub fn reply_to_question<N: Names>(
     alloc: Global,
     names: &N,
     zone: &Zone,
@@ -29,38 +52,38 @@ fn reply_to_question<N: Names>(
     limit: usize,
     buffer: &mut [u8],
     values: &mut u16,
-) -> usize
+) -> Replied
     requires room { limit ≤ length buffer.old }
     requires least { LEAST_LIMIT ≤ limit }
     requires greatest { limit ≤ GREATEST_LIMIT }
     requires name { IsName asked.now.name.now }
-    ensures text { IsAnswered (N.served names.now) zone.now limit (query_of asked.now) (take result buffer.new) }
-    ensures within { result ≤ limit }
+    ensures text { IsReplied (N.served names.now) zone.now limit (query_of asked.now) result buffer.new }
+    ensures within { replied_size result ≤ limit }
+    // At most 2,048 values are read for it.
     ensures bound { values.new ≤ 2048 }
 {
     match resolve(alloc, names, zone, asked, values) {
-        Ok(sections) => put_answer(&sections, asked, limit, buffer),
-        Err(_) => put_failure(asked, limit, buffer),
+        Ok(sections) => Replied::Answer(put_answer(&sections, asked, limit, buffer)),
+        Err(_) => Replied::Failure(put_failure(asked, limit, buffer)),
     }
 }
 
-/// Writes the reply to a message at the front of the buffer: at most so many bytes, 512 to 65,535 (RFC 1035, 4.2.1 and 4.2.2).
+/// Writes the reply to a message at the front of the buffer, in as many bytes as the transport and the message allow.
 /// `values` becomes how many values were read for it: an answer that would need more than 2,048 is SERVFAIL.
 pub fn answer<N: Names>(
     alloc: Global,
     names: &N,
     zone: &Zone,
     message: &[u8],
-    limit: usize,
+    transport: Transport,
     buffer: &mut [u8],
     values: &mut u16,
 ) -> Answered
-    requires room { limit ≤ length buffer.old }
-    requires least { LEAST_LIMIT ≤ limit }
-    requires greatest { limit ≤ GREATEST_LIMIT }
+    requires { most_of transport ≤ length buffer.old }
     // It is the definition's, byte for byte, or SERVFAIL for want of memory.
-    ensures reply { MayReply (N.served names.now) zone.now limit message.now (told result buffer.new) }
-    ensures within { IsWithin limit result }
+    ensures reply { MayReply (N.served names.now) zone.now transport message.now (told result buffer.new) }
+    ensures within { IsWithin (limit_for transport (reading_of message.now)) result }
+    ensures most { IsWithin (most_of transport) result }
     // At most 2,048 values are read for it.
     ensures bound { values.new ≤ 2048 }
 {
@@ -69,8 +92,13 @@ pub fn answer<N: Names>(
         Asked::Drop => Answered::Dropped,
         Asked::NotImp { id, flags } => Answered::Text(bare(buffer, id, flags, rcode::NOTIMP)),
         Asked::FormErr { id, flags } => Answered::Text(bare(buffer, id, flags, rcode::FORMERR)),
+        Asked::BadVersion(asked) => {
+            Answered::Text(put_bad_version(&asked, transport.limit(&asked), buffer))
+        }
         Asked::Query(asked) => {
-            Answered::Text(reply_to_question(alloc, names, zone, &asked, limit, buffer, values))
+            let limit = transport.limit(&asked);
+            let replied = reply_to_question(alloc, names, zone, &asked, limit, buffer, values);
+            Answered::Text(replied.size())
         }
     }
 }

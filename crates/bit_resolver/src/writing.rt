@@ -1,7 +1,7 @@
 ghost use Rattle.std.specs.Prelude.{◌≡◌, ◌≤◌, length, map, take};
 ghost use Rattle.domain_text.specs.Names.{IsName};
 ghost use Rattle.dns_message.specs.Query.{query_of};
-ghost use Rattle.dns_message.specs.Replies.{Contents};
+ghost use Rattle.dns_message.specs.Replies.{Contents, bad_version_text};
 ghost use Rattle.dns_message.specs.Holding.{Holds, MayAdd, with_records};
 ghost use Rattle.dns_message.specs.declared.numbers.TheConstants.{LEAST_LIMIT, GREATEST_LIMIT};
 ghost use Rattle.bit_resolver.specs.Ends.{seen_sections};
@@ -69,4 +69,17 @@ pub(crate) fn put_failure(asked: &Question<'_>, limit: usize, buffer: &mut [u8])
 {
     let reply = Reply::new(buffer, limit, asked);
     reply.finish(buffer, rcode::SERVFAIL, false)
+}
+
+/// Writes the reply that the question's version of EDNS isn't known, and gives its bytes.
+pub(crate) fn put_bad_version(asked: &Question<'_>, limit: usize, buffer: &mut [u8]) -> usize
+    requires room { limit ≤ length buffer.old }
+    requires least { LEAST_LIMIT ≤ limit }
+    requires greatest { limit ≤ GREATEST_LIMIT }
+    requires name { IsName asked.now.name.now }
+    ensures text { take result buffer.new ≡ bad_version_text (query_of asked.now) }
+    ensures within { result ≤ limit }
+{
+    let reply = Reply::new(buffer, limit, asked);
+    reply.bad_version(buffer)
 }

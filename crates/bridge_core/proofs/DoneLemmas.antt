@@ -12,7 +12,7 @@ use Rattle.machine.proofs.RunLemmas.{step_leaves}
 
 pub one_done : (run : RunState) (event : Event) (new other : RunState) → IsDoneBy run event new → IsDoneBy run event other → new ≡ other
 one_done run (Do command) new other one two = one ∙ sym two
-one_done run (Ask message) new other one two = one ∙ sym two
+one_done run (Ask carrier message) new other one two = one ∙ sym two
 one_done run Save new other one two = one.state_is ∙ ap (saved_by run) (one_text Two (chain_of run) one.text two.text one.is_text two.is_text) ∙ sym two.state_is
 
 -- a step whose reply has code 0 leads there

@@ -1,8 +1,10 @@
 pub mod CodeLemmas
+pub mod BridgedLemmas
 pub mod DoneLemmas
 pub mod FileLemmas
 pub mod TurnLemmas
 pub mod ReachedLemmas
+pub mod QueryingLemmas
 pub mod AnsweringLemmas
 pub mod DeterminedLemmas
 pub mod OpeningLemmas

@@ -19,6 +19,7 @@ use Rattle.name_store.specs.Stands.{Stands}
 use Rattle.bridge_core.specs.Bridge.{AreFilesOf}
 use Rattle.bridge_core.specs.Opening.{status_of_fault, HasOpened, WritesNothing, IsUnbegun, uninitialised, damaged, disk_fault, no_memory, EndsWell, lacks_memory}
 use Rattle.bridge_core.specs.Reached.{Beginning, Begins, Passes, none_yet, asked, LeavesOldOrFront, LeadsTo, IsReached}
+use Rattle.bridge_core.proofs.BridgedLemmas.{stands_first}
 use Rattle.bridge_core.proofs.FileLemmas.{files_of}
 use Rattle.bridge_core.proofs.ReachedLemmas.{front_of_all}
 
@@ -35,7 +36,7 @@ stands_alike old new run synced stands = record {
 module _ {D : Type 0} (tells : Bool) (seen : D → DiskSeen) (begun : Beginning D) (o : HasOpened tells begun.before (seen begun.opened) begun.bridge) where
   files_first : (run : RunState) → Begins tells begun run → IsTrue tells → AreFilesOf run (seen begun.opened).moments.now
   files_first run b told =
-      files_of begun.bridge (seen begun.opened) (o.opened told).on_disk run b.stands (stands_alike begun.before (seen begun.opened) run (o.synced told) (b.files told))
+      files_of begun.bridge.store (seen begun.opened) (o.opened told).on_disk run b.stands (stands_alike begun.before (seen begun.opened) run (o.synced told) (b.files told))
 
   abbrev no_turn : Passes tells seen begun [] [] begun.bridge begun.opened
   no_turn = none_yet
@@ -44,7 +45,7 @@ module _ {D : Type 0} (tells : Bool) (seen : D → DiskSeen) (begun : Beginning 
   leads_first run b = record {
     new = run;
     runs = refl;
-    stands = b.stands;
+    stands = stands_first begun.bridge run o.empty b.stands;
     files = λ told. files_first run b told;
     any_moment = λ told. weaken (LeavesOldOrFront begun.before run (asked [] [] None)) (λ files kept image_is is. inl (KeepsSettled-images begun.before.moments.now files image_is kept is)) (o.writes_nothing.any_moment told);
     acknowledged = λ told. moments.start (λ image_is is. inl (front_of_all run {events = []} {replies = []} 0 (omega arith) refl ((files_first run b told).each image_is is)));

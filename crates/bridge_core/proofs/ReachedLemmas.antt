@@ -14,8 +14,8 @@ use Rattle.chain_commands.specs.RunState.{RunState}
 use Rattle.machine.specs.Step.{Step, Run}
 use Rattle.machine.proofs.RunLemmas.{run_push, step_leaves}
 use Rattle.name_store.specs.Stands.{Bytes, Stands}
-use Rattle.name_store.specs.Stored.{Stored}
 use Rattle.bridge_core.specs.Bridge.{fault_code, IsUndone, AsksNothing, AnswersEvent, AreFilesOf, OutlivesCrashes, LeavesDisk}
+use Rattle.bridge_core.specs.Bridged.{Bridged}
 use Rattle.bridge_core.specs.Reached.{Beginning, Begins, Passes, none_yet, one_more, StandsForFront, StandsForAsked, Asked, asked, LeavesFront, LeavesOldOrFront, HoldsAnswered, LeadsTo, IsReached, KeepsNext, BreaksAt, IsBroken}
 use Rattle.bridge_core.specs.declared.bridge.Turned.TheVariants.{On, Ended}
 use Rattle.bridge_core.proofs.DoneLemmas.{done_once}
@@ -88,7 +88,7 @@ module _ (run : RunState) where
   leaves_kept kept files leaves = λ image_is is. elim (leaves image_is is) [ inl f ↦ inl f | inr none ↦ absurd none ]
 
   -- since each reply was given away, images hold at least the events answered by then: over one stretch more
-  pub holds_more : {D : Type 0} {tells : Bool} {seen : D → DiskSeen} {begun : Beginning D} {events : List Event} {replies : List Reply} {bridge : Stored} {disk : D}
+  pub holds_more : {D : Type 0} {tells : Bool} {seen : D → DiskSeen} {begun : Beginning D} {events : List Event} {replies : List Reply} {bridge : Bridged} {disk : D}
       (few many : Asked) (most : ℕ) (mid now : DiskSeen) (passes : Passes tells seen begun events replies bridge disk)
       → length events ≤ most → ((least : ℕ) (files : Files) → LeavesFront run least few files → LeavesFront run least many files)
       → EachMoment (LeavesFront run most many) mid.moments now.moments → HoldsAnswered run few mid passes → HoldsAnswered run many now passes
@@ -117,17 +117,17 @@ comes_by old new event reply Same step untouched asks no_fault = elim (cases_eq 
 -- a message, a command and a save that weren't done ask nothing
 asks_nothing : (event : Event) (reply : Reply) → IsUndone reply → AsksNothing event reply
 asks_nothing (Do command) reply undone = undone
-asks_nothing (Ask message) reply undone = tt
+asks_nothing (Ask carrier message) reply undone = tt
 asks_nothing Save reply undone = undone
 
 -- ---- a turn
 
-module _ {D : Type 0} (tells : Bool) (seen : D → DiskSeen) (begun : Beginning D) {frames : List Frame} {replies : List Reply} {old : Stored} {before : D}
+module _ {D : Type 0} (tells : Bool) (seen : D → DiskSeen) (begun : Beginning D) {frames : List Frame} {replies : List Reply} {old : Bridged} {before : D}
     (r : IsReached tells seen begun frames replies old before) (event : Event) (reply : Reply) (after : D) where
   frames_are : frames ++ event_frame event ∷ [] ≡ map event_frame (r.events ++ event ∷ [])
   frames_are = ap (λ (fs : List Frame). fs ++ event_frame event ∷ []) r.frames_are ∙ frames_push r.events event
 
-  module _ (new : Stored) (a : AnswersEvent tells seen old before event reply (On new) after) (run : RunState) (b : Begins tells begun run) where
+  module _ (new : Bridged) (a : AnswersEvent tells seen old before event reply (On new) after) (run : RunState) (b : Begins tells begun run) where
     abbrev led : LeadsTo r.passes run
     led = r.each run b
 
@@ -141,7 +141,7 @@ module _ {D : Type 0} (tells : Bool) (seen : D → DiskSeen) (begun : Beginning 
     runs_next = run_push run r.events replies led.new (record { event = event; reply = reply; next = next; step = (a.step led.new led.stands).step }) led.runs
 
     crashes : IsTrue tells → OutlivesCrashes led.new event (seen before) (seen after) reply
-    crashes told = a.kept told led.new led.stands (led.files told).read
+    crashes told = a.kept told led.new led.stands.store (led.files told).read
 
     -- what came of the event in the run state, and on the disk
     came : Comes led.new next reply (after ≡ before)
@@ -192,7 +192,7 @@ module _ {D : Type 0} (tells : Bool) (seen : D → DiskSeen) (begun : Beginning 
     }
 
   -- the event was answered
-  pub reached_by : (new : Stored) → AnswersEvent tells seen old before event reply (On new) after
+  pub reached_by : (new : Bridged) → AnswersEvent tells seen old before event reply (On new) after
       → IsReached tells seen begun (frames ++ event_frame event ∷ []) (replies ++ reply ∷ []) new after
   reached_by new a = record {
     events = r.events ++ event ∷ [];
@@ -206,7 +206,7 @@ module _ {D : Type 0} (tells : Bool) (seen : D → DiskSeen) (begun : Beginning 
   module _ (a : AnswersEvent tells seen old before event reply Ended after) where
     failed : HasFailed (seen before) (seen after)
     failed = ends_with_it event refl a.leaves where
-      ends_with_it : (e : Event) → event ≡ e → LeavesDisk tells old (seen before) (seen after) event reply Ended → HasFailed (seen before) (seen after)
+      ends_with_it : (e : Event) → event ≡ e → LeavesDisk tells old.store (seen before) (seen after) event reply Ended → HasFailed (seen before) (seen after)
       ends_with_it e is l = l.ends
 
     module _ (run : RunState) (b : Begins tells begun run) where
@@ -215,7 +215,7 @@ module _ {D : Type 0} (tells : Bool) (seen : D → DiskSeen) (begun : Beginning 
 
       module _ (told : IsTrue tells) where
         broken : OutlivesCrashes led_to.new event (seen before) (seen after) reply
-        broken = a.kept told led_to.new led_to.stands (led_to.files told).read
+        broken = a.kept told led_to.new led_to.stands.store (led_to.files told).read
 
         abbrev keeping : Asked
         keeping = asked r.events replies (Some broken.next)

@@ -6,12 +6,13 @@ use Rattle.fault_counts.specs.Faults.{NeverFell, Rose}
 use Rattle.fault_counts.proofs.FaultLemmas.{NeverFell_refl, NeverFell_trans}
 use Rattle.byte_io.specs.Port.{Note, PortSeen, Adds, BindsTo, NotesFault}
 use Rattle.disk_model.specs.DiskSeen.{DiskSeen}
+use Rattle.port_loop.proofs.StretchLemmas.{answers_streams}
 use Rattle.port_loop.specs.Transcript.{PollTranscript, Attends}
 use Rattle.port_loop.specs.declared.attending.Ending.{Ending}
 use Rattle.port_loop.specs.declared.attending.Ending.TheVariants as endings
 use Rattle.chain_commands.specs.Event.{last_kind}
 use Rattle.name_store.specs.declared.faults.OpenFault.{OpenFault}
-use Rattle.name_store.specs.Stored.{Stored}
+use Rattle.bridge_core.specs.Bridged.{Bridged}
 use Rattle.bridge_core.specs.Opening.{status_of_fault, HasOpened, EndsWell, is_done}
 use Rattle.bridge_core.specs.Reached.{Beginning, IsReached, Reached, Broken}
 use Rattle.bridge_core.specs.Serving.{ServeSeen, ended, unbound, unbegun, Serves, status_of_ending}
@@ -82,13 +83,14 @@ module _ {D : Type 0} (s : Scene D) (l : Loop s) where
           at_first = l.reached;
           last = l.last;
           transcript = e;
+          streams = answers_streams last_kind (Reached s.tells s.seen) (Broken s.tells s.seen) s.plan.turns l.attends.notes (On l.begun.bridge, l.begun.opened) l.how (l.last, s.disk) e;
         });
         complete = λ told run stands well. complete_by l.how e well;
       }
 
 module _ {D : Type 0} (s : Scene D) where
   -- the port couldn't be bound
-  pub serves_unbound : NotesFault s.old.port s.new.port [] → (bridge : Stored) → HasOpened s.tells s.old.disk s.new.disk bridge
+  pub serves_unbound : NotesFault s.old.port s.new.port [] → (bridge : Bridged) → HasOpened s.tells s.old.disk s.new.disk bridge
       → Serves s.tells s.seen s.disk s.old s.new s.plan PortFault
   serves_unbound fault bridge opened = record {
     port_later = fault.noted.later;

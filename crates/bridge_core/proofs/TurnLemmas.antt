@@ -12,6 +12,8 @@ use Rattle.chain_commands.specs.Reply.{accepted_reply, no_memory_reply}
 use Rattle.chain_commands.specs.Refusals.{Refusals, HasNoneBelow, Answers, accepts, declines, lacks_memory, LeavesDone}
 use Rattle.chain_commands.specs.Saving as saving
 use Rattle.chain_commands.proofs.RefusalLemmas.{code_of}
+use Rattle.chain_commands.proofs.SavingLemmas.{saved_leaves}
+use Rattle.kept_answers.specs.Answering.{Answering, outdated}
 use Rattle.machine.specs.Leaving.{IsDoneBy}
 use Rattle.machine.specs.Step.{Step}
 use Rattle.name_store.specs.Outcomes as store
@@ -21,10 +23,13 @@ use Rattle.name_store.specs.declared.store.Outcome.{Outcome}
 use Rattle.name_store.specs.declared.store.Outcome.TheVariants.{Done, Refused, NoMemory, Faulted}
 use Rattle.name_store.specs.Saves.{IsSavedAs, save_refusal_of}
 use Rattle.name_store.specs.Stands.{Stands}
-use Rattle.name_store.specs.Stored.{Stored, StandsFor, IsTipOf}
-use Rattle.bridge_core.specs.Bridge.{IsValidEvent, IsUndone, AsksNothing, EndsOn, SparesFiles, fault_code, fault_reply, AnswersEvent}
+use Rattle.name_store.specs.Stored as stores
+use Rattle.name_store.specs.Stored.{Stored, IsTipOf}
+use Rattle.bridge_core.specs.Bridge.{IsValidEvent, IsUndone, AsksNothing, EndsOn, SparesFiles, KeepsAnswers, fault_code, fault_reply, AnswersEvent}
+use Rattle.bridge_core.specs.Bridged.{Bridged, StandsFor}
 use Rattle.bridge_core.specs.declared.bridge.Turned.{Turned}
 use Rattle.bridge_core.specs.declared.bridge.Turned.TheVariants.{On, Ended}
+use Rattle.bridge_core.proofs.BridgedLemmas.{stands_outdated, stands_still}
 use Rattle.bridge_core.proofs.DoneLemmas.{done_once}
 use Rattle.bridge_core.proofs.FileLemmas.{files_of, crashes_done, crashes_undone, crashes_faulted}
 
@@ -45,7 +50,8 @@ told_number number = record { code = 0; payload = to_le_bytes w64 number }
 -- ---- requests
 
 -- A request in the store and in the machine: its refusals with the condition of each, and the store's as the machine's; what it does in
--- the store and what it leaves in the machine where it is done; how what the store tells is told; and its event.
+-- the store and what it leaves in the machine where it is done; how what the store tells is told; its event; and what it makes of the
+-- answers that are kept where it is done.
 pub record Request (T R M : Type 0) : Type 1 where
   pub refusals : Refusals M
   pub HoldsOf : RunState → M → Type 0
@@ -54,15 +60,16 @@ pub record Request (T R M : Type 0) : Type 1 where
   pub LeavesOf : RunState → Reply → RunState → Type 0
   pub told_as : T → Reply
   pub event : Event
+  pub behind : Answering → Answering
 
 -- the run state that the machine leaves, which the store stands for
 pub record Leads {T R M : Type 0} (request : Request T R M) (run : RunState) (new : Stored) (told : T) : Type 0 where
   pub next : RunState
   pub leaves : request.LeavesOf run (request.told_as told) next
-  pub stands : StandsFor new next
+  pub stands : stores.StandsFor new next
 
--- It is no message; where it is done, code 0 is told and the machine leaves what the store stands for; an answer of the machine is
--- its step; and without a refusal it is valid.
+-- It is no message; where it is done, code 0 is told and the machine leaves what the store stands for, and the bridge with the answers
+-- behind it; an answer of the machine is its step; without a refusal it is valid; and where it isn't done the answers stay.
 pub record IsKind {T R M : Type 0} (request : Request T R M) : Type 0 where
   pub asks : (reply : Reply) → AsksNothing request.event reply → IsUndone reply
   pub code_is : (told : T) → (request.told_as told).code ≡ 0
@@ -70,6 +77,10 @@ pub record IsKind {T R M : Type 0} (request : Request T R M) : Type 0 where
   pub steps : (run : RunState) (reply : Reply) (new : RunState) → Answers request.refusals (request.HoldsOf run) (request.LeavesOf run) run reply new
       → Step run request.event reply new
   pub valid : (run : RunState) → HasNoneBelow (request.HoldsOf run) request.refusals.order request.refusals.places → IsValidEvent run request.event
+  pub stands : (run : RunState) (old new : Bridged) (told : T) (lead : Leads request run new.store told) → new.answers ≡ request.behind old.answers → StandsFor old run
+      → StandsFor new lead.next
+  pub goes_by : (old new : Bridged) (reply : Reply) → reply.code ≡ 0 → new.answers ≡ request.behind old.answers → KeepsAnswers old request.event reply (On new)
+  pub stays : (old new : Bridged) (reply : Reply) → (reply.code ≡ 0 → ⊥) → new.answers ≡ old.answers → KeepsAnswers old request.event reply (On new)
 
 abbrev pub a_command : {R M : Type 0} → Refusals M → (RunState → M → Type 0) → (R → M) → Command → Request Tip R M
 a_command refusals HoldsOf view command = record {
@@ -80,6 +91,7 @@ a_command refusals HoldsOf view command = record {
   LeavesOf = λ run reply new. LeavesDone run command reply new;
   told_as = told_tip;
   event = Do command;
+  behind = λ answers. outdated answers;
 }
 
 pub is_command : {R M : Type 0} (refusals : Refusals M) (HoldsOf : RunState → M → Type 0) (view : R → M) (command : Command)
@@ -95,6 +107,9 @@ is_command refusals HoldsOf view command steps valid = record {
   };
   steps = steps;
   valid = valid;
+  stands = λ run old new tip lead behind s. stands_outdated old new run lead.next s lead.stands behind;
+  goes_by = λ old new reply is_zero behind. (λ is. behind, λ other. absurd (other is_zero));
+  stays = λ old new reply other same. (λ is_zero. absurd (other is_zero), λ is. same);
 }
 
 abbrev pub a_save : Request ℕ SaveRefusal saving.SaveRefusal
@@ -106,6 +121,7 @@ a_save = record {
   LeavesOf = saving.LeavesSaved;
   told_as = told_number;
   event = Save;
+  behind = λ answers. answers;
 }
 
 pub is_save : IsKind a_save
@@ -115,20 +131,25 @@ is_save = record {
   leads = λ run new number did. record { next = did.next; leaves = record { is_saved = did.is_saved; told = ap told_number did.number_is }; stands = did.stands };
   steps = λ run reply new answers. answers;
   valid = λ run none. none;
+  stands = λ run old new number lead same s.
+      let saved = lead.leaves.is_saved in
+      stands_still old new run lead.next s lead.stands (ap (λ (x : RunState). x.host) saved.state_is) (ap chain_of saved.state_is ∙ saved_leaves run saved.text) same;
+  goes_by = λ old new reply is_zero same. same;
+  stays = λ old new reply other same. same;
 }
 
 -- ---- a turn
 
-pub ends_on : (before after : DiskSeen) (event : Event) (reply : Reply) (new : Stored) → (reply.code ≡ 0 → IsFalse after.failed) → EndsOn before after event reply (On new)
+pub ends_on : (before after : DiskSeen) (event : Event) (reply : Reply) (new : Bridged) → (reply.code ≡ 0 → IsFalse after.failed) → EndsOn before after event reply (On new)
 ends_on before after (Do command) reply new worked = worked
-ends_on before after (Ask message) reply new worked = tt
+ends_on before after (Ask carrier message) reply new worked = tt
 ends_on before after Save reply new worked = worked
 
 -- the bridge and its disk at a turn, and its reply
 pub record Turn (D : Type 0) : Type 0 where
   pub tells : Bool
   pub seen : D → DiskSeen
-  pub old : Stored
+  pub old : Bridged
   pub before : D
   pub after : D
   pub reply : Reply
@@ -139,27 +160,27 @@ module _ {D T R M : Type 0} (t : Turn D) (request : Request T R M) where
 
   -- what the store's call says
   pub record Did (outcome : Outcome T R) : Type 0 where
-    pub answers : (run : RunState) → StandsFor t.old run → AnswersFor request.refusals (request.HoldsOf run) request.view (request.DoesOf run) run outcome
+    pub answers : (run : RunState) → stores.StandsFor t.old.store run → AnswersFor request.refusals (request.HoldsOf run) request.view (request.DoesOf run) run outcome
     pub undone : IfUndone (t.after ≡ t.before) outcome
-    pub leaves : store.LeavesDisk t.tells (SparesFiles t.old request.event) (t.seen t.before) (t.seen t.after) outcome
-    pub kept : KeepsOn t.tells t.old (λ run next. IsDoneBy run request.event next) (t.seen t.before) (t.seen t.after) outcome
+    pub leaves : store.LeavesDisk t.tells (SparesFiles t.old.store request.event) (t.seen t.before) (t.seen t.after) outcome
+    pub kept : KeepsOn t.tells t.old.store (λ run next. IsDoneBy run request.event next) (t.seen t.before) (t.seen t.after) outcome
 
   abbrev pub Answered : Turned → Type 0
   Answered turned = AnswersEvent t.tells t.seen t.old t.before request.event t.reply turned t.after
 
   -- the machine's step stays where it is, and so does what the store stands for
   abbrev Stays : Stored → Type 0
-  Stays new = (run : RunState) → StandsFor t.old run → Step run request.event t.reply run × StandsFor new run
+  Stays new = (run : RunState) → stores.StandsFor t.old.store run → Step run request.event t.reply run × stores.StandsFor new run
 
   module _ (kind : IsKind request) where
-    pub request_done : (new : Stored) (told : T) → Did (Done new told) → t.reply ≡ request.told_as told → Answered (On new)
-    request_done new told d same =
+    pub request_done : (new : Bridged) (told : T) → Did (Done new.store told) → t.reply ≡ request.told_as told → new.answers ≡ request.behind t.old.answers → Answered (On new)
+    request_done new told d same behind =
         let is_zero : t.reply.code ≡ 0 = code_of t.reply (request.told_as told) same ∙ kind.code_is told in
-        let lead : (run : RunState) → StandsFor t.old run → Leads request run new told = λ run s. kind.leads run new told (d.answers run s).1 in
-        let step : (run : RunState) (s : StandsFor t.old run) → Step run request.event t.reply (lead run s).next = λ run s.
+        let lead : (run : RunState) → stores.StandsFor t.old.store run → Leads request run new.store told = λ run s. kind.leads run new.store told (d.answers run s).1 in
+        let step : (run : RunState) (s : stores.StandsFor t.old.store run) → Step run request.event t.reply (lead run s).next = λ run s.
         kind.steps run t.reply (lead run s).next (accepts (d.answers run s).0 (subst (λ (reply : Reply). request.LeavesOf run reply (lead run s).next) (sym same) (lead run s).leaves)) in
         record {
-          step = λ run s. record { new = (lead run s).next; step = step run s; stands = (lead run s).stands };
+          step = λ run s. record { new = (lead run s.store).next; step = step run s.store; stands = kind.stands run t.old new told (lead run s.store) behind s };
           told = λ fault. absurd (omega (arith, is_zero, fault));
           untouched = λ asks. absurd ((kind.asks t.reply asks).0 is_zero);
           leaves = record {
@@ -170,17 +191,18 @@ module _ {D T R M : Type 0} (t : Turn D) (request : Request T R M) where
           };
           kept = λ tell run s stands.
               let k = d.kept tell run s stands in
-              let stands_next = subst (StandsFor new) (done_once run request.event t.reply (lead run s).next k.next (step run s) is_zero k.is_next) (lead run s).stands in
+              let stands_next = subst (stores.StandsFor new.store) (done_once run request.event t.reply (lead run s).next k.next (step run s) is_zero k.is_next) (lead run s).stands in
               crashes_done run request.event (t.seen t.before) (t.seen t.after) t.reply (record { next = k.next; any_moment = k.any_moment }) is_zero k.is_next
-              (files_of new (t.seen t.after) (d.leaves.still_on tell) k.next stands_next k.done);
+              (files_of new.store (t.seen t.after) (d.leaves.still_on tell) k.next stands_next k.done);
+          answers = kind.goes_by t.old new t.reply is_zero behind;
         }
 
     -- the store is as it was, and the disk wasn't asked
-    request_undone : (new : Stored) → IsUndone t.reply → t.after ≡ t.before → Stays new
-        → store.LeavesDisk t.tells (SparesFiles t.old request.event) (t.seen t.before) (t.seen t.after) (lacking new)
-        → KeepsOn t.tells t.old (λ run next. IsDoneBy run request.event next) (t.seen t.before) (t.seen t.after) (lacking new) → Answered (On new)
-    request_undone new undone same stays leaves kept = record {
-      step = λ run s. record { new = run; step = (stays run s).0; stands = (stays run s).1 };
+    request_undone : (new : Bridged) → IsUndone t.reply → t.after ≡ t.before → Stays new.store → new.answers ≡ t.old.answers
+        → store.LeavesDisk t.tells (SparesFiles t.old.store request.event) (t.seen t.before) (t.seen t.after) (lacking new.store)
+        → KeepsOn t.tells t.old.store (λ run next. IsDoneBy run request.event next) (t.seen t.before) (t.seen t.after) (lacking new.store) → Answered (On new)
+    request_undone new undone same stays as_were leaves kept = record {
+      step = λ run s. record { new = run; step = (stays run s.store).0; stands = stands_still t.old new run run s (stays run s.store).1 refl refl as_were };
       told = undone.1;
       untouched = λ asks. same;
       leaves = record {
@@ -192,30 +214,33 @@ module _ {D T R M : Type 0} (t : Turn D) (request : Request T R M) where
       kept = λ tell run s stands.
           let k = kept tell run s stands in
           crashes_undone run request.event (t.seen t.before) (t.seen t.after) t.reply (record { next = k.next; any_moment = k.any_moment }) undone k.is_next
-          (files_of new (t.seen t.after) (leaves.still_on tell) run (stays run s).1 (subst (λ (d : D). Stands (bytes_in (t.seen d)) run) (sym same) stands));
+          (files_of new.store (t.seen t.after) (leaves.still_on tell) run (stays run s).1 (subst (λ (d : D). Stands (bytes_in (t.seen d)) run) (sym same) stands));
+      answers = kind.stays t.old new t.reply undone.0 as_were;
     }
 
-    pub request_refused : (new : Stored) (refusal : R) → Did (Refused new refusal) → t.reply ≡ request.refusals.reply_of (request.view refusal) → IsUndone t.reply → Answered (On new)
-    request_refused new refusal d told undone =
-        request_undone new undone d.undone (λ run s. (kind.steps run t.reply run (declines (request.view refusal) (d.answers run s).0 refl told), (d.answers run s).1))
+    pub request_refused : (new : Bridged) (refusal : R) → Did (Refused new.store refusal) → t.reply ≡ request.refusals.reply_of (request.view refusal) → IsUndone t.reply
+        → new.answers ≡ t.old.answers → Answered (On new)
+    request_refused new refusal d told undone as_were =
+        request_undone new undone d.undone (λ run s. (kind.steps run t.reply run (declines (request.view refusal) (d.answers run s).0 refl told), (d.answers run s).1)) as_were
         (record { later = d.leaves.later; worked = tt; failed = tt; still_on = d.leaves.still_on; others = d.leaves.others })
         (λ tell run s stands. let k = d.kept tell run s stands in record { next = k.next; is_next = k.is_next; done = tt; any_moment = k.any_moment })
 
-    pub request_lacking : (new : Stored) → Did (NoMemory new) → t.reply ≡ no_memory_reply → Answered (On new)
-    request_lacking new d told =
+    pub request_lacking : (new : Bridged) → Did (NoMemory new.store) → t.reply ≡ no_memory_reply → new.answers ≡ t.old.answers → Answered (On new)
+    request_lacking new d told as_were =
         let code = code_of t.reply no_memory_reply told in
         request_undone new (λ is_zero. omega (arith, code, is_zero), λ fault. omega (arith, code, fault)) d.undone
-        (λ run s. (kind.steps run t.reply run (lacks_memory (d.answers run s).0 refl told), (d.answers run s).1)) d.leaves d.kept
+        (λ run s. (kind.steps run t.reply run (lacks_memory (d.answers run s).0 refl told), (d.answers run s).1)) as_were d.leaves d.kept
 
     pub request_faulted : Did Faulted → t.reply ≡ fault_reply → Answered Ended
     request_faulted d told =
         let code : t.reply.code ≡ fault_code = code_of t.reply fault_reply told in
         record {
-          step = λ run s. kind.valid run (d.answers run s);
+          step = λ run s. kind.valid run (d.answers run s.store);
           told = told;
           untouched = λ asks. absurd ((kind.asks t.reply asks).1 code);
           leaves = record { later = d.leaves.later; ends = d.leaves.failed; others = d.leaves.others; still_on = λ tell. tt };
           kept = λ tell run s stands.
               let k = d.kept tell run s stands in
               crashes_faulted run request.event (t.seen t.before) (t.seen t.after) t.reply (record { next = k.next; any_moment = k.any_moment }) code k.is_next;
+          answers = tt;
         }

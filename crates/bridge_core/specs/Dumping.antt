@@ -9,7 +9,8 @@ use Rattle.name_report.specs.declared.reporting.ReportFault.{ReportFault}
 use Rattle.name_report.specs.declared.reporting.ReportFault.TheVariants as reports
 use Rattle.chain_commands.specs.RunState.{RunState, chain_of}
 use Rattle.name_store.specs.Stands.{Stands}
-use Rattle.name_store.specs.Stored.{Stored, StandsFor}
+use Rattle.name_store.specs.Stored.{StandsFor}
+use Rattle.bridge_core.specs.Bridged.{Bridged}
 use Rattle.bridge_core.specs.Opening.{IsUnbegun, HasOpened, WritesNothing, EndsWell}
 use Rattle.bridge_core.specs.declared.status.Status.{Status}
 use Rattle.bridge_core.specs.declared.status.Status.TheVariants.{Done, SinkFault, NoMemory}
@@ -32,13 +33,13 @@ status_of_report (Ok done) = Done
 status_of_report (Err reports.SinkFault) = SinkFault
 status_of_report (Err reports.NoMemory) = NoMemory
 
--- The files were opened, and the report of the index ended so: of every run state that the bridge stands for, as that of each that
+-- The files were opened, and the report of the index ended so: of every run state that the bridge's store stands for, as that of each that
 -- the files stood for.
 pub record DumpsSo (tells : Bool) (old new : DumpSeen) (result : Result (Unit {0}) ReportFault) : Type 0 where
-  pub bridge : Stored
+  pub bridge : Bridged
   pub opened : HasOpened tells old.disk new.disk bridge
-  pub report : Reports (reported_by bridge.index) old.sink new.sink result
-  pub of_runs : (run : RunState) → StandsFor bridge run → Reports (reported_of run) old.sink new.sink result
+  pub report : Reports (reported_by bridge.store.index) old.sink new.sink result
+  pub of_runs : (run : RunState) → StandsFor bridge.store run → Reports (reported_of run) old.sink new.sink result
 
 -- Each status with its cause: the sink took the whole report, or a part of it, or nothing was written.
 pub data DumpEnds (tells : Bool) (old new : DumpSeen) : Status → Type 0 where

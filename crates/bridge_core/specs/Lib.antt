@@ -1,4 +1,5 @@
 pub mod Views
+pub mod Bridged
 pub mod Bridge
 pub mod Reached
 pub mod Statuses

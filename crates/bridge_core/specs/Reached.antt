@@ -10,7 +10,9 @@ use Rattle.chain_commands.specs.RunState.{RunState}
 use Rattle.machine.specs.Step.{Run}
 use Rattle.machine.specs.Leaving.{IsDoneBy}
 use Rattle.name_store.specs.Stands.{Bytes, Stands, EachStandsForEither}
-use Rattle.name_store.specs.Stored.{Stored, StandsFor, IsOn}
+use Rattle.name_store.specs.Stored as stores
+use Rattle.name_store.specs.Stored.{IsOn}
+use Rattle.bridge_core.specs.Bridged.{Bridged, StandsFor}
 use Rattle.bridge_core.specs.Bridge.{fault_reply, IsValidEvent, AnswersEvent, AreFilesOf}
 use Rattle.bridge_core.specs.declared.bridge.Turned.{Turned}
 use Rattle.bridge_core.specs.declared.bridge.Turned.TheVariants.{On, Ended}
@@ -19,20 +21,20 @@ use Rattle.bridge_core.specs.declared.bridge.Turned.TheVariants.{On, Ended}
 pub record Beginning (D : Type 0) : Type 0 where
   pub before : DiskSeen
   pub opened : D
-  pub bridge : Stored
+  pub bridge : Bridged
 
--- the bridge that was opened stands for the run state, and so did the files as they were read
+-- the store that was opened stands for the run state, and so did the files as they were read
 pub record Begins {D : Type 0} (tells : Bool) (start : Beginning D) (run : RunState) : Type 0 where
-  pub stands : StandsFor start.bridge run
+  pub stands : stores.StandsFor start.bridge.store run
   pub files : IsTrue tells → Stands (bytes_in start.before) run
 
 -- ---- turns, one after the other
 
 -- From the opened bridge on these events got these replies, each answered on the disk that the one before left: so between two
 -- of them the disk is asked nothing, and each reply is given away over the disk that stands behind its event.
-pub data Passes {D : Type 0} (tells : Bool) (seen : D → DiskSeen) (start : Beginning D) : List Event → List Reply → Stored → D → Type 0 where
+pub data Passes {D : Type 0} (tells : Bool) (seen : D → DiskSeen) (start : Beginning D) : List Event → List Reply → Bridged → D → Type 0 where
   none_yet : Passes tells seen start [] [] start.bridge start.opened
-  one_more : {events : List Event} {replies : List Reply} {old : Stored} {before : D} (event : Event) (reply : Reply) (new : Stored) (after : D)
+  one_more : {events : List Event} {replies : List Reply} {old : Bridged} {before : D} (event : Event) (reply : Reply) (new : Bridged) (after : D)
       → Passes tells seen start events replies old before → AnswersEvent tells seen old before event reply (On new) after
       → Passes tells seen start (events ++ event ∷ []) (replies ++ reply ∷ []) new after
 
@@ -79,7 +81,7 @@ LeavesOldOrFront old run so_far files = (image_is : Bytes) → IsImage files ima
 
 -- at each moment since the reply to an event was given away, whatever a crash leaves stands for the run state behind that event
 -- or a later one: so for each of them, and for the opening
-abbrev pub HoldsAnswered : {D : Type 0} {tells : Bool} {seen : D → DiskSeen} {start : Beginning D} {events : List Event} {replies : List Reply} {bridge : Stored} {disk : D}
+abbrev pub HoldsAnswered : {D : Type 0} {tells : Bool} {seen : D → DiskSeen} {start : Beginning D} {events : List Event} {replies : List Reply} {bridge : Bridged} {disk : D}
     → RunState → Asked → DiskSeen → Passes tells seen start events replies bridge disk → Type 0
 HoldsAnswered {seen = seen} {start = start} run so_far now none_yet = EachMoment (LeavesFront run 0 so_far) (seen start.opened).moments now.moments
 HoldsAnswered {seen = seen} run so_far now (one_more {events = events} event reply new after before by) =
@@ -89,7 +91,7 @@ HoldsAnswered {seen = seen} run so_far now (one_more {events = events} event rep
 
 -- Of a run state that it began at: the machine gives these replies, the bridge stands for what they lead to, and so do the files. Of
 -- what crashes leave.
-pub record LeadsTo {D : Type 0} {tells : Bool} {seen : D → DiskSeen} {start : Beginning D} {events : List Event} {replies : List Reply} {bridge : Stored} {disk : D}
+pub record LeadsTo {D : Type 0} {tells : Bool} {seen : D → DiskSeen} {start : Beginning D} {events : List Event} {replies : List Reply} {bridge : Bridged} {disk : D}
     (passes : Passes tells seen start events replies bridge disk) (run : RunState) : Type 0 where
   pub new : RunState
   pub runs : Run run events replies new
@@ -99,7 +101,7 @@ pub record LeadsTo {D : Type 0} {tells : Bool} {seen : D → DiskSeen} {start : 
   pub acknowledged : IsTrue tells → HoldsAnswered run (asked events replies None) (seen disk) passes
 
 -- the frames are events, which were answered by these replies, and of every run state that the run began at
-pub record IsReached {D : Type 0} (tells : Bool) (seen : D → DiskSeen) (start : Beginning D) (frames : List Frame) (replies : List Reply) (bridge : Stored) (disk : D) : Type 0 where
+pub record IsReached {D : Type 0} (tells : Bool) (seen : D → DiskSeen) (start : Beginning D) (frames : List Frame) (replies : List Reply) (bridge : Bridged) (disk : D) : Type 0 where
   pub events : List Event
   pub frames_are : frames ≡ map event_frame events
   pub passes : Passes tells seen start events replies bridge disk
@@ -109,7 +111,7 @@ pub record IsReached {D : Type 0} (tells : Bool) (seen : D → DiskSeen) (start 
 -- ---- a bridge that a fault of the disk has ended
 
 -- Behind events that led to the run state `mid`: whatever a crash leaves stands for that, or for one that the last event makes of it.
-pub record KeepsNext {D : Type 0} {tells : Bool} {seen : D → DiskSeen} {start : Beginning D} {events : List Event} {replies : List Reply} {bridge : Stored} {before : D}
+pub record KeepsNext {D : Type 0} {tells : Bool} {seen : D → DiskSeen} {start : Beginning D} {events : List Event} {replies : List Reply} {bridge : Bridged} {before : D}
     (passes : Passes tells seen start events replies bridge before) (last : Event) (disk : D) (run mid : RunState) : Type 0 where
   pub kept : RunState
   pub is_kept : IsDoneBy mid last kept
@@ -119,7 +121,7 @@ pub record KeepsNext {D : Type 0} {tells : Bool} {seen : D → DiskSeen} {start 
 
 -- Of a run state that it began at: the machine gives all but the last event their replies, and the last is a command or a save without
 -- a refusal. Of what crashes leave.
-pub record BreaksAt {D : Type 0} {tells : Bool} {seen : D → DiskSeen} {start : Beginning D} {events : List Event} {replies : List Reply} {bridge : Stored} {before : D}
+pub record BreaksAt {D : Type 0} {tells : Bool} {seen : D → DiskSeen} {start : Beginning D} {events : List Event} {replies : List Reply} {bridge : Bridged} {before : D}
     (passes : Passes tells seen start events replies bridge before) (last : Event) (disk : D) (run : RunState) : Type 0 where
   pub new : RunState
   pub runs : Run run events replies new
@@ -132,7 +134,7 @@ pub record IsBroken {D : Type 0} (tells : Bool) (seen : D → DiskSeen) (start :
   pub events : List Event
   pub last : Event
   pub answered : List Reply
-  pub bridge : Stored
+  pub bridge : Bridged
   pub before : D
   pub frames_are : frames ≡ map event_frame (events ++ last ∷ [])
   pub replies_are : replies ≡ answered ++ fault_reply ∷ []
@@ -147,7 +149,7 @@ pub record IsBroken {D : Type 0} (tells : Bool) (seen : D → DiskSeen) (start :
 
 -- the bridge is on the disk
 abbrev pub IsReady : Bool → Turned → DiskSeen → Type 0
-IsReady tells (On bridge) disk = IsTrue tells → IsOn bridge disk.moments.now
+IsReady tells (On bridge) disk = IsTrue tells → IsOn bridge.store disk.moments.now
 IsReady tells Ended disk = ⊥
 
 abbrev pub HasReached : {D : Type 0} → Bool → (D → DiskSeen) → Beginning D → List Frame → List Reply → Turned → D → Type 0

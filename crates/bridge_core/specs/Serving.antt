@@ -3,13 +3,14 @@ use Rattle.std.specs.Prelude.{◌≡◌, ◌⊎◌, Bool, IsTrue, List, [], Some
 use Rattle.fault_counts.specs.Faults.{NeverFell, Rose}
 use Rattle.byte_io.specs.Port.{Note, PortSeen, Adds, NotesFault}
 use Rattle.disk_model.specs.DiskSeen.{DiskSeen, bytes_in}
+use Rattle.port_loop.specs.Stretches.{AnswersStreams}
 use Rattle.port_loop.specs.Transcript.{PollTranscript}
 use Rattle.port_loop.specs.declared.attending.Ending.{Ending}
 use Rattle.port_loop.specs.declared.attending.Ending.TheVariants as endings
 use Rattle.chain_commands.specs.Event.{last_kind}
 use Rattle.chain_commands.specs.RunState.{RunState}
 use Rattle.name_store.specs.Stands.{Stands}
-use Rattle.name_store.specs.Stored.{Stored}
+use Rattle.bridge_core.specs.Bridged.{Bridged}
 use Rattle.bridge_core.specs.Opening.{IsUnbegun, HasOpened, WritesNothing, EndsWell}
 use Rattle.bridge_core.specs.Reached.{Beginning, Reached, Broken}
 use Rattle.bridge_core.specs.declared.bridge.Turned.{Turned}
@@ -32,7 +33,8 @@ status_of_ending endings.Done = Done
 status_of_ending endings.Ended = DiskFault
 
 -- The files were opened, the port was bound to the two numbers, and the loop over its polls ended so, from the bridge that was
--- opened: no frame had changed it.
+-- opened: no frame had changed it. Over each client's stream, from the piece with which the client came to be held, its messages got their
+-- replies, and nothing else; and a stream was closed exactly where its piece was refused.
 pub record ServesSo {D : Type 0} (tells : Bool) (seen : D → DiskSeen) (disk : D) (old new : ServeSeen) (plan : Plan) (how : Ending) : Type 0 where
   pub start : Beginning D
   pub start_is : start.before ≡ old.disk
@@ -43,10 +45,11 @@ pub record ServesSo {D : Type 0} (tells : Bool) (seen : D → DiskSeen) (disk : 
   pub at_first : Reached tells seen start [] [] (On start.bridge, start.opened)
   pub last : Turned
   pub transcript : PollTranscript last_kind (Reached tells seen) (Broken tells seen) plan.turns notes (On start.bridge, start.opened) how (last, disk)
+  pub streams : AnswersStreams last_kind (Reached tells seen) (Broken tells seen) plan.turns notes (On start.bridge, start.opened) how (last, disk) transcript
 
 -- the files were opened, and nothing came of it
 pub record StaysOpened (tells : Bool) (old new : DiskSeen) : Type 0 where
-  pub bridge : Stored
+  pub bridge : Bridged
   pub opened : HasOpened tells old new bridge
 
 -- Each status with its cause. Where no poll was made nothing was written to the files; and the port was asked nothing, or there was a fault as

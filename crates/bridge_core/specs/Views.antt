@@ -2,6 +2,8 @@
 use Rattle.std.specs.Prelude.{◌≤◌, length, ⊤}
 use Rattle.nmc_base.specs.declared.limits.TheConstants.{LONGEST_BLOCK}
 use Rattle.chain_commands.specs.Event as machine
+use Rattle.dns_message.specs.declared.transport.Transport.{Transport}
+use Rattle.dns_message.specs.declared.transport.Transport.TheVariants.{Udp, Tcp}
 use Rattle.bridge_core.specs.declared.event.ChainCommand.{ChainCommand}
 use Rattle.bridge_core.specs.declared.event.ChainCommand.TheVariants.{Connect, Disconnect}
 use Rattle.bridge_core.specs.declared.answering.Request.{Request}
@@ -13,9 +15,14 @@ abbrev pub command_of : ChainCommand → machine.Command
 command_of (Connect block) = machine.Connect block.now
 command_of (Disconnect hash) = machine.Disconnect hash.0
 
+-- a datagram over UDP, a stream over TCP
+abbrev pub carrier_of : Transport → machine.Carrier
+carrier_of Udp = machine.Datagram
+carrier_of Tcp = machine.Stream
+
 abbrev pub event_of : Event → machine.Event
 event_of (Do command_is) = machine.Do (command_of command_is)
-event_of (Ask message) = machine.Ask message.now
+event_of (Ask transport message) = machine.Ask (carrier_of transport) message.now
 event_of Save = machine.Save
 
 abbrev pub request_of : Request → machine.Event
@@ -30,7 +37,7 @@ IsWithinLimits (Disconnect hash) = ⊤
 -- a message may have any
 abbrev pub IsReadable : Event → Type 0
 IsReadable (Do command_is) = IsWithinLimits command_is
-IsReadable (Ask message) = ⊤
+IsReadable (Ask transport message) = ⊤
 IsReadable Save = ⊤
 
 abbrev pub IsRequestWithinLimits : Request → Type 0

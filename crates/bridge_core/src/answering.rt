@@ -4,11 +4,12 @@ ghost use Rattle.chain_commands.specs.Event.{Ask, event_frame};
 ghost use Rattle.name_store.specs.Stored.{IsOn};
 ghost use Rattle.bridge_core.specs.Bridge.{AnswersEvent};
 ghost use Rattle.bridge_core.specs.Reached.{Ready, Reached, Broken};
-ghost use Rattle.bridge_core.specs.Views.{request_of, IsRequestWithinLimits};
+ghost use Rattle.bridge_core.specs.Views.{carrier_of, request_of, IsRequestWithinLimits};
 
 use crate::bridge::{Bridge, Turned};
 use crate::event::{ChainCommand, Event, read_event};
 use disk_model::Disk;
+use dns_message::Transport;
 use feed_frames::Frame;
 use frame_loop::{Answerer, Over, ReplyBuf};
 use nmc_base::Steps;
@@ -33,7 +34,7 @@ fn act<D: Disk, L: Ledger>(
     steps: &mut Steps<L>,
 ) -> Turned
     requires within { IsRequestWithinLimits request }
-    requires on_disk { IsTrue D.tells → IsOn bridge (D.seen disk.old).moments.now }
+    requires on_disk { IsTrue D.tells → IsOn bridge.store (D.seen disk.old).moments.now }
     ensures { AnswersEvent D.tells D.seen bridge disk.old (request_of request.entry) reply.new result disk.new }
 {
     match request {
@@ -72,17 +73,18 @@ fn ask<D: Disk>(
     turned: &mut Turned,
     alloc: Global,
     disk: &D,
+    transport: Transport,
     message: &[u8],
     reply: &mut ReplyBuf,
 ) -> Result<(), Over>
     requires ready { Ready D.tells D.seen (turned.old, disk.now) }
-    ensures { loops.Turns (Ready D.tells D.seen) (Reached D.tells D.seen) (Broken D.tells D.seen) (turned.old, disk.now) (event_frame (Ask message.now)) reply.new (turned.new, disk.now) result }
+    ensures { loops.Turns (Ready D.tells D.seen) (Reached D.tells D.seen) (Broken D.tells D.seen) (turned.old, disk.now) (event_frame (Ask (carrier_of transport) message.now)) reply.new (turned.new, disk.now) result }
 {
     let _ = disk;
     match turned {
         Turned::Ended => Err(Over),
         Turned::On(bridge) => {
-            bridge.query(alloc, message, reply);
+            bridge.query(alloc, transport, message, reply);
             Ok(())
         }
     }
@@ -114,7 +116,7 @@ impl<D: Disk> Answerer<D> for Turned {
         steps: &mut Steps<L>,
     ) -> Result<(), Over> {
         match read_event(frame) {
-            Event::Ask(message) => ask(self, alloc, disk, message, reply),
+            Event::Ask(transport, message) => ask(self, alloc, disk, transport, message, reply),
             Event::Do(command) => deal(self, alloc, disk, Request::Command(command), reply, steps),
             Event::Save => deal(self, alloc, disk, Request::Save, reply, steps),
         }

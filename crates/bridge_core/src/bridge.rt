@@ -1,45 +1,53 @@
-ghost use Rattle.std.specs.Prelude.{◌≡◌, ◌≢◌, ◌≤◌, length, IsTrue, OnOk};
+ghost use Rattle.std.specs.Prelude.{◌≡◌, ◌≤◌, length, IsTrue, IfOk, OnOk};
 ghost use Rattle.nmc_base.specs.declared.limits.TheConstants.{LONGEST_BLOCK};
 ghost use Rattle.disk_model.specs.Changes.{KeepsSettled};
 ghost use Rattle.disk_model.specs.Moments.{EachMoment};
 ghost use Rattle.disk_model.specs.DiskSeen.{EndsWith, bytes_in};
-ghost use Rattle.chain_commands.specs.Event.{Ask, Connect, Disconnect, Do, Save};
+ghost use Rattle.chain_commands.specs.Event.{Connect, Disconnect, Do, Save};
 ghost use Rattle.chain_commands.specs.RunState.{RunState};
+ghost use Rattle.kept_answers.specs.Answering.{none_kept};
 ghost use Rattle.name_report.specs.Report.{Reports, reported_by};
 ghost use Rattle.name_store.specs.Opening.{IsSynced, OpenAnswer};
-ghost use Rattle.name_store.specs.Stored.{StandsFor, IsOn};
-ghost use Rattle.bridge_core.specs.Bridge.{AnswersEvent, IsCheapTurn, MakesStep, fault_code};
+ghost use Rattle.name_store.specs.Stands.{Stands};
+ghost use Rattle.name_store.specs.Stored as stores;
+ghost use Rattle.name_store.specs.Stored.{IsOn};
+ghost use Rattle.bridge_core.specs.Bridged.{StandsFor};
+ghost use Rattle.bridge_core.specs.Bridge.{AnswersEvent, AnswersQuery, IsCheapTurn};
 ghost use Rattle.bridge_core.specs.Dumping.{reported_of};
-ghost use Rattle.bridge_core.specs.Views.{command_of, IsWithinLimits};
+ghost use Rattle.bridge_core.specs.Opening.{store_in};
+ghost use Rattle.bridge_core.specs.Views.{carrier_of, command_of, IsWithinLimits};
 
+use crate::desk::Desk;
 use crate::event::ChainCommand;
-use crate::querying::answer_query;
 use crate::replies::{
     accept, lack_memory, refuse, refuse_back, refuse_save, tell_fault, tell_saved,
 };
 use byte_io::Sink;
 use disk_model::Disk;
+use dns_message::Transport;
 use frame_loop::ReplyBuf;
+use kept_answers::Cache;
 use name_report::{ReportFault, report};
 use name_store::{OpenFault, Outcome, Store};
-use nmc_base::{Hash32, Steps};
+use nmc_base::{Hash32, NoMemory, Steps};
 use std::alloc::Global;
 use std::marker::Model;
 use std::sync::ledger::Ledger;
 
-/// The bridge over a chain of blocks, whose commands and saves are kept in the files of a disk. Contracts see its store. It holds no
-/// disk.
+/// The bridge over a chain of blocks, whose commands and saves are kept in the files of a disk. Contracts see its store, and the answers
+/// that it keeps. It holds no disk.
 #[derive(Drop)]
 pub struct Bridge {
     store: Store,
+    desk: Desk,
 }
 
 impl Model for Bridge {
-    ghost use Rattle.name_store.specs.Stored.{Stored};
+    ghost use Rattle.bridge_core.specs.Bridged.{Bridged};
 
-    ghost Value = { Stored };
+    ghost Value = { Bridged };
 
-    ghost view = { λ b. b.store };
+    ghost view = { λ b. record { store = b.store; answers = b.desk } };
 }
 
 /// What came of a turn: the bridge goes on, or a fault of the disk has ended it. Then open the files again.
@@ -56,17 +64,23 @@ impl Bridge {
     }
 
     /// Opens the files: the bridge stands for the run state that they stand for. It writes nothing and cuts nothing, and syncs
-    /// each of the three files.
+    /// each of the three files. The room for replies is taken before, and so is that of the answers that are kept: it has none yet.
     pub fn open<D: Disk>(alloc: Global, disk: &mut D) -> Result<Bridge, OpenFault>
-        ensures answer { IsTrue D.tells → OpenAnswer (bytes_in (D.seen disk.old)) (D.seen disk.new).moments.now result }
+        ensures answer { IsTrue D.tells → OpenAnswer (bytes_in (D.seen disk.old)) (D.seen disk.new).moments.now (store_in result) }
+        ensures empty { IfOk result (λ bridge. bridge.answers ≡ none_kept) }
+        ensures runs { IsTrue D.tells → IfOk result (λ bridge. (run : RunState) → Stands (bytes_in (D.seen disk.old)) run → StandsFor bridge run) }
         ensures synced { IsTrue D.tells → OnOk result (IsSynced (D.seen disk.old) (D.seen disk.new)) }
         ensures time { IsTrue D.tells
             → EachMoment (KeepsSettled (D.seen disk.old).moments.now) (D.seen disk.old).moments (D.seen disk.new).moments }
         ensures reads { (D.seen disk.new).changes ≡ (D.seen disk.old).changes }
         ensures ends { EndsWith OpenFault.DiskFault (D.seen disk.old) (D.seen disk.new) result }
     {
+        let desk = match Desk::new(alloc) {
+            Ok(desk) => desk,
+            Err(NoMemory) => return Err(OpenFault::NoMemory),
+        };
         match Store::open(alloc, disk) {
-            Ok(store) => Ok(Bridge { store }),
+            Ok(store) => Ok(Bridge { store, desk }),
             Err(fault) => Err(fault),
         }
     }
@@ -81,22 +95,24 @@ impl Bridge {
         steps: &mut Steps<L>,
     ) -> Turned
         requires short { length bytes.now ≤ LONGEST_BLOCK }
-        requires on_disk { IsTrue D.tells → IsOn self (D.seen disk.old).moments.now }
+        requires on_disk { IsTrue D.tells → IsOn self.store (D.seen disk.old).moments.now }
         ensures answers { AnswersEvent D.tells D.seen self disk.old (Do (Connect bytes.now)) reply.new result disk.new }
-        ensures cost { IsCheapTurn self (Connect bytes.now) reply.new result steps.old steps.new }
+        ensures cost { IsCheapTurn self.store (Connect bytes.now) reply.new result steps.old steps.new }
     {
-        match self.store.connect(alloc, disk, bytes, steps) {
+        let Bridge { store, mut desk } = self;
+        match store.connect(alloc, disk, bytes, steps) {
             Outcome::Done(store, tip) => {
                 accept(reply, &tip);
-                Turned::On(Bridge { store })
+                desk.outdate();
+                Turned::On(Bridge { store, desk })
             }
             Outcome::Refused(store, refusal) => {
                 refuse(reply, &refusal);
-                Turned::On(Bridge { store })
+                Turned::On(Bridge { store, desk })
             }
             Outcome::NoMemory(store) => {
                 lack_memory(reply);
-                Turned::On(Bridge { store })
+                Turned::On(Bridge { store, desk })
             }
             Outcome::Faulted => {
                 tell_fault(reply);
@@ -115,22 +131,24 @@ impl Bridge {
         reply: &mut ReplyBuf,
         steps: &mut Steps<L>,
     ) -> Turned
-        requires on_disk { IsTrue D.tells → IsOn self (D.seen disk.old).moments.now }
+        requires on_disk { IsTrue D.tells → IsOn self.store (D.seen disk.old).moments.now }
         ensures answers { AnswersEvent D.tells D.seen self disk.old (Do (Disconnect hash.0)) reply.new result disk.new }
-        ensures cost { IsCheapTurn self (Disconnect hash.0) reply.new result steps.old steps.new }
+        ensures cost { IsCheapTurn self.store (Disconnect hash.0) reply.new result steps.old steps.new }
     {
-        match self.store.disconnect(alloc, disk, hash, steps) {
+        let Bridge { store, mut desk } = self;
+        match store.disconnect(alloc, disk, hash, steps) {
             Outcome::Done(store, tip) => {
                 accept(reply, &tip);
-                Turned::On(Bridge { store })
+                desk.outdate();
+                Turned::On(Bridge { store, desk })
             }
             Outcome::Refused(store, refusal) => {
                 refuse_back(reply, &refusal);
-                Turned::On(Bridge { store })
+                Turned::On(Bridge { store, desk })
             }
             Outcome::NoMemory(store) => {
                 lack_memory(reply);
-                Turned::On(Bridge { store })
+                Turned::On(Bridge { store, desk })
             }
             Outcome::Faulted => {
                 tell_fault(reply);
@@ -161,9 +179,9 @@ impl Bridge {
         steps: &mut Steps<L>,
     ) -> Turned
         requires within { IsWithinLimits command }
-        requires on_disk { IsTrue D.tells → IsOn self (D.seen disk.old).moments.now }
+        requires on_disk { IsTrue D.tells → IsOn self.store (D.seen disk.old).moments.now }
         ensures answers { AnswersEvent D.tells D.seen self disk.old (Do (command_of command.entry)) reply.new result disk.new }
-        ensures cost { IsCheapTurn self (command_of command.entry) reply.new result steps.old steps.new }
+        ensures cost { IsCheapTurn self.store (command_of command.entry) reply.new result steps.old steps.new }
     {
         match command {
             ChainCommand::Connect(bytes) => self.connect(alloc, disk, bytes, reply, steps),
@@ -183,21 +201,22 @@ impl Bridge {
     /// latter. Both have the same chain, and the area that was selected before stays as it was. It writes the whole index: meanwhile
     /// nothing else is answered.
     pub fn save<D: Disk>(self, alloc: Global, disk: &mut D, reply: &mut ReplyBuf) -> Turned
-        requires on_disk { IsTrue D.tells → IsOn self (D.seen disk.old).moments.now }
+        requires on_disk { IsTrue D.tells → IsOn self.store (D.seen disk.old).moments.now }
         ensures { AnswersEvent D.tells D.seen self disk.old Save reply.new result disk.new }
     {
-        match self.store.save(alloc, disk) {
+        let Bridge { store, desk } = self;
+        match store.save(alloc, disk) {
             Outcome::Done(store, number) => {
                 tell_saved(reply, number);
-                Turned::On(Bridge { store })
+                Turned::On(Bridge { store, desk })
             }
             Outcome::Refused(store, refusal) => {
                 refuse_save(reply, refusal);
-                Turned::On(Bridge { store })
+                Turned::On(Bridge { store, desk })
             }
             Outcome::NoMemory(store) => {
                 lack_memory(reply);
-                Turned::On(Bridge { store })
+                Turned::On(Bridge { store, desk })
             }
             Outcome::Faulted => {
                 tell_fault(reply);
@@ -206,21 +225,34 @@ impl Bridge {
         }
     }
 
-    /// Answers a message of DNS from the names that the chain serves: code 8 is that of one that gets no reply, and code 0 of
-    /// all others, whose reply is the payload, SERVFAIL for want of memory. It asks nothing of the disk.
-    pub fn query(&mut self, alloc: Global, message: &[u8], reply: &mut ReplyBuf)
-        ensures step { MakesStep self.old (Ask message.now) reply.new (Turned.On self.new) }
-        ensures no_fault { reply.new.code ≢ fault_code }
-        ensures same { self.new ≡ self.old }
+    /// The cache of answers, with its counts.
+    pub fn cache(&self) -> &Cache
+        ensures { result.now ≡ self.now.answers.cache }
     {
-        answer_query(alloc, &self.store, message, reply);
+        self.desk.cache()
+    }
+
+    /// Answers a message of DNS, which came by this transport, from the names that the chain serves, or from an answer to those
+    /// who asked the same before. Code 8 is that of one that gets no reply, and code 0 of all others, whose reply is the payload,
+    /// SERVFAIL for want of memory. It asks nothing of the disk.
+    pub fn query(
+        &mut self,
+        alloc: Global,
+        transport: Transport,
+        message: &[u8],
+        reply: &mut ReplyBuf,
+    )
+        ensures { AnswersQuery self.old (carrier_of transport) message.now reply.new self.new }
+    {
+        self.desk
+            .answer(alloc, &self.store, transport, message, reply);
     }
 
     /// Gives the report of the chain to the sink: its tip, and each name with all that it was given. All memory is taken
     /// before the first write.
     pub fn report<K: Sink>(&self, alloc: Global, sink: &mut K) -> Result<(), ReportFault>
-        ensures index { Reports (reported_by self.now.index) (K.seen sink.old) (K.seen sink.new) result }
-        ensures runs { (run : RunState) → StandsFor self.now run → Reports (reported_of run) (K.seen sink.old) (K.seen sink.new) result }
+        ensures index { Reports (reported_by self.now.store.index) (K.seen sink.old) (K.seen sink.new) result }
+        ensures runs { (run : RunState) → stores.StandsFor self.now.store run → Reports (reported_of run) (K.seen sink.old) (K.seen sink.new) result }
     {
         report(alloc, self.store.chain(), sink)
     }

@@ -4,8 +4,9 @@ ghost use Rattle.chain_commands.specs.Event.{event_frame, last_kind};
 ghost use Rattle.frame_loop.specs.Turns.{IsAskable};
 ghost use Rattle.bridge_core.specs.Views.{event_of, IsReadable};
 
+use dns_message::Transport;
 use feed_frames::Frame;
-use frame_loop::QUERY;
+use frame_loop::{QUERY, STREAM_QUERY};
 use nmc_base::Hash32;
 
 /// What changes the chain, where it is accepted.
@@ -17,13 +18,13 @@ pub enum ChainCommand<'a> {
     Disconnect(Hash32),
 }
 
-/// What a bridge is asked to do: one whole frame.
+/// What a bridge is asked to do: one whole frame, or a message over a stream.
 #[derive(Clone, Copy, Debug)]
 pub enum Event<'a> {
     /// A command on the chain.
     Do(ChainCommand<'a>),
-    /// A message of DNS that is to be answered.
-    Ask(&'a [u8]),
+    /// A message of DNS that is to be answered by the transport that it came by.
+    Ask(Transport, &'a [u8]),
     /// The index is to be saved.
     Save,
 }
@@ -44,7 +45,10 @@ pub(crate) fn read_event(frame: Frame<'_>) -> Event<'_>
         return Event::Do(ChainCommand::Connect(frame.payload));
     }
     if frame.kind == QUERY {
-        return Event::Ask(frame.payload);
+        return Event::Ask(Transport::Udp, frame.payload);
+    }
+    if frame.kind == STREAM_QUERY {
+        return Event::Ask(Transport::Tcp, frame.payload);
     }
     if frame.kind == SAVE {
         return Event::Save;

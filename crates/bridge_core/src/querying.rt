@@ -1,32 +1,34 @@
-ghost use Rattle.std.specs.Prelude.{◌≢◌};
-ghost use Rattle.chain_commands.specs.RunState.{RunState};
-ghost use Rattle.dns_message.specs.declared.numbers.TheConstants.{LEAST_LIMIT as limit};
-ghost use Rattle.machine.specs.Querying.{Queries};
-ghost use Rattle.name_store.specs.Stored.{StandsFor};
-ghost use Rattle.bridge_core.specs.Bridge.{fault_code};
+ghost use Rattle.std.specs.Prelude.{◌≤◌, length};
+ghost use Rattle.dns_message.specs.Limits.{most_of};
+ghost use Rattle.bridge_core.specs.Bridge.{AnswersQuery};
+ghost use Rattle.bridge_core.specs.Bridged.{bridged};
+ghost use Rattle.bridge_core.specs.Views.{carrier_of};
 
 use crate::codes;
-use dns_message::LEAST_LIMIT;
+use dns_message::Transport;
 use frame_loop::ReplyBuf;
+use kept_answers::Answers;
 use machine::{Answered, answer};
 use name_store::Store;
 use port_loop::DROPPED;
 use std::alloc::Global;
 
-/// Answers a message of DNS over UDP from the names that the store's chain serves: code 0 and the reply, or code 8 where it gets none.
-pub(crate) fn answer_query(alloc: Global, store: &Store, message: &[u8], reply: &mut ReplyBuf)
-    ensures answers { (run : RunState) → StandsFor store.now run → Queries limit run message.now reply.new run }
-    ensures no_fault { reply.new.code ≢ fault_code }
+/// Answers a message of DNS from the names that the store's chain serves, or from an answer that is kept, by means of room for the
+/// text: code 0 and the reply, or code 8 where it gets none.
+pub(crate) fn answer_in(
+    alloc: Global,
+    answers: &mut Answers,
+    store: &Store,
+    transport: Transport,
+    message: &[u8],
+    text: &mut [u8],
+    reply: &mut ReplyBuf,
+)
+    requires { most_of transport ≤ length text.old }
+    ensures { AnswersQuery (bridged store.now answers.old) (carrier_of transport) message.now reply.new (bridged store.now answers.new) }
 {
-    let mut text = [0; LEAST_LIMIT];
-    match answer(
-        alloc,
-        store.chain(),
-        store.host(),
-        message,
-        LEAST_LIMIT,
-        &mut text,
-    ) {
+    let (chain, host) = (store.chain(), store.host());
+    match answer(alloc, answers, chain, host, message, transport, text) {
         Answered::Dropped => reply.set(DROPPED, &[], &[]),
         Answered::Text(size) => reply.set(codes::DONE, &[], &text[..size]),
     }

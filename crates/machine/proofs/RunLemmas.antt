@@ -42,7 +42,7 @@ decided_step old (Do (Connect block)) one two e =
     decided connects (Holds (IsFull old (Connect block)) (chain_of old) block) (LeavesDone old (Connect block)) old (command_does old (Connect block)) coded one two e
 decided_step old (Do (Disconnect hash)) one two e =
     decided disconnects (HoldsBack (IsFull old (Disconnect hash)) (chain_of old) hash) (LeavesDone old (Disconnect hash)) old (command_does old (Disconnect hash)) coded_back one two e
-decided_step old (Ask message) (reply, new, one) (answer, other, two) e = one.unchanged ∙ sym two.unchanged
+decided_step old (Ask carrier message) (reply, new, one) (answer, other, two) e = one.unchanged ∙ sym two.unchanged
 decided_step old Save one two e = decided saves (HoldsSave old) (LeavesSaved old) old (save_does old) coded_save one two e
 
 -- ---- the surviving chain
@@ -123,7 +123,7 @@ pub step_leaves : (old new : RunState) (event : Event) (reply : Reply) → Step 
 step_leaves old new (Do command) reply step =
     let comes = command_comes old new command reply step in
     record { done = code_zero (λ (r : RunState). r ≡ accepted old command) comes (λ joins. joins.state_is); undone = code_other comes }
-step_leaves old new (Ask message) reply step = record { done = λ is_zero. step.unchanged; undone = λ other. step.unchanged }
+step_leaves old new (Ask carrier message) reply step = record { done = λ is_zero. step.unchanged; undone = λ other. step.unchanged }
 step_leaves old new Save reply step =
     let comes = save_comes old new reply step in
     record { done = code_zero (IsSaved old) comes (λ saved. saved); undone = code_other comes }
@@ -204,7 +204,7 @@ run_state old new [] (r ∷ replies) run = absurd run
 run_state old new (e ∷ events) [] run = absurd run
 run_state old new (Do command ∷ events) (r ∷ replies) (mid, step, more) =
     behind_command old mid new command r (accepted_of events replies) (accepted_saves events replies) (command_comes old mid command r step) (run_state mid new events replies more)
-run_state old new (Ask message ∷ events) (r ∷ replies) (mid, step, more) =
+run_state old new (Ask carrier message ∷ events) (r ∷ replies) (mid, step, more) =
     subst (λ (run : RunState). IsBehind run (accepted_of events replies) (accepted_saves events replies) new) step.unchanged (run_state mid new events replies more)
 run_state old new (Save ∷ events) (r ∷ replies) (mid, step, more) =
     behind_save old mid new r (accepted_of events replies) (accepted_saves events replies) (save_comes old mid r step) (run_state mid new events replies more)
@@ -220,7 +220,7 @@ run_survives old new [] (r ∷ replies) run = absurd run
 run_survives old new (e ∷ events) [] run = absurd run
 run_survives old new (Do command ∷ events) (r ∷ replies) (mid, step, more) =
     chain_after old mid new command r (accepted_of events replies) (command_comes old mid command r step) (run_survives mid new events replies more)
-run_survives old new (Ask message ∷ events) (r ∷ replies) (mid, step, more) =
+run_survives old new (Ask carrier message ∷ events) (r ∷ replies) (mid, step, more) =
     subst (λ (run : RunState). Surviving (chain_of run) (accepted_of events replies) (chain_of new)) step.unchanged (run_survives mid new events replies more)
 run_survives old new (Save ∷ events) (r ∷ replies) (mid, step, more) =
     subst (λ (chain : Chain). Surviving chain (accepted_of events replies) (chain_of new)) (save_leaves_chain old mid r step) (run_survives mid new events replies more)
@@ -233,7 +233,7 @@ step_keeps old new (Do command) reply step has = by (command_comes old new comma
     by : Comes (Joins old command new) old reply new → HasSaved new
     by (does is_zero joins) = subst HasSaved (sym joins.state_is) (command_keeps old command has)
     by (remains other same) = subst HasSaved (sym same) has
-step_keeps old new (Ask message) reply step has = subst HasSaved (sym step.unchanged) has
+step_keeps old new (Ask carrier message) reply step has = subst HasSaved (sym step.unchanged) has
 step_keeps old new Save reply step has = save_keeps old new reply step has
 
 pub run_keeps : (old new : RunState) (events : List Event) (replies : List Reply) → Run old events replies new → HasSaved old → HasSaved new

@@ -7,8 +7,9 @@ use Rattle.chain_names.specs.Index.{served_value}
 use Rattle.chain_names.specs.Tables.{names_in}
 use Rattle.chain_state.specs.Chain.{Indexed}
 use Rattle.chain_state.specs.Standing.{StandsForChain, chain_maps}
-use Rattle.bit_resolver.specs.Replies.{MayReply}
-use Rattle.machine.specs.Serving.{served_by, served_on, zone_at, MayReplyBy, MayReplyOn}
+use Rattle.dns_message.specs.declared.transport.Transport.{Transport}
+use Rattle.kept_answers.specs.Answering.{Answering, AnswersMessage}
+use Rattle.machine.specs.Serving.{served_by, served_on, zone_at, AnswersBy, AnswersOn}
 
 module _ (base : Base) (start : Log) (blocks : List (List ℕ)) (c : Indexed) (s : StandsForChain base start blocks c) where
   same_served : served_by c ≡ served_on base start blocks
@@ -17,7 +18,8 @@ module _ (base : Base) (start : Log) (blocks : List (List ℕ)) (c : Indexed) (s
       ∙ ap (λ (m : Maps). served_value base.profile m.names c.tip.height) s.maps
       ∙ ap (served_value base.profile (chain_maps base start blocks).names) s.height
 
-  pub may_reply_on : (host : List ℕ) (limit : ℕ) (bytes : List ℕ) (reply : Option (List ℕ)) → MayReplyBy c host limit bytes reply → MayReplyOn base start blocks host limit bytes reply
-  may_reply_on host limit bytes reply may =
-      subst (λ live. MayReply live (zone_at host (base.height + length blocks)) limit bytes reply) same_served
-      (subst (λ height. MayReply (served_by c) (zone_at host height) limit bytes reply) s.height may)
+  pub answers_on : (host : List ℕ) (transport : Transport) (bytes : List ℕ) (old : Answering) (reply : Option (List ℕ)) (new : Answering)
+      → AnswersBy c host transport bytes old reply new → AnswersOn base start blocks host transport bytes old reply new
+  answers_on host transport bytes old reply new by =
+      subst (λ live. AnswersMessage live (zone_at host (base.height + length blocks)) transport bytes old reply new) same_served
+      (subst (λ height. AnswersMessage (served_by c) (zone_at host height) transport bytes old reply new) s.height by)

@@ -11,7 +11,7 @@ use Rattle.feed_frames.specs.Replies.{Reply}
 -- what an event leaves that is done
 abbrev pub IsDoneBy : RunState → Event → RunState → Type 0
 IsDoneBy old (Do command) new = new ≡ accepted old command
-IsDoneBy old (Ask message) new = new ≡ old
+IsDoneBy old (Ask carrier message) new = new ≡ old
 IsDoneBy old Save new = IsSaved old new
 
 -- it is done where its reply has code 0, and else the state stays
@@ -26,7 +26,7 @@ abbrev pub accepted_saves : List Event → List Reply → ℕ
 accepted_saves [] replies = 0
 accepted_saves (event ∷ events) [] = 0
 accepted_saves (Do command ∷ events) (reply ∷ replies) = accepted_saves events replies
-accepted_saves (Ask message ∷ events) (reply ∷ replies) = accepted_saves events replies
+accepted_saves (Ask carrier message ∷ events) (reply ∷ replies) = accepted_saves events replies
 accepted_saves (Save ∷ events) (reply ∷ replies) =
     if reply.code == 0 then suc (accepted_saves events replies) else accepted_saves events replies
 

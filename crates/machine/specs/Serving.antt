@@ -6,9 +6,10 @@ use Rattle.chain_names.specs.Coins.{history_of}
 use Rattle.chain_names.specs.Index.{served_value}
 use Rattle.chain_names.specs.Tables.{names_in}
 use Rattle.chain_state.specs.Chain.{Indexed}
+use Rattle.dns_message.specs.declared.transport.Transport.{Transport}
 use Rattle.import_expand.specs.Sources.{Live}
 use Rattle.bit_resolver.specs.declared.zone.Zone.{Zone}
-use Rattle.bit_resolver.specs.Replies.{MayReply}
+use Rattle.kept_answers.specs.Answering.{Answering, AnswersMessage}
 
 -- the values that an index serves at its tip
 abbrev pub served_by : Indexed → Live
@@ -22,10 +23,11 @@ served_on base start blocks = served_value base.profile (history_of (log_of star
 abbrev pub zone_at : List ℕ → ℕ → Zone
 zone_at host height = record { host = host; serial = height }
 
--- What a message may be answered with from an index, in so many bytes at most.
-abbrev pub MayReplyBy : Indexed → List ℕ → ℕ → List ℕ → Option (List ℕ) → Type 0
-MayReplyBy c host = MayReply (served_by c) (zone_at host c.tip.height)
+-- What a message that came by this transport is answered with from an index, where the answers that are kept are right for what it
+-- serves.
+abbrev pub AnswersBy : Indexed → List ℕ → Transport → List ℕ → Answering → Option (List ℕ) → Answering → Type 0
+AnswersBy c host = AnswersMessage (served_by c) (zone_at host c.tip.height)
 
 -- the same from a chain
-abbrev pub MayReplyOn : Base → Log → List (List ℕ) → List ℕ → ℕ → List ℕ → Option (List ℕ) → Type 0
-MayReplyOn base start blocks host = MayReply (served_on base start blocks) (zone_at host (base.height + length blocks))
+abbrev pub AnswersOn : Base → Log → List (List ℕ) → List ℕ → Transport → List ℕ → Answering → Option (List ℕ) → Answering → Type 0
+AnswersOn base start blocks host = AnswersMessage (served_on base start blocks) (zone_at host (base.height + length blocks))

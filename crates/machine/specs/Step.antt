@@ -6,15 +6,13 @@ use Rattle.feed_frames.specs.Replies.{Reply}
 use Rattle.chain_commands.specs.Connecting.{Connects}
 use Rattle.chain_commands.specs.Disconnecting.{Disconnects}
 use Rattle.chain_commands.specs.Saving.{Saves}
-use Rattle.dns_message.specs.declared.numbers.TheConstants.{LEAST_LIMIT}
-use Rattle.machine.specs.Querying.{Queries}
+use Rattle.machine.specs.Querying.{Queries, transport_of}
 
--- From the old state the machine may give this reply to the event and go on to the new state. A message has a datagram's room for its
--- reply (RFC 1035, 4.2.1).
+-- From the old state the machine may give this reply to the event and go on to the new state.
 abbrev pub Step : RunState → Event → Reply → RunState → Type 0
 Step old (Do (Connect block)) reply new = Connects old block reply new
 Step old (Do (Disconnect hash)) reply new = Disconnects old hash reply new
-Step old (Ask message) reply new = Queries LEAST_LIMIT old message reply new
+Step old (Ask carrier message) reply new = Queries (transport_of carrier) old message reply new
 Step old Save reply new = Saves old reply new
 
 -- the machine may give these replies to these events, one step after another

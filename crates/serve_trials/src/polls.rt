@@ -45,6 +45,17 @@ serve 53 8336 5 | 10 | query 7 asked; feed first; end; query 8 asked; feed first
 serve 53 8336 5 | 11 | query 7 asked; feed first; end; query 8 asked; feed first | reply 7 told; feed accepted; reply 8 told; feed not-on-tip | 
 ";
 
+/// Runs with streams, each message behind its length.
+static STREAMS: &str = "\
+serve 53 8336 4 |  | stream 7 00; stream 7 0c123401000000; stream 8 000c asked; stream 7 000000000000 | over 8 000c told; over 7 000c told | 
+serve 53 8336 1 |  | stream 7 000c asked 0000 000c asked 00 | over 7 000c told; over 7 000c told | 
+serve 53 8336 3 |  | stream 7 000c1234; leaves 7; stream 7 000c asked | over 7 000c told | 
+serve 53 8336 3 |  | query 7 asked; stream 7 000c asked; feed first | reply 7 told; over 7 000c told; feed accepted | 
+serve 53 8336 3 | 3 | stream 7 000c asked; stream 7 000c asked; leaves 8 | over 7 000c told | 
+serve 53 8336 2 | 2 | stream 7 000c asked; stream 7 000c asked | over 7 000c told | 
+serve 53 8336 19 |  | stream 1 00; stream 2 00; stream 3 00; stream 4 00; stream 5 00; stream 6 00; stream 7 00; stream 8 00; stream 9 00; stream 10 00; stream 11 00; stream 12 00; stream 13 00; stream 14 00; stream 15 00; stream 16 00; stream 17 00; leaves 1; stream 17 000c asked | shut 17; over 17 000c told | 
+";
+
 /// A poll or a send of a row: its first word, a client or 0, and the text of its bytes.
 #[derive(Clone, Copy)]
 struct Item<'a> {
@@ -56,7 +67,9 @@ struct Item<'a> {
 fn item_of(text: &str) -> Item<'_> {
     let (kind, rest) = text.split_once(' ').unwrap_or((text, ""));
     let (client, text) = match kind {
-        "query" | "reply" => rest.split_once(' ').unwrap_or((rest, "")),
+        "query" | "reply" | "stream" | "leaves" | "over" | "shut" => {
+            rest.split_once(' ').unwrap_or((rest, ""))
+        }
         _ => ("0", rest),
     };
     Item {
@@ -76,6 +89,13 @@ fn polled(item: Item<'_>, bytes: &[u8]) -> Polled
         "query" => Polled::Query {
             client: item.client,
             len,
+        },
+        "stream" => Polled::Stream {
+            client: item.client,
+            len,
+        },
+        "leaves" => Polled::StreamEnd {
+            client: item.client,
         },
         "feed" => Polled::Feed { len },
         "end" => Polled::FeedEnd,
@@ -107,6 +127,10 @@ fn is_item(sent: Option<Sent<'_>>, item: Item<'_>, want: &[u8]) -> bool {
         Some(Sent::Reply { client, bytes }) => {
             item.kind == "reply" && client == item.client && bytes == want
         }
+        Some(Sent::Stream { client, bytes }) => {
+            item.kind == "over" && client == item.client && bytes == want
+        }
+        Some(Sent::StreamClosed { client }) => item.kind == "shut" && client == item.client,
         Some(Sent::Feed { bytes }) => item.kind == "feed" && bytes == want,
         Some(Sent::Closed) => item.kind == "closed",
         None => item.kind == "",
@@ -151,6 +175,12 @@ impl Trial for Served {
 #[test]
 fn answers_clients_and_the_feed(rt: HostRuntime) -> Result<(), Fail> {
     each_is_right::<Served>(&rt, rt.alloc(), RUNS)?;
+    Ok(())
+}
+
+#[test]
+fn answers_over_streams(rt: HostRuntime) -> Result<(), Fail> {
+    each_is_right::<Served>(&rt, rt.alloc(), STREAMS)?;
     Ok(())
 }
 

@@ -19,6 +19,7 @@ returns-in-Ok g c =
     let opened = seen c.open.new.disk in
     let o : HasOpened tells before opened c.in-Ok.bridge = record {
       opened = c.in-Ok.ensures.answer;
+      empty = c.in-Ok.ensures.empty;
       synced = c.in-Ok.ensures.synced;
       writes_nothing = record { unchanged = c.in-Ok.ensures.reads; any_moment = c.in-Ok.ensures.time };
       worked = c.in-Ok.ensures.ends.worked;

@@ -1,12 +1,12 @@
-use Rattle.std.proofs.Common.{List, ℕ, subst}
+use Rattle.std.proofs.Common.{List, ℕ, refl, subst}
 use Rattle.nmc_base.specs.declared.chain_ends.Tip.{Tip}
 use Rattle.chain_state.specs.declared.back.BackRefusal as back
 use Rattle.chain_commands.specs.Disconnecting.{BackRefusal, HoldsBack, disconnects}
 use Rattle.chain_commands.specs.Event.{Disconnect, Do}
 use Rattle.chain_commands.specs.RunState.{RunState, chain_of, IsFull}
 use Rattle.index_commands.specs.Views.{back_refusal_of}
-use Rattle.name_store.specs.Stored.{Stored}
 use Rattle.bridge_core.specs.Bridge.{AnswersEvent}
+use Rattle.bridge_core.specs.Bridged.{Bridged, bridged}
 use Rattle.bridge_core.specs.declared.bridge.Turned.TheVariants.{On, Ended}
 use Rattle.bridge_core.proofs.CodeLemmas.{back_undone}
 use Rattle.bridge_core.proofs.TurnLemmas.{Request, IsKind, a_command, is_command, request_done, request_refused, request_lacking, request_faulted}
@@ -28,9 +28,9 @@ returns-in-Done-clause-answers g c =
     let seen = g.D.Disk.seen in
     let bytes = c.args.hash.0 in
     let by = c.in-Done.ensures in
-    subst (λ (old : Stored). AnswersEvent tells seen old c.args.disk.now (Do (Disconnect bytes)) c.accept.new.reply (On c.in-Done.store) c.disconnect.new.disk) c.self.view_is
-    (request_done (record { tells = tells; seen = seen; old = c.self.inside.store; before = c.args.disk.now; after = c.disconnect.new.disk; reply = c.accept.new.reply }) (a_hash bytes) (is_hash bytes) c.in-Done.store c.in-Done.tip
-    (record { answers = by.disconnects; undone = by.undone; leaves = by.leaves; kept = by.kept }) c.accept.ensures)
+    subst (λ (old : Bridged). AnswersEvent tells seen old c.args.disk.now (Do (Disconnect bytes)) c.accept.new.reply (On (bridged c.in-Done.store c.outdate.new.self)) c.disconnect.new.disk) c.self.view_is
+    (request_done (record { tells = tells; seen = seen; old = bridged c.self.inside.store c.self.inside.desk; before = c.args.disk.now; after = c.disconnect.new.disk; reply = c.accept.new.reply }) (a_hash bytes) (is_hash bytes) (bridged c.in-Done.store c.outdate.new.self) c.in-Done.tip
+    (record { answers = by.disconnects; undone = by.undone; leaves = by.leaves; kept = by.kept }) c.accept.ensures c.outdate.ensures)
 
 pub returns-in-Refused-clause-answers : goal.returns-in-Refused-clause-answers
 returns-in-Refused-clause-answers g c =
@@ -38,9 +38,9 @@ returns-in-Refused-clause-answers g c =
     let seen = g.D.Disk.seen in
     let bytes = c.args.hash.0 in
     let by = c.in-Refused.ensures in
-    subst (λ (old : Stored). AnswersEvent tells seen old c.args.disk.now (Do (Disconnect bytes)) c.refuse_back.new.reply (On c.in-Refused.store) c.disconnect.new.disk) c.self.view_is
-    (request_refused (record { tells = tells; seen = seen; old = c.self.inside.store; before = c.args.disk.now; after = c.disconnect.new.disk; reply = c.refuse_back.new.reply }) (a_hash bytes) (is_hash bytes) c.in-Refused.store c.in-Refused.refusal
-    (record { answers = by.disconnects; undone = by.undone; leaves = by.leaves; kept = by.kept }) c.refuse_back.ensures (back_undone c.refuse_back.new.reply (back_refusal_of c.in-Refused.refusal) c.refuse_back.ensures))
+    subst (λ (old : Bridged). AnswersEvent tells seen old c.args.disk.now (Do (Disconnect bytes)) c.refuse_back.new.reply (On (bridged c.in-Refused.store c.self.inside.desk)) c.disconnect.new.disk) c.self.view_is
+    (request_refused (record { tells = tells; seen = seen; old = bridged c.self.inside.store c.self.inside.desk; before = c.args.disk.now; after = c.disconnect.new.disk; reply = c.refuse_back.new.reply }) (a_hash bytes) (is_hash bytes) (bridged c.in-Refused.store c.self.inside.desk) c.in-Refused.refusal
+    (record { answers = by.disconnects; undone = by.undone; leaves = by.leaves; kept = by.kept }) c.refuse_back.ensures (back_undone c.refuse_back.new.reply (back_refusal_of c.in-Refused.refusal) c.refuse_back.ensures) refl)
 
 pub returns-in-NoMemory-clause-answers : goal.returns-in-NoMemory-clause-answers
 returns-in-NoMemory-clause-answers g c =
@@ -48,9 +48,9 @@ returns-in-NoMemory-clause-answers g c =
     let seen = g.D.Disk.seen in
     let bytes = c.args.hash.0 in
     let by = c.in-NoMemory.ensures in
-    subst (λ (old : Stored). AnswersEvent tells seen old c.args.disk.now (Do (Disconnect bytes)) c.lack_memory.new.reply (On c.in-NoMemory.store) c.disconnect.new.disk) c.self.view_is
-    (request_lacking (record { tells = tells; seen = seen; old = c.self.inside.store; before = c.args.disk.now; after = c.disconnect.new.disk; reply = c.lack_memory.new.reply }) (a_hash bytes) (is_hash bytes) c.in-NoMemory.store
-    (record { answers = by.disconnects; undone = by.undone; leaves = by.leaves; kept = by.kept }) c.lack_memory.ensures)
+    subst (λ (old : Bridged). AnswersEvent tells seen old c.args.disk.now (Do (Disconnect bytes)) c.lack_memory.new.reply (On (bridged c.in-NoMemory.store c.self.inside.desk)) c.disconnect.new.disk) c.self.view_is
+    (request_lacking (record { tells = tells; seen = seen; old = bridged c.self.inside.store c.self.inside.desk; before = c.args.disk.now; after = c.disconnect.new.disk; reply = c.lack_memory.new.reply }) (a_hash bytes) (is_hash bytes) (bridged c.in-NoMemory.store c.self.inside.desk)
+    (record { answers = by.disconnects; undone = by.undone; leaves = by.leaves; kept = by.kept }) c.lack_memory.ensures refl)
 
 pub returns-in-Faulted-clause-answers : goal.returns-in-Faulted-clause-answers
 returns-in-Faulted-clause-answers g c =
@@ -58,6 +58,6 @@ returns-in-Faulted-clause-answers g c =
     let seen = g.D.Disk.seen in
     let bytes = c.args.hash.0 in
     let by = c.in-Faulted.ensures in
-    subst (λ (old : Stored). AnswersEvent tells seen old c.args.disk.now (Do (Disconnect bytes)) c.tell_fault.new.reply Ended c.disconnect.new.disk) c.self.view_is
-    (request_faulted (record { tells = tells; seen = seen; old = c.self.inside.store; before = c.args.disk.now; after = c.disconnect.new.disk; reply = c.tell_fault.new.reply }) (a_hash bytes) (is_hash bytes)
+    subst (λ (old : Bridged). AnswersEvent tells seen old c.args.disk.now (Do (Disconnect bytes)) c.tell_fault.new.reply Ended c.disconnect.new.disk) c.self.view_is
+    (request_faulted (record { tells = tells; seen = seen; old = bridged c.self.inside.store c.self.inside.desk; before = c.args.disk.now; after = c.disconnect.new.disk; reply = c.tell_fault.new.reply }) (a_hash bytes) (is_hash bytes)
     (record { answers = by.disconnects; undone = by.undone; leaves = by.leaves; kept = by.kept }) c.tell_fault.ensures)
