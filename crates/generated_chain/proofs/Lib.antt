@@ -1,0 +1,4 @@
+pub mod Lengths
+pub mod Hashes
+pub mod Behind
+pub mod Queries
