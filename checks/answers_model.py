@@ -9,11 +9,16 @@ import typing
 from values_model import LONGEST_NAME, Place, child, host, item, object_of, sources, wire_of
 
 A, NS, CNAME, SOA, MX, TXT, AAAA, SRV, DNAME, DS, SSHFP, TLSA = 1, 2, 5, 6, 15, 16, 28, 33, 39, 43, 44, 52
-IXFR, AXFR, ANY = 251, 252, 255
-NO_ERROR, FORM_ERROR, NAME_ERROR, NOT_IMPLEMENTED, REFUSED, YX_DOMAIN = 0, 1, 3, 4, 5, 6
+OPT, IXFR, AXFR, ANY = 41, 251, 252, 255
+NO_ERROR, FORM_ERROR, SERVER_FAILURE, NAME_ERROR, NOT_IMPLEMENTED, REFUSED, YX_DOMAIN = range(7)
 QR, AA, TC, RD = 0x8000, 0x0400, 0x0200, 0x0100
 ITEM_OF = {A: "ip", MX: "mx", TXT: "txt", AAAA: "ip6", SRV: "srv", DNAME: "translate", SSHFP: "sshfp", TLSA: "tls"}
-TTL, MOST_CNAMES, LARGEST = 600, 8, 512
+TTL, MOST_CNAMES = 600, 8
+UDP, TCP = "UDP", "TCP"
+# The largest reply over UDP where no OPT names one, the largest that an OPT can have named, and the largest over TCP.
+LEAST, MOST, LARGEST = 512, 1232, 65535
+# Of an OPT: its first bit of flags, and the extended RCODE of BADVERS, which is 16, without its low four bits.
+DO, BAD_VERSION = 0x8000, 1
 TIMES = (600, 600, 7200, 600)
 ZONE = (b"bit",)
 DOMAIN = re.compile(rb"[a-z0-9](?:[a-z0-9-]*[a-z0-9])?")
@@ -41,6 +46,28 @@ class Question(typing.NamedTuple):
     text: bytes
 
 
+class Opt(typing.NamedTuple):
+    """The OPT of a reply: its extended RCODE and its flags."""
+
+    extended: int
+    flags: int
+
+    def text(self):
+        return b"\0" + struct.pack(">HHBBHH", OPT, MOST, self.extended, 0, self.flags, 0)
+
+
+class Edns(typing.NamedTuple):
+    """What is read of the OPT of a query: the size that its sender takes over UDP, the version, and whether DO is set."""
+
+    size: int
+    version: int
+    dnssec: bool
+
+    def answered(self):
+        """The OPT of the reply."""
+        return Opt(BAD_VERSION if self.version else 0, DO if self.dnssec else 0)
+
+
 class Zone(typing.NamedTuple):
     """The names that are served with their values, the host of the zone as labels, and the height of the tip."""
 
@@ -62,19 +89,21 @@ class Answer(typing.NamedTuple):
 
 
 class Reply(typing.NamedTuple):
-    """A reply: its header's two first fields, the question where there is one, and the records of its sections."""
+    """A reply: its header's two first fields, the question where there is one, the records of its sections, and the OPT."""
 
     id: int
     flags: int
     question: typing.Optional[Question]
     records: list
     authority: list
+    opt: typing.Optional[Opt] = None
 
     def text(self):
         """The bytes of the reply."""
-        counts = (0 if self.question is None else 1, len(self.records), len(self.authority), 0)
+        counts = (0 if self.question is None else 1, len(self.records), len(self.authority), 0 if self.opt is None else 1)
         start = struct.pack(">6H", self.id, self.flags, *counts) + (self.question.text if self.question else b"")
-        return start + b"".join(record_text(record, self.question.name) for record in self.records + self.authority)
+        records = b"".join(record_text(record, self.question.name) for record in self.records + self.authority)
+        return start + records + (self.opt.text() if self.opt else b"")
 
 
 def lower(name):
@@ -195,22 +224,63 @@ def question_of(message):
     return Question(tuple(labels), *struct.unpack(">HH", message[at + 1 : end]), message[12:end])
 
 
-def reply_to(zone, message):
-    """The reply to a message; None where there is none."""
+def begins_opt(message, question):
+    """Whether an OPT begins behind the question: the two sections before it are empty, the one with it isn't, and there stands a
+    record of the root with the type of OPT."""
+    counts, behind = struct.unpack(">3H", message[6:12]), 12 + len(question.text)
+    return counts[:2] == (0, 0) and counts[2] and message[behind : behind + 3] == b"\0" + OPT.to_bytes(2, "big")
+
+
+def opt_of(message, question):
+    """What the OPT behind the question says. None where the message ends inside it."""
+    at = 12 + len(question.text) + 3
+    fields = message[at : at + 8]
+    if len(fields) < 8:
+        return None
+    size, _, version, flags, length = struct.unpack(">HBBHH", fields)
+    return Edns(size, version, flags & DO != 0) if len(message) >= at + 8 + length else None
+
+
+def edns_of(message, question):
+    """What the OPT of a query says; None where it has none, or a cut one."""
+    return opt_of(message, question) if begins_opt(message, question) else None
+
+
+def limit_of(transport, edns):
+    """The most bytes that a reply has."""
+    if transport == TCP:
+        return LARGEST
+    return LEAST if edns is None else min(max(edns.size, LEAST), MOST)
+
+
+def reply_to(zone, message, transport=UDP):
+    """The reply to a message that came so; None where there is none."""
     if len(message) < 12 or message[2] & 0x80:
         return None
     number, flags, count = struct.unpack(">3H", message[:6])
     kept = QR | flags & 0x7900
-    question = question_of(message) if count == 1 else None
     if kept & 0x7800:
         return Reply(number, kept | NOT_IMPLEMENTED, None, [], [])
-    if question is None:
+    question = question_of(message) if count == 1 else None
+    edns = question and edns_of(message, question)
+    if question is None or edns is None and begins_opt(message, question):
         return Reply(number, kept | FORM_ERROR, None, [], [])
+    opt = edns and edns.answered()
+    if edns and edns.version:
+        return Reply(number, kept, question, [], [], opt)
     told = answer_to(zone, question)
-    reply = Reply(number, kept | (AA if told.is_ours else 0) | told.code, question, told.records, told.authority)
-    if len(reply.text()) > LARGEST:
-        return Reply(number, reply.flags | TC, question, [], [])
+    reply = Reply(number, kept | (AA if told.is_ours else 0) | told.code, question, told.records, told.authority, opt)
+    if len(reply.text()) > limit_of(transport, edns):
+        return reply._replace(flags=reply.flags | TC, records=[], authority=[])
     return reply
+
+
+def failure_to(message):
+    """The reply to a query for want of memory, or where too many values would have to be read."""
+    number, flags = struct.unpack(">2H", message[:4])
+    question = question_of(message)
+    edns = edns_of(message, question)
+    return Reply(number, QR | flags & RD | SERVER_FAILURE, question, [], [], edns and edns.answered())
 
 
 def zone_of(names, host_text, height):

@@ -53,13 +53,22 @@ def replay(given, output=subprocess.PIPE):
         return run_in(folder, ["replay"], given, output)
 
 
-def free_port(kind):
-    """The number of a port of this machine that is free, of `socket.SOCK_DGRAM` or `socket.SOCK_STREAM`."""
+def free_port(*kinds):
+    """A number that is free on this machine as a port of each of the kinds, `socket.SOCK_DGRAM` and `socket.SOCK_STREAM`."""
     for number in random.sample(PORTS, len(PORTS)):
-        with contextlib.suppress(OSError), socket.socket(socket.AF_INET, kind) as taken:
-            taken.bind((HERE, number))
+        with contextlib.suppress(OSError), contextlib.ExitStack() as taken:
+            for kind in kinds:
+                taken.enter_context(socket.socket(socket.AF_INET, kind)).bind((HERE, number))
             return number
     sys.exit(f"{pathlib.Path(sys.argv[0]).name}: no port is free")
+
+
+def server_ports():
+    """Two numbers that are free for a server: that of its queries, over UDP and TCP, and that of its feed."""
+    queries = feed = free_port(socket.SOCK_DGRAM, socket.SOCK_STREAM)
+    while feed == queries:
+        feed = free_port(socket.SOCK_STREAM)
+    return queries, feed
 
 
 def reply(code, payload=b""):
@@ -68,11 +77,11 @@ def reply(code, payload=b""):
 
 def pieces(text):
     """The frames or replies that the bytes are made of: each a byte, a length of 4 bytes and so many bytes."""
-    found = []
-    while text:
-        length = 5 + int.from_bytes(text[1:5], "little")
-        found.append(text[:length])
-        text = text[length:]
+    found, at = [], 0
+    while at < len(text):
+        end = at + 5 + int.from_bytes(text[at + 1 : at + 5], "little")
+        found.append(text[at:end])
+        at = end
     return found
 
 

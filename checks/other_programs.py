@@ -1,6 +1,6 @@
-"""What other programs that read DNS messages show of replies: dnspython, dig and drill. Each is left out where it is missing.
+"""What other programs that read DNS messages show of replies: dnspython, dig, drill and kdig. Each is left out where it is missing.
 
-dig reads no file: it asks a server on this machine, which hands out the reply that has the ID asked with.
+dig and kdig read no file: dig asks a server on this machine, which hands out the reply that has the ID asked with.
 """
 import concurrent.futures
 import contextlib
@@ -13,7 +13,8 @@ import sys
 import tempfile
 import threading
 
-from answers_model import AXFR, IXFR
+from answers_model import AXFR, DO, IXFR
+from common import HERE
 from presented import Shown, fields_of, labels_of, reading_of, words_of, written
 
 # Debian keeps its packages of Python here, whichever Python runs this.
@@ -22,14 +23,17 @@ try:
     import dns.exception
     import dns.flags
     import dns.message
+    import dns.name
+    import dns.query
 except ImportError:
     dns = None
 
 SECONDS = 60
 # dig cuts a line of its list that is longer.
 LONGEST_LINE = 1000
-DIG_OPTIONS = ["+noedns", "+notcp", "+ignore", "+nocookie", "+tries=1", "+time=5"]
-DIG_OPTIONS += ["+nosplit", "+nostats", "+nocmd", "+noidnin", "+noidnout"]
+DIG_OPTIONS = ["+tries=1", "+time=5", "+nosplit", "+nostats", "+nocmd", "+noidnin", "+noidnout"]
+# A question in one datagram, without an OPT.
+PLAIN = ("+noedns", "+notcp", "+ignore", "+nocookie")
 # QR, AA, TC, RD, RA, AD and CD.
 BITS_OF_FLAGS = 0x87B0
 
@@ -41,14 +45,18 @@ def read_by_dnspython(replies):
 
 def dnspython_reading(reply):
     try:
-        message = dns.message.from_wire(reply, one_rr_per_rrset=True)
-        asked = [(it.name.labels[:-1], int(it.rdtype), int(it.rdclass)) for it in message.question]
-        sections = [[dnspython_record(it) for it in section] for section in (message.answer, message.authority)]
+        return dnspython_shown(dns.message.from_wire(reply, one_rr_per_rrset=True))
     except (dns.exception.DNSException, ValueError) as error:
         return f"{type(error).__name__}: {error}"
+
+
+def dnspython_shown(message):
+    asked = [(it.name.labels[:-1], int(it.rdtype), int(it.rdclass)) for it in message.question]
+    sections = [[dnspython_record(it) for it in section] for section in (message.answer, message.authority)]
     assert len(asked) < 2 and not message.additional, message
-    bits, code = message.flags & BITS_OF_FLAGS, message.flags & 15
-    return Shown(message.id, int(message.opcode()), bits, code, asked[0] if asked else None, *sections)
+    bits, code = message.flags & BITS_OF_FLAGS, int(message.rcode())
+    opt = None if message.edns < 0 else (message.edns, message.ednsflags & DO != 0, message.payload)
+    return Shown(message.id, int(message.opcode()), bits, code, asked[0] if asked else None, *sections, opt)
 
 
 def dnspython_record(rrset):
@@ -118,7 +126,7 @@ def read_by_dig(asked):
         return dug(port, {number: question for number, (question, _) in asked.items()})
 
 
-def dug(port, questions, options=()):
+def dug(port, questions, options=PLAIN):
     """By ID: what dig shows where it asks these questions, given by ID, at the port."""
     server, alone = ["@127.0.0.1", "-p", str(port), *DIG_OPTIONS, *options], []
     with tempfile.NamedTemporaryFile("w") as batch:
@@ -134,11 +142,41 @@ def dug(port, questions, options=()):
     return {reading.id: reading for reading in shown}
 
 
-def drilled(port, question):
+def drilled(port, question, options=()):
     """What drill shows where it asks the question at the port; its ID is by chance."""
     name, kind, group = question
     assert group == 1, question
-    return reading_of(told(["drill", "-p", str(port), written(name), "@127.0.0.1", f"TYPE{kind}"]))
+    return reading_of(told(["drill", *options, "-p", str(port), written(name), "@127.0.0.1", f"TYPE{kind}"]))
+
+
+def kdug(port, question, options=()):
+    """What kdig shows where it asks the question at the port; its ID is by chance."""
+    name, kind, group = question
+    words = ["kdig", "@127.0.0.1", "-p", str(port), "-q", written(name), "-t", f"TYPE{kind}", "-c", f"CLASS{group}", *options]
+    return reading_of(told([*words, "+retry=0", "+timeout=5", "+noidn"]))
+
+
+def dnspython_asked(port, question, asks, **options):
+    """What dnspython reads where it asks by this function of `dns.query`, with these options of a query; or the error's text."""
+    name, kind, group = question
+    query = dns.message.make_query(dns.name.Name((*name, b"")), kind, group, **options)
+    try:
+        return dnspython_shown(asks(query, HERE, port))
+    except (dns.exception.DNSException, OSError, ValueError) as error:
+        return f"{type(error).__name__}: {error}"
+
+
+def over_udp(query, address, port):
+    return dns.query.udp(query, address, port=port, timeout=SECONDS, one_rr_per_rrset=True)
+
+
+def over_tcp(query, address, port):
+    return dns.query.tcp(query, address, port=port, timeout=SECONDS, one_rr_per_rrset=True)
+
+
+def over_udp_then_tcp(query, address, port):
+    """Over UDP, and where that is truncated over TCP."""
+    return dns.query.udp_with_fallback(query, address, port=port, timeout=SECONDS, one_rr_per_rrset=True)[0]
 
 
 def has_program(name):

@@ -4,22 +4,27 @@ import ipaddress
 import re
 import typing
 
-from answers_model import BYTES, FIELDS, NAME, STRINGS, TTL, A, AAAA, lower
+from answers_model import BYTES, DO, FIELDS, MOST, NAME, STRINGS, TTL, A, AAAA, lower
 
 TYPES = dict(RESERVED0=0, A=1, NS=2, CNAME=5, SOA=6, PTR=12, HINFO=13, MX=15, TXT=16, AAAA=28, SRV=33, DNAME=39)
-TYPES |= dict(OPT=41, DS=43, SSHFP=44, DNSKEY=48, TLSA=52, SVCB=64, HTTPS=65, IXFR=251)
+TYPES |= dict(OPT=41, DS=43, SSHFP=44, RRSIG=46, DNSKEY=48, TLSA=52, SVCB=64, HTTPS=65, IXFR=251)
 TYPES |= dict(AXFR=252, MAILB=253, MAILA=254, ANY=255, CAA=257)
 CLASSES = {"RESERVED0": 0, "IN": 1, "CH": 3, "HS": 4, "NONE": 254, "ANY": 255}
 CODES = {"NOERROR": 0, "FORMERR": 1, "SERVFAIL": 2, "NXDOMAIN": 3, "NOTIMP": 4, "NOTIMPL": 4, "REFUSED": 5, "YXDOMAIN": 6}
+CODES["BADVERS"] = 16
 OPCODES = {"QUERY": 0, "IQUERY": 1, "STATUS": 2, "NOTIFY": 4, "UPDATE": 5}
 BITS = {"qr": 0x8000, "aa": 0x0400, "tc": 0x0200, "rd": 0x0100, "ra": 0x0080, "ad": 0x0020, "cd": 0x0010}
+# What dig, drill and kdig show of an OPT; drill tells the code here that has bits in it.
+OPT_LINE = r"^;+ (?:EDNS: )?version:? (\d+)[,;] flags: ?([a-z ]*); (?:ext-rcode: (\d+) ; )?(?:udp|UDP size): (\d+)"
+OPT_SHOWN = re.compile(OPT_LINE, re.MULTILINE | re.IGNORECASE)
 # A word ends at a blank, but for one that begins with a quote; a backslash keeps what it stands before.
 WORD = re.compile(r'"((?:[^"\\]|\\.)*)"|((?:[^\s"\\]|\\.)(?:[^\s\\]|\\.)*)', re.DOTALL)
 PIECE = re.compile(r"\\(\d\d\d)|\\(.)|(.)", re.DOTALL)
 
 
 class Shown(typing.NamedTuple):
-    """A reply. The question is its name as labels, its type and its class; a record its owner, type, TTL and fields."""
+    """A reply. The question is its name as labels, its type and its class; a record its owner, type, TTL and fields; an OPT its
+    version, whether DO is set, and its size. The code has the bits that the OPT has of it."""
 
     id: int
     opcode: int
@@ -28,6 +33,7 @@ class Shown(typing.NamedTuple):
     question: typing.Optional[tuple]
     records: list
     authority: list
+    opt: typing.Optional[tuple] = None
 
 
 def shown(reply):
@@ -38,7 +44,9 @@ def shown(reply):
         [(name if it.owner == lower(name) else it.owner, it.type, TTL, it.fields) for it in section]
         for section in (reply.records, reply.authority)
     ]
-    return Shown(reply.id, reply.flags >> 11 & 15, reply.flags & sum(BITS.values()), reply.flags & 15, question, *sections)
+    code = reply.flags & 15 | (reply.opt.extended << 4 if reply.opt else 0)
+    opt = reply.opt and (0, reply.opt.flags & DO != 0, MOST)
+    return Shown(reply.id, reply.flags >> 11 & 15, reply.flags & sum(BITS.values()), code, question, *sections, opt)
 
 
 def written(labels):
@@ -106,18 +114,20 @@ def question_of(line):
 
 
 def reading_of(text):
-    """What dig or drill shows: a line on the header, one on its flags, and then the sections; the text where it's none of this."""
-    header = re.search(r"opcode: (?:\?\? \()?(\w+)\)?, (?:status|rcode): (\S+), id: (\d+)", text)
+    """What dig, drill or kdig shows: a line on the header, one on its flags, and then the sections; the text where it's none of this."""
+    header = re.search(r"opcode: (?:\?\? \()?(\w+)\)?[,;] (?:status|rcode): (\w+)[,;] id: (\d+)", text)
     if not header:
         return text
     opcode, code, number = header.groups()
     opcode = int(opcode) if opcode.isdigit() else OPCODES[opcode]
-    flags = re.search(r"flags: ([a-z ]*);", text)[1].split()
+    flags = re.search(r"[Ff]lags: ([a-z ]*);", text)[1].split()
     sections = {"QUESTION": [], "ANSWER": [], "AUTHORITY": [], "ADDITIONAL": []}
     for name, lines in re.findall(r"^;; (\w+) SECTION:\n((?:(?!;; \w+ SECTION:)[^\n]+\n)*)", text, re.MULTILINE):
         sections[name] = lines.splitlines()
     asked = [question_of(line.lstrip("; ")) for line in sections["QUESTION"] if line.strip("; ")]
     records = [[record_of(line) for line in sections[name]] for name in ("ANSWER", "AUTHORITY", "ADDITIONAL")]
     assert len(asked) < 2 and not records[2], text
-    bits = sum(BITS[flag] for flag in flags)
-    return Shown(int(number), opcode, bits, CODES[code], asked[0] if asked else None, *records[:2])
+    bits, opt = sum(BITS[flag] for flag in flags), OPT_SHOWN.search(text)
+    code = int(opt[3]) if opt and opt[3] else CODES[code]
+    told = opt and (int(opt[1]), "do" in opt[2].split(), int(opt[4]))
+    return Shown(int(number), opcode, bits, code, asked[0] if asked else None, *records[:2], told)

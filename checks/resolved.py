@@ -66,7 +66,7 @@ def questions_of_all_kinds():
 @contextlib.contextmanager
 def unbound(server):
     """The port of an unbound that asks this port of this machine for all below `bit.`."""
-    port = free_port(socket.SOCK_DGRAM)
+    port = free_port(socket.SOCK_DGRAM, socket.SOCK_STREAM)
     with tempfile.TemporaryDirectory(prefix="jaqhumpi-unbound-") as folder:
         path = pathlib.Path(folder, "unbound.conf")
         path.write_text(UNBOUND.format(here=HERE, port=port, folder=folder, server=server))

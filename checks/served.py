@@ -5,7 +5,7 @@ import socket
 import subprocess
 import time
 
-from common import HERE, SECONDS, Run, free_port, pieces, program
+from common import HERE, SECONDS, Run, pieces, program, server_ports
 from model import NEW, PROFILES, Model
 
 from answers_model import reply_to, zone_of
@@ -15,7 +15,7 @@ HOST = "ns.example."
 MOST_TURNS = 1_000_000_000
 LARGEST = 65535
 # It has no question: it gets a header alone, as any message of its length that is no reply.
-PROBE = bytes(12)
+PROBE, TO_PROBE = bytes(12), bytes.fromhex("0000 8001") + bytes(8)
 TRIES, WAIT, SILENCE = 20, 1.0, 15.0
 
 
@@ -23,7 +23,8 @@ class Server:
     """A run of the program that serves the files of a folder."""
 
     def __init__(self, folder, udp=None, feed=None, turns=MOST_TURNS, runs=None, **how):
-        self.udp, self.feed = udp or free_port(socket.SOCK_DGRAM), feed or free_port(socket.SOCK_STREAM)
+        queries, others = server_ports()
+        self.udp, self.feed = udp or queries, feed or others
         words = [runs or program(), "serve", str(self.udp), str(self.feed), str(turns)]
         streams = {"stdin": subprocess.DEVNULL, "stdout": subprocess.PIPE, "stderr": subprocess.PIPE}
         self.run = subprocess.Popen(words, cwd=folder, **{**streams, **how})
@@ -53,6 +54,21 @@ class Server:
         replies = (self.once(message) for _ in range(TRIES))
         return next((reply for reply in replies if reply is not None), None)
 
+    def drops(self, message):
+        """Whether a message gets no reply: the first that comes is that of the probe behind it."""
+        with socket.socket(socket.AF_INET, socket.SOCK_DGRAM) as client:
+            client.connect((HERE, self.udp))
+            client.settimeout(WAIT)
+            for _ in range(TRIES):
+                client.send(message)
+                client.send(PROBE)
+                with contextlib.suppress(TimeoutError):
+                    return client.recv(LARGEST) == TO_PROBE
+        return False
+
+    def streams(self):
+        return Stream(self.udp)
+
     def feeds(self):
         return Feed(self.feed)
 
@@ -72,6 +88,51 @@ def server_in(folder, **how):
         yield server.started()
     finally:
         server.ended(kill=True)
+
+
+class Stream:
+    """A connection on which messages are asked, each behind its length of two bytes (RFC 1035, 4.2.2)."""
+
+    def __init__(self, port):
+        self.text, self.stream = b"", socket.create_connection((HERE, port), timeout=SILENCE)
+        self.stream.setsockopt(socket.IPPROTO_TCP, socket.TCP_NODELAY, 1)
+
+    def __enter__(self):
+        return self
+
+    def __exit__(self, *_):
+        self.stream.close()
+
+    def say(self, *messages):
+        self.stream.sendall(b"".join(len(message).to_bytes(2, "big") + message for message in messages))
+
+    def has(self, length):
+        """Whether so many bytes are there, or come before the server closes or is silent for long."""
+        with contextlib.suppress(TimeoutError, ConnectionResetError):
+            while len(self.text) < length and (got := self.stream.recv(LARGEST)):
+                self.text += got
+        return len(self.text) >= length
+
+    def reply(self):
+        """The next reply; None where none comes whole."""
+        if not self.has(2) or not self.has(2 + int.from_bytes(self.text[:2], "big")):
+            return None
+        end = 2 + int.from_bytes(self.text[:2], "big")
+        told, self.text = self.text[2:end], self.text[end:]
+        return told
+
+    def ask(self, message):
+        self.say(message)
+        return self.reply()
+
+    def answers(self, messages):
+        """The replies to messages that are said at once with a probe behind them, up to the probe's."""
+        self.say(*messages, PROBE)
+        return list(iter(self.reply_before_probe, None))
+
+    def reply_before_probe(self):
+        told = self.reply()
+        return None if told == TO_PROBE else told
 
 
 class Feed:
