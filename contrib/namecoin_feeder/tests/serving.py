@@ -9,7 +9,7 @@ import time
 
 from .stand_in import PROGRAM, initialised
 
-from common import free_port
+from common import server_ports
 
 MOST_TURNS, SECONDS = 1_000_000_000, 20
 
@@ -18,7 +18,8 @@ class Serve:
     """A run of the program's `serve` in a folder with its files."""
 
     def __init__(self, folder):
-        self.folder, self.udp, self.feed, self.run = folder, free_port(socket.SOCK_DGRAM), free_port(socket.SOCK_STREAM), None
+        self.folder, self.run = folder, None
+        self.udp, self.feed = server_ports()
         self.start()
 
     @property
