@@ -11,8 +11,8 @@ use Rattle.hex.specs.Hex.{encode_lower, encode_with}
 use Rattle.nmc_base.specs.Hash.{display_text}
 use Rattle.chain_names.specs.declared.coin.Item.{Item}
 use Rattle.chain_names.specs.Coins.{entry_of}
-use Rattle.chain_names.specs.Index.{value_of, served_item}
-use Rattle.name_report.specs.Text.{Reported, bytes_text, state_text, tip_line, entry_line, item_line, item_lines, lines_with, name_lines}
+use Rattle.chain_names.specs.Index.{value_of, served_item, served_value}
+use Rattle.name_report.specs.Text.{Reported, bytes_text, state_text, tip_line, entry_line, item_line, item_lines, is_served, lines_with, name_lines}
 
 -- ---- lists from a place on
 
@@ -59,16 +59,20 @@ pub name_lines-none : (what : Reported) (name : List ℕ) (items : List Item) �
 name_lines-none what name items same none = ap (λ (l : List Item). lines_with what name l (entry_of l)) same ∙ ap (lines_with what name items) none
 
 pub name_lines-some : (what : Reported) (name : List ℕ) (items : List Item) (entry : Item) (served : Bool) → what.histories name ≡ items → entry_of items ≡ Some entry
-    → served ≡ is_some (served_item what.profile what.height (entry_of items)) → name_lines what name ≡ entry_line name entry served ++ item_lines items
+    → served ≡ is_served what name → name_lines what name ≡ entry_line name entry served ++ item_lines items
 name_lines-some what name items entry served same some is =
     ap (λ (l : List Item). lines_with what name l (entry_of l)) same ∙ ap (lines_with what name items) some
-    ∙ ap (λ (b : Bool). entry_line name entry b ++ item_lines items) (sym (is ∙ ap (λ (o : Option Item). is_some (served_item what.profile what.height o)) some))
+    ∙ ap (λ (b : Bool). entry_line name entry b ++ item_lines items) (sym is)
 
 -- an entry is served where its value is
-pub is_some-value_of : (entry : Option Item) → is_some (value_of entry) ≡ is_some entry
+is_some-value_of : (entry : Option Item) → is_some (value_of entry) ≡ is_some entry
 is_some-value_of None = refl
 is_some-value_of (Some item) = refl
 
-pub is_some-copied : {X : Type 0} (o : Option (Bor X)) → is_some (option_copied o) ≡ is_some o
+is_some-copied : {X : Type 0} (o : Option (Bor X)) → is_some (option_copied o) ≡ is_some o
 is_some-copied None = refl
 is_some-copied (Some x) = refl
+
+pub is_served-live : (what : Reported) (name : List ℕ) (live : Option (Bor (List ℕ))) (served : Bool) → served ≡ is_some live
+    → option_copied live ≡ served_value what.profile what.histories what.height name → served ≡ is_served what name
+is_served-live what name live served e is = e ∙ sym (is_some-copied live) ∙ ap is_some is ∙ is_some-value_of (served_item what.profile what.height (entry_of (what.histories name)))

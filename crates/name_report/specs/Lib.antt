@@ -2,3 +2,4 @@ pub mod Text
 pub mod Order
 pub mod Report
 pub mod Page
+pub mod Counts

@@ -42,10 +42,14 @@ pub record Reported : Type 0 where
   pub hash : List ℕ
   pub histories : List ℕ → List Item
 
+-- whether a name is served at the tip: it has an entry that isn't expired there
+abbrev pub is_served : Reported → List ℕ → Bool
+is_served what name = is_some (served_item what.profile what.height (entry_of (what.histories name)))
+
 -- a name without an entry has no line
 abbrev pub lines_with : Reported → List ℕ → List Item → Option Item → List ℕ
 lines_with what name items None = []
-lines_with what name items (Some entry) = entry_line name entry (is_some (served_item what.profile what.height (Some entry))) ++ item_lines items
+lines_with what name items (Some entry) = entry_line name entry (is_served what name) ++ item_lines items
 
 -- the lines of a name: its entry, and each value that it was given, from the oldest
 abbrev pub name_lines : Reported → List ℕ → List ℕ

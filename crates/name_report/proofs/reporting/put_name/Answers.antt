@@ -1,10 +1,8 @@
-use Rattle.std.proofs.Common.{◌≡◌, List, sym, ap, subst, ◌∙◌}
+use Rattle.std.proofs.Common.{◌≡◌, sym, ap, subst, ◌∙◌}
 use Rattle.std.specs.Prelude.{Some}
-use Rattle.std.specs.Option.{is_some, option_copied}
+use Rattle.std.specs.Option.{option_copied}
 use Rattle.std.proofs.lemmas.Result.{err_from_is_err_and}
-use Rattle.chain_names.specs.declared.coin.Item.{Item}
 use Rattle.chain_names.specs.Coins.{entry_of}
-use Rattle.chain_names.specs.Index.{served_item}
 use Rattle.chain_names.specs.Tables.{names_in}
 use Rattle.chain_state.specs.Chain.{Indexed}
 use Rattle.name_tables.specs.declared.tables.Tables.{Tables}
@@ -12,7 +10,7 @@ use Rattle.name_report.specs.Page.{outgoing}
 use Rattle.name_report.specs.Report.{reported_by}
 use Rattle.name_report.specs.Text.{entry_line, item_lines, name_lines}
 use Rattle.name_report.proofs.PageLemmas.{Going, starts, goes_on, stops_in, closes}
-use Rattle.name_report.proofs.TextLemmas.{name_lines-some, is_some-copied, is_some-value_of, slice_get-last}
+use Rattle.name_report.proofs.TextLemmas.{name_lines-some, is_served-live, slice_get-last}
 use Rattle.name_report.proofs.reporting.put_name.Goals as goal
 
 pub returns-in_err-put_entry-in-Some : goal.returns-in_err-put_entry-in-Some
@@ -26,9 +24,7 @@ returns-in_err-put_entry-in-Some g c =
     let entry = c.in-Some.entry.now in
     let same : what.histories name ≡ items = sym (c.history-items.ensures ∙ ap (λ (t : Tables). names_in t.names name) c.parts.ensures.parts.tables) in
     let some : entry_of items ≡ Some entry = sym (slice_get-last items) ∙ sym c.last.ensures.value ∙ ap option_copied c.in-Some.is in
-    let served : c.is_some.result ≡ is_some (served_item what.profile what.height (entry_of items)) =
-    c.is_some.ensures ∙ sym (is_some-copied c.live.result) ∙ ap is_some c.live.ensures ∙ is_some-value_of (served_item what.profile what.height (entry_of (what.histories name)))
-    ∙ ap (λ (l : List Item). is_some (served_item what.profile what.height (entry_of l))) same in
+    let served = is_served-live what name c.live.result c.is_some.result c.is_some.ensures c.live.ensures in
     let whole = name_lines what name in
     let p = err_from_is_err_and c.from_residual.result c.from_residual.ensures.1 in
     rw p.1 (stops_in old old now whole (entry_line name entry c.is_some.result) (item_lines items)
@@ -46,9 +42,7 @@ returns-in_ok-put_entry-in-Some g c =
     let entry = c.in-Some.entry.now in
     let same : what.histories name ≡ items = sym (c.history-items.ensures ∙ ap (λ (t : Tables). names_in t.names name) c.parts.ensures.parts.tables) in
     let some : entry_of items ≡ Some entry = sym (slice_get-last items) ∙ sym c.last.ensures.value ∙ ap option_copied c.in-Some.is in
-    let served : c.is_some.result ≡ is_some (served_item what.profile what.height (entry_of items)) =
-    c.is_some.ensures ∙ sym (is_some-copied c.live.result) ∙ ap is_some c.live.ensures ∙ is_some-value_of (served_item what.profile what.height (entry_of (what.histories name)))
-    ∙ ap (λ (l : List Item). is_some (served_item what.profile what.height (entry_of l))) same in
+    let served = is_served-live what name c.live.result c.is_some.result c.is_some.ensures c.live.ensures in
     let whole = name_lines what name in
     closes old mid now whole (item_lines items) c.put_items.result
     (goes_on old old mid whole (entry_line name entry c.is_some.result) (item_lines items)
