@@ -13,3 +13,8 @@ pub mod ServingLemmas
 pub mod WordLemmas
 pub mod StatusLemmas
 pub mod MakingLemmas
+pub mod PlayingLemmas
+pub mod RequestLemmas
+pub mod HitLemmas
+pub mod SelfTestLemmas
+pub mod SummaryLemmas

@@ -41,7 +41,7 @@ module _ {D : Type 0} (tells : Bool) (seen : D → DiskSeen) (begun : Beginning 
   abbrev no_turn : Passes tells seen begun [] [] begun.bridge begun.opened
   no_turn = none_yet
 
-  leads_first : (run : RunState) → Begins tells begun run → LeadsTo no_turn run
+  pub leads_first : (run : RunState) → Begins tells begun run → LeadsTo no_turn run
   leads_first run b = record {
     new = run;
     runs = refl;

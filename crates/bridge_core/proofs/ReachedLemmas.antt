@@ -172,7 +172,7 @@ module _ {D : Type 0} (tells : Bool) (seen : D → DiskSeen) (begun : Beginning 
         subst (λ (d : D). EachMoment (LeavesFront run (length r.events) with_event) (seen before).moments (seen d).moments) (sym same)
         (start (λ image_is is. of_old image_is ((led.files told).each image_is is)))
 
-    leads_next : LeadsTo (one_more event reply new after r.passes a) run
+    pub leads_next : LeadsTo (one_more event reply new after r.passes a) run
     leads_next = record {
       new = next;
       runs = runs_next;

@@ -9,9 +9,10 @@ use Rattle.disk_model.specs.DiskSeen.{DiskSeen}
 use Rattle.bridge_core.specs.Making.{InitEnds, made, stays, failed, InitsFrom, status_of_start}
 use Rattle.bridge_core.specs.declared.status.Status.{Status}
 use Rattle.bridge_core.specs.declared.status.Status.TheVariants.{Done, Words, Initialised, DiskFault}
-use Rattle.bridge_core.specs.declared.words.Command.TheVariants.{Init, Serve}
+use Rattle.bridge_core.specs.declared.words.Command.TheVariants.{Init, SelfTest, Serve}
 use Rattle.bridge_core.specs.declared.words.Plan.{Plan}
 use Rattle.bridge_core.specs.declared.words.Start.{Start}
+use Rattle.bridge_core.specs.declared.words.Trial.{Trial}
 
 pub initialised_not_done : {P : Type 0} → Initialised ≡ Done → P
 initialised_not_done e = cc
@@ -48,6 +49,9 @@ from_not_words inits e = start_not_words inits.ended (sym inits.status_is ∙ e)
 
 pub same_plan : (found plan : Plan) → Some (Serve found) ≡ Some (Serve plan) → found ≡ plan
 same_plan found plan e = cc
+
+pub same_trial : (found trial : Trial) → Some (SelfTest found) ≡ Some (SelfTest trial) → found ≡ trial
+same_trial found trial e = cc
 
 pub memory_not_fault : {P : Type 0} → faults.NoMemory ≡ faults.DiskFault → P
 memory_not_fault e = cc

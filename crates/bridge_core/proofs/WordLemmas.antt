@@ -10,33 +10,31 @@ use Rattle.std.proofs.lemmas.Str.{IsUtf8-from_ascii}
 use Rattle.std.proofs.lemmas.Str.Parse.{IsNumeralModel, numerals_by_value, tells_digits, parse_plain}
 use Rattle.nmc_base.specs.declared.chain_ends.Base.{Base}
 use Rattle.name_store.specs.Host.{IsHostOf}
-use Rattle.bridge_core.specs.Words.{IsNumber, IsHeight, IsPort, AreTurns, IsPlain, IsHash, AreFields, AreNumbers, Asks, AsksForFiles, start_word}
+use Rattle.bridge_core.specs.Words.{IsNumber, IsHeight, IsPort, AreTurns, AreBlocks, IsSeed, IsPlain, IsHash, AreFields, AreNumbers, AreTrial, Asks, AsksForFiles, start_word}
 use Rattle.bridge_core.specs.declared.words.Command.{Command}
-use Rattle.bridge_core.specs.declared.words.Command.TheVariants.{Replay, Dump, Init, Serve}
+use Rattle.bridge_core.specs.declared.words.Command.TheVariants.{Replay, Dump, Init, Serve, SelfTest}
 use Rattle.bridge_core.specs.declared.words.Plan.{Plan}
 use Rattle.bridge_core.specs.declared.words.Start.{Start}
 use Rattle.bridge_core.specs.declared.words.Start.TheVariants.{Empty, Snapshot}
+use Rattle.bridge_core.specs.declared.words.Trial.{Trial}
 
 own : IsNumeralModel (AllDigits 10) (digits_value 10)
 own = numerals_by_value (AllDigits 10) tells_digits
 
-module _ (least most : ℕ) (fits : most < 2 ^ 32) (word : List ℕ) where
-  small : (n : ℕ) → IsNumber least most word n → n < 2 ^ 32
-  small n is = let no_more = is.no_more in omega (arith, no_more, fits)
-
+module _ (least most : ℕ) (fits : most < 2 ^ 64) (word : List ℕ) where
   wide : (n : ℕ) → IsNumber least most word n → n < 2 ^ 64
-  wide n is = let below = small n is in omega (arith, below)
+  wide n is = let no_more = is.no_more in omega (arith, no_more, fits)
 
   -- a number is text
   pub number_text : (n : ℕ) → IsNumber least most word n → IsUtf8 word
   number_text n is = subst IsUtf8 (sym is.spelled) (IsUtf8-from_ascii (decimal n) (IsAscii-decimal n (wide n is)))
 
   -- and is read as the number
-  pub number_read : (n other : ℕ) → IsNumber least most word n → ParsesUnsigned {E = Unit {0}} 32 10 word (Ok other) → other ≡ n
-  number_read n other is parses = let read = parse-decimal {E = Unit {0}} 32 n word (Ok other) (small n is) (wide n is) is.spelled parses in cc
+  pub number_read : (n other : ℕ) → IsNumber least most word n → ParsesUnsigned {E = Unit {0}} 64 10 word (Ok other) → other ≡ n
+  number_read n other is parses = let read = parse-decimal {E = Unit {0}} 64 n word (Ok other) (wide n is) (wide n is) is.spelled parses in cc
 
-  pub number_no_error : (n : ℕ) → IsNumber least most word n → ParsesUnsigned {E = Unit {0}} 32 10 word (Err tt) → ⊥
-  number_no_error n is parses = let read = parse-decimal {E = Unit {0}} 32 n word (Err tt) (small n is) (wide n is) is.spelled parses in cc
+  pub number_no_error : (n : ℕ) → IsNumber least most word n → ParsesUnsigned {E = Unit {0}} 64 10 word (Err tt) → ⊥
+  number_no_error n is parses = let read = parse-decimal {E = Unit {0}} 64 n word (Err tt) (wide n is) (wide n is) is.spelled parses in cc
 
   pub number_plain : (n : ℕ) → IsNumber least most word n → IsPlain word
   number_plain n is = elim (cases_eq n 0) [
@@ -50,9 +48,9 @@ module _ (least most : ℕ) (fits : most < 2 ^ 32) (word : List ℕ) where
   ]
 
 -- a number that was read, written without a sign and a leading zero, is spelled by the word
-pub plain_number : (word : List ℕ) (n : ℕ) → IsPlain word → ParsesUnsigned {E = Unit {0}} 32 10 word (Ok n) → word ≡ decimal n
+pub plain_number : (word : List ℕ) (n : ℕ) → IsPlain word → ParsesUnsigned {E = Unit {0}} 64 10 word (Ok n) → word ≡ decimal n
 plain_number word n plain parses =
-    let read = parse_plain own {E = Unit {0}} 32 word (Ok n) parses plain.no_sign in
+    let read = parse_plain own {E = Unit {0}} 64 word (Ok n) parses plain.no_sign in
     let value : n ≡ digits_value 10 word = read.1 in
     sym (ap decimal value ∙ decimal-digits_value own word read.0.0 read.0.1 plain.no_zero (omega (arith, read.0.2)))
 
@@ -87,6 +85,7 @@ pub not_asked : (words : List (List ℕ)) (has : HasFields words) → ((start : 
 not_asked words has none Replay is = omega (arith, has.long, ap length is)
 not_asked words has none Dump is = omega (arith, has.long, ap length is)
 not_asked words has none (Serve plan) is = omega (arith, has.long, ap length is.words_are)
+not_asked words has none (SelfTest trial) is = omega (arith, has.long, ap length is.words_are)
 not_asked words has none (Init start base name) is = none start (form_word words has start base name is)
 
 -- the command of what was found there
@@ -101,6 +100,7 @@ pub asked_by : (words : List (List ℕ)) (has : HasFields words) (start : Start)
 asked_by words has start form found one Replay is = absurd (omega (arith, has.long, ap length is))
 asked_by words has start form found one Dump is = absurd (omega (arith, has.long, ap length is))
 asked_by words has start form found one (Serve plan) is = absurd (omega (arith, has.long, ap length is.words_are))
+asked_by words has start form found one (SelfTest trial) is = absurd (omega (arith, has.long, ap length is.words_are))
 asked_by words has start form found one (Init other base name) is =
     let profile : has.profile ≡ is.profile = has.profile_at ∙ ap (λ (w : List (List ℕ)). get_or w 1 has.profile) is.words_are in
     let height : has.height ≡ is.height = has.height_at ∙ ap (λ (w : List (List ℕ)). get_or w 2 has.height) is.words_are in
@@ -137,6 +137,7 @@ pub served_by : (words : List (List ℕ)) (has : HasNumbers words) (found : Opti
 served_by words has found one Replay is = absurd (omega (arith, has.long, ap length is))
 served_by words has found one Dump is = absurd (omega (arith, has.long, ap length is))
 served_by words has found one (Init start base name) is = absurd (omega (arith, has.long, ap length is.words_are))
+served_by words has found one (SelfTest trial) is = absurd (omega (arith, has.long, ap length is.words_are))
 served_by words has found one (Serve plan) is = ap serve_of (
     let udp : has.udp ≡ is.udp = has.udp_at ∙ ap (λ (w : List (List ℕ)). get_or w 1 has.udp) is.words_are in
     let feed : has.feed ≡ is.feed = has.feed_at ∙ ap (λ (w : List (List ℕ)). get_or w 2 has.feed) is.words_are in
@@ -145,4 +146,35 @@ served_by words has found one (Serve plan) is = ap serve_of (
       udp_is = subst (λ (t : List ℕ). IsPort t plan.udp) (sym udp) is.numbers.udp_is;
       feed_is = subst (λ (t : List ℕ). IsPort t plan.feed) (sym feed) is.numbers.feed_is;
       turns_are = subst (λ (t : List ℕ). AreTurns t plan.turns) (sym turns) is.numbers.turns_are;
+    }))
+
+-- ---- three words
+
+-- what stands at the places of how many blocks, and of the seed
+pub record HasTrial (words : List (List ℕ)) : Type 0 where
+  pub blocks : List ℕ
+  pub seed : List ℕ
+  pub blocks_at : blocks ≡ get_or words 1 blocks
+  pub seed_at : seed ≡ get_or words 2 seed
+  pub long : length words ≡ 3
+
+-- the command of what was found there
+abbrev pub test_of : Option Trial → Option Command
+test_of None = None
+test_of (Some trial) = Some (SelfTest trial)
+
+-- the command whose numbers they are is the one that is asked for
+pub tested_by : (words : List (List ℕ)) (has : HasTrial words) (found : Option Trial)
+    → ((trial : Trial) → AreTrial has.blocks has.seed trial → found ≡ Some trial)
+    → (asked : Command) → Asks words asked → test_of found ≡ Some asked
+tested_by words has found one Replay is = absurd (omega (arith, has.long, ap length is))
+tested_by words has found one Dump is = absurd (omega (arith, has.long, ap length is))
+tested_by words has found one (Init start base name) is = absurd (omega (arith, has.long, ap length is.words_are))
+tested_by words has found one (Serve plan) is = absurd (omega (arith, has.long, ap length is.words_are))
+tested_by words has found one (SelfTest trial) is = ap test_of (
+    let blocks : has.blocks ≡ is.blocks = has.blocks_at ∙ ap (λ (w : List (List ℕ)). get_or w 1 has.blocks) is.words_are in
+    let seed : has.seed ≡ is.seed = has.seed_at ∙ ap (λ (w : List (List ℕ)). get_or w 2 has.seed) is.words_are in
+    one trial (record {
+      blocks_are = subst (λ (t : List ℕ). AreBlocks t trial.blocks) (sym blocks) is.numbers.blocks_are;
+      seed_is = subst (λ (t : List ℕ). IsSeed t trial.seed) (sym seed) is.numbers.seed_is;
     }))

@@ -9,4 +9,6 @@ pub mod Replaying
 pub mod Dumping
 pub mod Serving
 pub mod Making
+pub mod Playing
+pub mod SelfTest
 pub mod Words

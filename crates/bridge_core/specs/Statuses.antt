@@ -2,7 +2,7 @@
 use Rattle.std.specs.Prelude.{ℕ, List, [], ◌++◌, codes}
 use Rattle.std.specs.Fmt.{decimal}
 use Rattle.bridge_core.specs.declared.status.Status.{Status}
-use Rattle.bridge_core.specs.declared.status.Status.TheVariants.{Done, Words, Uninitialised, Initialised, Damaged, BadFrame, CutFrame, DiskFault, SourceFault, SinkFault, NoMemory, InputLimit, PortFault, BadSnapshot}
+use Rattle.bridge_core.specs.declared.status.Status.TheVariants.{Done, Words, Uninitialised, Initialised, Damaged, BadFrame, CutFrame, DiskFault, SourceFault, SinkFault, NoMemory, InputLimit, PortFault, BadSnapshot, TestFailed}
 
 abbrev pub number_of : Status → ℕ
 number_of Done = 0
@@ -19,6 +19,7 @@ number_of NoMemory = 8
 number_of InputLimit = 9
 number_of PortFault = 10
 number_of (BadSnapshot at) = 11
+number_of (TestFailed block) = 12
 
 -- the line on standard error of each status
 abbrev pub line_of : Status → List ℕ
@@ -36,3 +37,4 @@ line_of NoMemory = codes "out of memory"
 line_of InputLimit = codes "input limit"
 line_of PortFault = codes "port fault"
 line_of (BadSnapshot at) = codes "bad snapshot at " ++ decimal at
+line_of (TestFailed block) = codes "self-test failed at block " ++ decimal block

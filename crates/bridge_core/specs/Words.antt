@@ -1,5 +1,5 @@
 -- The commands, and the words of a command line that ask for them.
-use Rattle.std.specs.Prelude.{◌≡◌, ◌≢◌, ℕ, ◌≤◌, length, slice_index, List, [], ◌∷◌, reverse, codes, Ok}
+use Rattle.std.specs.Prelude.{◌≡◌, ◌≢◌, ℕ, ◌-◌, ◌^◌, ◌≤◌, length, slice_index, List, [], ◌∷◌, reverse, codes, Ok}
 use Rattle.std.specs.Fmt.{decimal}
 use Rattle.hex.specs.Hex.{decode_sized}
 use Rattle.nmc_base.specs.Heights.{highest}
@@ -8,10 +8,11 @@ use Rattle.nmc_base.specs.declared.chain_ends.Profile.{Profile}
 use Rattle.nmc_base.specs.declared.chain_ends.Profile.TheVariants.{Regtest, Main}
 use Rattle.name_store.specs.Host.{IsHostOf}
 use Rattle.bridge_core.specs.declared.words.Command.{Command}
-use Rattle.bridge_core.specs.declared.words.Command.TheVariants.{Replay, Dump, Init, Serve}
+use Rattle.bridge_core.specs.declared.words.Command.TheVariants.{Replay, Dump, Init, Serve, SelfTest}
 use Rattle.bridge_core.specs.declared.words.Plan.{Plan}
 use Rattle.bridge_core.specs.declared.words.Start.{Start}
 use Rattle.bridge_core.specs.declared.words.Start.TheVariants.{Empty, Snapshot}
+use Rattle.bridge_core.specs.declared.words.Trial.{Trial}
 
 -- a number within its limits: decimal digits without a leading zero, or `0`
 pub record IsNumber (least most : ℕ) (text : List ℕ) (n : ℕ) : Type 0 where
@@ -30,6 +31,14 @@ IsPort = IsNumber 1 65535
 -- how many polls are made
 abbrev pub AreTurns : List ℕ → ℕ → Type 0
 AreTurns = IsNumber 1 1000000000
+
+-- how many blocks a self-test generates
+abbrev pub AreBlocks : List ℕ → ℕ → Type 0
+AreBlocks = IsNumber 1 10000
+
+-- the number that a generated chain is made from
+abbrev pub IsSeed : List ℕ → ℕ → Type 0
+IsSeed = IsNumber 0 (2 ^ 64 - 1)
 
 -- neither a sign nor a leading zero stands in front
 pub record IsPlain (text : List ℕ) : Type 0 where
@@ -82,12 +91,25 @@ pub record AsksToServe (words : List (List ℕ)) (plan : Plan) : Type 0 where
   pub words_are : words ≡ codes "serve" ∷ (udp ∷ (feed ∷ (turns ∷ [])))
   pub numbers : AreNumbers udp feed turns plan
 
+-- the texts of how many blocks, and of the seed
+pub record AreTrial (blocks seed : List ℕ) (trial : Trial) : Type 0 where
+  pub blocks_are : AreBlocks blocks trial.blocks
+  pub seed_is : IsSeed seed trial.seed
+
+-- the words `selftest`, how many blocks, and the seed
+pub record AsksToTest (words : List (List ℕ)) (trial : Trial) : Type 0 where
+  pub blocks : List ℕ
+  pub seed : List ℕ
+  pub words_are : words ≡ codes "selftest" ∷ (blocks ∷ (seed ∷ []))
+  pub numbers : AreTrial blocks seed trial
+
 -- the words ask for the command
 abbrev pub Asks : List (List ℕ) → Command → Type 0
 Asks words Replay = words ≡ codes "replay" ∷ []
 Asks words Dump = words ≡ codes "dump" ∷ []
 Asks words (Init start base name) = AsksForFiles words start base name
 Asks words (Serve plan) = AsksToServe words plan
+Asks words (SelfTest trial) = AsksToTest words trial
 
 -- what a command has no use for stays as it is: the source, the sink and the port
 abbrev pub Spares : Command → (source sink port : Type 0) → Type 0
@@ -96,3 +118,4 @@ Spares Dump source sink port = source × port
 Spares (Init Empty base name) source sink port = source × sink × port
 Spares (Init Snapshot base name) source sink port = sink × port
 Spares (Serve plan) source sink port = source × sink
+Spares (SelfTest trial) source sink port = source × port

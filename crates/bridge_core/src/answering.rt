@@ -19,13 +19,13 @@ use std::sync::ledger::Ledger;
 
 /// What moves a bridge.
 #[derive(Clone, Copy)]
-enum Request<'a> {
+pub(crate) enum Request<'a> {
     Command(ChainCommand<'a>),
     Save,
 }
 
 /// The bridge does what it is asked for.
-fn act<D: Disk, L: Ledger>(
+pub(crate) fn act<D: Disk, L: Ledger>(
     bridge: Bridge,
     alloc: Global,
     disk: &mut D,

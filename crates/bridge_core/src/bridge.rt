@@ -6,6 +6,7 @@ ghost use Rattle.disk_model.specs.DiskSeen.{EndsWith, bytes_in};
 ghost use Rattle.chain_commands.specs.Event.{Connect, Disconnect, Do, Save};
 ghost use Rattle.chain_commands.specs.RunState.{RunState};
 ghost use Rattle.kept_answers.specs.Answering.{none_kept};
+ghost use Rattle.name_report.specs.Counts.{AreCounts};
 ghost use Rattle.name_report.specs.Report.{Reports, reported_by};
 ghost use Rattle.name_store.specs.Opening.{IsSynced, OpenAnswer};
 ghost use Rattle.name_store.specs.Stands.{Stands};
@@ -27,9 +28,9 @@ use disk_model::Disk;
 use dns_message::Transport;
 use frame_loop::ReplyBuf;
 use kept_answers::Cache;
-use name_report::{ReportFault, report};
+use name_report::{NameCounts, ReportFault, count_names, report};
 use name_store::{OpenFault, Outcome, Store};
-use nmc_base::{Hash32, NoMemory, Steps};
+use nmc_base::{Hash32, NoMemory, Steps, Tip};
 use std::alloc::Global;
 use std::marker::Model;
 use std::sync::ledger::Ledger;
@@ -61,6 +62,20 @@ impl Bridge {
     /// The height of the newest block, or of the base.
     pub(crate) fn height(&self) -> u32 {
         self.store.chain().tip().height
+    }
+
+    /// The newest block, or the base.
+    pub(crate) fn tip(&self) -> Tip
+        ensures { result ≡ self.now.store.index.tip }
+    {
+        self.store.chain().tip()
+    }
+
+    /// How many names have an entry, and how many of these are served.
+    pub(crate) fn count_names(&self, alloc: Global) -> Result<NameCounts, NoMemory>
+        ensures { IfOk result (λ counts. AreCounts (reported_by self.now.store.index) counts) }
+    {
+        count_names(alloc, self.store.chain())
     }
 
     /// Opens the files: the bridge stands for the run state that they stand for. It writes nothing and cuts nothing, and syncs

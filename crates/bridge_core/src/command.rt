@@ -1,19 +1,21 @@
 ghost use Rattle.std.specs.Prelude.{◌≡◌, ◌↔◌, ◌^◌, List, ℕ, IsTrue};
 ghost use Rattle.nmc_base.specs.declared.chain_ends.Base.{Base};
 ghost use Rattle.frame_loop.specs.Transcript.{streams};
-ghost use Rattle.bridge_core.specs.Words.{Asks, AsksForFiles, AsksToServe, Spares};
+ghost use Rattle.bridge_core.specs.Words.{Asks, AsksForFiles, AsksToServe, AsksToTest, Spares};
 ghost use Rattle.bridge_core.specs.Determined.{outside};
 ghost use Rattle.bridge_core.specs.Making.{Inits, InitsFrom};
 ghost use Rattle.bridge_core.specs.Replaying.{Replays};
 ghost use Rattle.bridge_core.specs.Dumping.{Dumps, dump_seen};
+ghost use Rattle.bridge_core.specs.SelfTest.{SelfTests};
 ghost use Rattle.bridge_core.specs.Serving.{Serves, serve_seen};
 
 use crate::dumping::dump;
 use crate::making::{init, init_from};
 use crate::replaying::replay;
+use crate::self_test::self_test;
 use crate::serving::serve;
 use crate::status::Status;
-use crate::words::{Command, Plan, Start, read_words};
+use crate::words::{Command, Plan, Start, Trial, read_words};
 use byte_io::{Port, Sink, Source};
 use disk_model::Disk;
 use nmc_base::Words;
@@ -22,11 +24,12 @@ use std::alloc::Global;
 /// The most bytes that one replay reads: 2^40.
 const LIMIT: u64 = 1 << 40;
 
-/// Does what the words say: `replay` or `dump` alone; `init` or `init-from` with a profile, a height, a hash and a host; or `serve`
-/// with the numbers of two ports and of the polls.
+/// Does what the words say: `replay` or `dump` alone; `init` or `init-from` with a profile, a height, a hash and a host; `serve`
+/// with the numbers of two ports and of the polls; or `selftest` with how many blocks and a seed.
 ///
 /// Other words end with `Status::Words`, and then nothing is read, written or asked of the disk or the port. `init` makes the
-/// files of a base, which has no command yet, and `init-from` those of a base with the start list of a snapshot on the source. Each command asks nothing of what it has no use for.
+/// files of a base, which has no command yet, and `init-from` those of a base with the start list of a snapshot on the source. `selftest` asks nothing of the disk: its files are in memory. Each command asks nothing
+/// of what it has no use for.
 pub fn run<S: Source, K: Sink, D: Disk, P: Port>(
     alloc: Global,
     words: &Words,
@@ -55,6 +58,7 @@ pub fn run<S: Source, K: Sink, D: Disk, P: Port>(
     ensures serve { (plan : Plan) → AsksToServe words.now.items plan
         → Serves D.tells D.seen disk.new (serve_seen (P.seen port.old) (D.seen disk.old))
         (serve_seen (P.seen port.new) (D.seen disk.new)) plan result }
+    ensures selftest { (trial : Trial) → AsksToTest words.now.items trial → SelfTests trial (K.seen sink.old) (K.seen sink.new) result × (disk.new ≡ disk.old) }
 {
     match read_words(words) {
         Some(Command::Replay) => replay(alloc, source, sink, disk, LIMIT),
@@ -64,6 +68,7 @@ pub fn run<S: Source, K: Sink, D: Disk, P: Port>(
         }
         Some(Command::Dump) => dump(alloc, sink, disk),
         Some(Command::Serve(plan)) => serve(alloc, disk, port, plan),
+        Some(Command::SelfTest(trial)) => self_test(alloc, sink, trial),
         None => Status::Words,
     }
 }

@@ -10,7 +10,7 @@ use name_report::ReportFault;
 use std::alloc::Global;
 
 /// The status of a report that ended so.
-fn status_of(written: Result<(), ReportFault>) -> Status
+pub(crate) fn status_of(written: Result<(), ReportFault>) -> Status
     ensures { result ≡ status_of_report written }
 {
     match written {

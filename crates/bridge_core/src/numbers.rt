@@ -1,10 +1,13 @@
 ghost use Rattle.std.specs.Prelude.{◌≡◌, ◌↔◌, ℕ, Some, IsTrue, IfSome};
-ghost use Rattle.bridge_core.specs.Words.{IsNumber, IsHeight, IsPort, AreTurns, IsPlain};
+ghost use Rattle.bridge_core.specs.Words.{IsNumber, IsHeight, IsPort, AreTurns, AreBlocks, IsSeed, IsPlain};
 
 use nmc_base::HIGHEST_HEIGHT;
 
 /// The most polls that one run makes.
 const MOST_TURNS: u32 = 1_000_000_000;
+
+/// The most blocks that one self-test generates.
+const MOST_BLOCKS: u32 = 10_000;
 
 /// Whether a number is written without a sign and without a leading zero.
 fn is_plain(word: &[u8]) -> bool
@@ -19,7 +22,7 @@ fn is_plain(word: &[u8]) -> bool
 }
 
 /// The number that the word is, where it lies within these limits.
-fn read_number(word: &[u8], least: u32, most: u32) -> Option<u32>
+fn read_number(word: &[u8], least: u64, most: u64) -> Option<u64>
     ensures found { IfSome result (λ number. IsNumber least most word.now number) }
     ensures one { (number : ℕ) → IsNumber least most word.now number → result ≡ Some number }
 {
@@ -27,9 +30,20 @@ fn read_number(word: &[u8], least: u32, most: u32) -> Option<u32>
         Ok(text) => text,
         Err(_) => return None,
     };
-    match text.parse::<u32>() {
+    match text.parse::<u64>() {
         Ok(number) if is_plain(word) && least <= number && number <= most => Some(number),
         _ => None,
+    }
+}
+
+/// The number that the word is, where it lies within these limits of 32 bits.
+fn read_small(word: &[u8], least: u32, most: u32) -> Option<u32>
+    ensures found { IfSome result (λ number. IsNumber least most word.now number) }
+    ensures one { (number : ℕ) → IsNumber least most word.now number → result ≡ Some number }
+{
+    match read_number(word, u64::from(least), u64::from(most)) {
+        Some(number) => Some(number as u32),
+        None => None,
     }
 }
 
@@ -38,7 +52,7 @@ pub(crate) fn read_height(word: &[u8]) -> Option<u32>
     ensures found { IfSome result (λ height. IsHeight word.now height) }
     ensures one { (height : ℕ) → IsHeight word.now height → result ≡ Some height }
 {
-    read_number(word, 0, HIGHEST_HEIGHT)
+    read_small(word, 0, HIGHEST_HEIGHT)
 }
 
 /// The number of a port that the word is.
@@ -46,7 +60,7 @@ pub(crate) fn read_port(word: &[u8]) -> Option<u16>
     ensures found { IfSome result (λ number. IsPort word.now number) }
     ensures one { (number : ℕ) → IsPort word.now number → result ≡ Some number }
 {
-    match read_number(word, 1, u16::MAX as u32) {
+    match read_small(word, 1, u16::MAX as u32) {
         Some(number) => Some(number as u16),
         None => None,
     }
@@ -57,5 +71,21 @@ pub(crate) fn read_turns(word: &[u8]) -> Option<u32>
     ensures found { IfSome result (λ number. AreTurns word.now number) }
     ensures one { (number : ℕ) → AreTurns word.now number → result ≡ Some number }
 {
-    read_number(word, 1, MOST_TURNS)
+    read_small(word, 1, MOST_TURNS)
+}
+
+/// The number of generated blocks that the word is.
+pub(crate) fn read_blocks(word: &[u8]) -> Option<u32>
+    ensures found { IfSome result (λ number. AreBlocks word.now number) }
+    ensures one { (number : ℕ) → AreBlocks word.now number → result ≡ Some number }
+{
+    read_small(word, 1, MOST_BLOCKS)
+}
+
+/// The seed that the word is.
+pub(crate) fn read_seed(word: &[u8]) -> Option<u64>
+    ensures found { IfSome result (λ number. IsSeed word.now number) }
+    ensures one { (number : ℕ) → IsSeed word.now number → result ≡ Some number }
+{
+    read_number(word, 0, u64::MAX)
 }

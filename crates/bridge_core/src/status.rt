@@ -1,13 +1,14 @@
 ghost use Rattle.std.specs.Prelude.{◌≡◌, Some};
 ghost use Rattle.bridge_core.specs.Statuses.{number_of, line_of};
 
+use nmc_base::NoMemory;
 use std::fmt;
 
 /// How a command ended. It is displayed as its line on standard error; that of `Done` is empty.
 #[derive(Clone, Copy, PartialEq, Eq, Debug)]
 pub enum Status {
     /// The work was done: the files were made, the source was read to its end and every byte belongs to a whole frame, the
-    /// report was written, or all polls were made.
+    /// report or the summary was written, or all polls were made.
     Done,
     /// The words are none of the forms.
     Words,
@@ -27,7 +28,7 @@ pub enum Status {
     SourceFault,
     /// The last write failed, or took nothing of a piece that isn't empty.
     SinkFault,
-    /// Memory ran out before anything was read, written or polled.
+    /// Memory ran out before anything was read, written or polled; in a self-test, before its summary was written.
     NoMemory,
     /// As many bytes as the limit were read, and nothing was wrong with them.
     InputLimit,
@@ -35,6 +36,8 @@ pub enum Status {
     PortFault,
     /// What the source has is no snapshot on the base: the place of its first fault.
     BadSnapshot { at: u64 },
+    /// An event of this block was refused in a self-test, counted from 1.
+    TestFailed { block: u32 },
 }
 
 impl Status {
@@ -54,7 +57,18 @@ impl Status {
             Status::InputLimit => 9,
             Status::PortFault => 10,
             Status::BadSnapshot { .. } => 11,
+            Status::TestFailed { .. } => 12,
         }
+    }
+}
+
+impl From<NoMemory> for Status {
+    ghost use Rattle.bridge_core.specs.declared.status.Status.TheVariants.{NoMemory};
+
+    ghost from_gives = { λ _ e. e ≡ NoMemory };
+
+    fn from(_fault: NoMemory) -> Status {
+        Status::NoMemory
     }
 }
 
@@ -77,6 +91,7 @@ impl fmt::Display for Status {
             Status::InputLimit => write!(f, "input limit"),
             Status::PortFault => write!(f, "port fault"),
             Status::BadSnapshot { at } => write!(f, "bad snapshot at {at}"),
+            Status::TestFailed { block } => write!(f, "self-test failed at block {block}"),
         }
     }
 }

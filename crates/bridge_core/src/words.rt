@@ -2,9 +2,9 @@ ghost use Rattle.std.specs.Prelude.{◌≡◌, ◌↔◌, List, ℕ, Some, IsTru
 ghost use Rattle.nmc_base.specs.declared.chain_ends.Base.{Base};
 ghost use Rattle.name_store.specs.Host.{IsHostOf};
 ghost use Rattle.nmc_base.specs.declared.chain_ends.Profile.{Profile};
-ghost use Rattle.bridge_core.specs.Words.{Asks, AreFields, AreNumbers, IsHash, profile_word, start_word};
+ghost use Rattle.bridge_core.specs.Words.{Asks, AreFields, AreNumbers, AreTrial, IsHash, profile_word, start_word};
 
-use crate::numbers::{read_height, read_port, read_turns};
+use crate::numbers::{read_blocks, read_height, read_port, read_seed, read_turns};
 use domain_text::{Name, absolute_name};
 use nmc_base::{Base, Hash32, Profile, Words};
 
@@ -17,6 +17,15 @@ pub struct Plan {
     pub feed: u16,
     /// How many polls are made.
     pub turns: u32,
+}
+
+/// A self-test.
+#[derive(Clone, Copy, PartialEq, Eq, Debug)]
+pub struct Trial {
+    /// How many blocks are generated.
+    pub blocks: u32,
+    /// The number that they are made from.
+    pub seed: u64,
 }
 
 /// The start list with which files are made.
@@ -39,6 +48,8 @@ pub enum Command {
     Init(Start, Base, Name),
     /// The word `serve`, the numbers of two ports, and the turns.
     Serve(Plan),
+    /// The word `selftest`, how many blocks, and the seed.
+    SelfTest(Trial),
 }
 
 /// No name of a base's host has more bytes on the wire.
@@ -60,7 +71,7 @@ fn read_hash(word: &[u8]) -> Option<Hash32>
 }
 
 /// The name of the host that the word is.
-fn read_host(word: &[u8]) -> Option<Name>
+pub(crate) fn read_host(word: &[u8]) -> Option<Name>
     ensures found { IfSome result (λ name. IsHostOf word.now name) }
     ensures one { (name : List ℕ) → IsHostOf word.now name → result ≡ Some name }
 {
@@ -156,6 +167,16 @@ fn read_plan(udp: &[u8], feed: &[u8], turns: &[u8]) -> Option<Plan>
     Some(Plan { udp, feed, turns })
 }
 
+/// The trial of these numbers.
+fn read_trial(blocks: &[u8], seed: &[u8]) -> Option<Trial>
+    ensures found { IfSome result (AreTrial blocks.now seed.now) }
+    ensures one { (trial : Trial) → AreTrial blocks.now seed.now trial → result ≡ Some trial }
+{
+    let blocks = read_blocks(blocks)?;
+    let seed = read_seed(seed)?;
+    Some(Trial { blocks, seed })
+}
+
 fn is_replay(word: &[u8]) -> bool
     ensures { IsTrue result ↔ (word.now ≡ codes "replay") }
 {
@@ -174,6 +195,12 @@ fn is_serve(word: &[u8]) -> bool
     word == b"serve".as_slice()
 }
 
+fn is_selftest(word: &[u8]) -> bool
+    ensures { IsTrue result ↔ (word.now ≡ codes "selftest") }
+{
+    word == b"selftest".as_slice()
+}
+
 /// The command that the words ask for, or none.
 pub(crate) fn read_words(words: &Words) -> Option<Command>
     ensures found { IfSome result (λ asked. Asks words.now.items asked) }
@@ -182,6 +209,10 @@ pub(crate) fn read_words(words: &Words) -> Option<Command>
     match words.as_slice() {
         [word] if is_replay(word.as_slice()) => Some(Command::Replay),
         [word] if is_dump(word.as_slice()) => Some(Command::Dump),
+        [form, blocks, seed] if is_selftest(form.as_slice()) => {
+            let trial = read_trial(blocks.as_slice(), seed.as_slice())?;
+            Some(Command::SelfTest(trial))
+        }
         [form, udp, feed, turns] if is_serve(form.as_slice()) => {
             let plan = read_plan(udp.as_slice(), feed.as_slice(), turns.as_slice())?;
             Some(Command::Serve(plan))

@@ -1,16 +1,18 @@
-use Rattle.std.proofs.Common.{List, ℕ, ◌^◌, Some, sym, ap, subst, ◌∙◌}
+use Rattle.std.proofs.Common.{List, ℕ, ◌^◌, Some, refl, sym, ap, subst, ◌∙◌}
 use Rattle.std.proofs.lemmas.Option.{none-some}
 use Rattle.nmc_base.specs.declared.chain_ends.Base.{Base}
 use Rattle.name_store.specs.Host.{IsHostOf}
 use Rattle.bridge_core.specs.Making.{Inits, InitsFrom}
+use Rattle.bridge_core.specs.SelfTest.{SelfTests}
 use Rattle.bridge_core.specs.Serving.{Serves, serve_seen}
 use Rattle.bridge_core.specs.Words.{Asks}
 use Rattle.bridge_core.specs.declared.words.Command.{Command}
-use Rattle.bridge_core.specs.declared.words.Command.TheVariants.{Replay, Dump, Init, Serve}
+use Rattle.bridge_core.specs.declared.words.Command.TheVariants.{Replay, Dump, Init, Serve, SelfTest}
 use Rattle.bridge_core.specs.declared.words.Plan.{Plan}
 use Rattle.bridge_core.specs.declared.words.Start.{Start}
 use Rattle.bridge_core.specs.declared.words.Start.TheVariants.{Empty, Snapshot}
-use Rattle.bridge_core.proofs.StatusLemmas.{init_not_words, from_not_words, same_base, same_host, same_plan}
+use Rattle.bridge_core.specs.declared.words.Trial.{Trial}
+use Rattle.bridge_core.proofs.StatusLemmas.{init_not_words, from_not_words, same_base, same_host, same_plan, same_trial}
 use Rattle.bridge_core.proofs.command.run.Goals as goal
 
 pub returns-in-None-clause-replay : goal.returns-in-None-clause-replay
@@ -27,6 +29,16 @@ returns-in-None-clause-dump g c = λ asked. absurd (none-some _ (c.in-None.ensur
 
 pub returns-in-None-clause-serve : goal.returns-in-None-clause-serve
 returns-in-None-clause-serve g c = λ plan asked. absurd (none-some _ (c.in-None.ensures.one (Serve plan) asked))
+
+pub returns-in-None-clause-selftest : goal.returns-in-None-clause-selftest
+returns-in-None-clause-selftest g c = λ trial asked. absurd (none-some _ (c.in-None.ensures.one (SelfTest trial) asked))
+
+pub returns-in-Some-SelfTest-clause-selftest : goal.returns-in-Some-SelfTest-clause-selftest
+returns-in-Some-SelfTest-clause-selftest g c = λ trial asked.
+    let one = sym (ap Some c.in-Some-SelfTest.field-0-is) ∙ c.in-Some-SelfTest.ensures.one (SelfTest trial) asked in (
+      subst (λ (t : Trial). SelfTests t (g.K.Sink.seen c.args.sink.now) (g.K.Sink.seen c.self_test.new.sink) c.self_test.result) (same_trial c.in-Some-SelfTest.trial trial one) c.self_test.ensures,
+      refl,
+    )
 
 pub returns-in-Some-Serve-clause-serve : goal.returns-in-Some-Serve-clause-serve
 returns-in-Some-Serve-clause-serve g c = λ plan asked.

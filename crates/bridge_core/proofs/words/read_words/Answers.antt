@@ -22,7 +22,7 @@ returns-in_ok-plan-in-len4-clause-one c = λ asked is.
 
 pub returns-in_err-plan-in-len4-clause-one : goal.returns-in_err-plan-in-len4-clause-one
 returns-in_err-plan-in-len4-clause-one c = λ asked is.
-    c.from_residual.ensures ∙ served_by c.as_slice.result.now (record {
+    c.from_residual-in_err-plan-in-len4.ensures ∙ served_by c.as_slice.result.now (record {
       udp = c.udp-item.result;
       feed = c.feed-item.result;
       turns = c.turns-item.result;
