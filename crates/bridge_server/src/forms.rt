@@ -4,13 +4,14 @@ use std::{fmt, str};
 use system_io::People;
 
 /// What each command is called with.
-const FORMS: [&str; 7] = [
+const FORMS: [&str; 8] = [
     "the commands:",
     "  init PROFILE HEIGHT HASH HOST        makes the files of a chain's base in this folder",
     "  init-from PROFILE HEIGHT HASH HOST   makes them with the names of a snapshot from standard input",
     "  serve UDP_PORT FEED_PORT TURNS       answers queries, and takes blocks from a feed",
     "  replay                               takes blocks from standard input, and replies on standard output",
     "  dump                                 writes what each name has to standard output",
+    "  selftest BLOCKS SEED                 plays a generated chain over files in memory, and writes a summary",
     "the manual jaqhumpi(8) says more",
 ];
 
@@ -18,6 +19,8 @@ const FORMS: [&str; 7] = [
 const LONGEST_HOST_NAME: usize = 244;
 
 const MOST_TURNS: u32 = 1_000_000_000;
+
+const MOST_BLOCKS: u32 = 10_000;
 
 /// What is wrong with words that ask for nothing: this word, and what is to be said of it.
 #[derive(Drop)]
@@ -37,16 +40,21 @@ fn shown(word: &[u8]) -> &str {
 }
 
 /// Whether the word is a number within these limits, without a sign and without a leading zero.
-fn is_number(word: &[u8], least: u32, most: u32) -> bool {
+fn is_number(word: &[u8], least: u64, most: u64) -> bool {
     let is_plain = word == b"0".as_slice() || !matches!(word, [b'0' | b'+', ..]);
-    match shown(word).parse::<u32>() {
+    match shown(word).parse::<u64>() {
         Ok(number) => is_plain && least <= number && number <= most,
         Err(_) => false,
     }
 }
 
+/// The same within limits of 32 bits.
+fn is_small(word: &[u8], least: u32, most: u32) -> bool {
+    is_number(word, u64::from(least), u64::from(most))
+}
+
 fn is_port(word: &[u8]) -> bool {
-    is_number(word, 1, 65535)
+    is_small(word, 1, 65535)
 }
 
 fn is_hash(word: &[u8]) -> bool {
@@ -112,7 +120,7 @@ fn wrong_for_init<'w>(
         ),
         stands(
             height,
-            is_number(height, 0, HIGHEST_HEIGHT),
+            is_small(height, 0, HIGHEST_HEIGHT),
             "isn't a height: a number from 0 to 2000000000, without a leading zero",
         ),
         stands(
@@ -143,8 +151,31 @@ fn wrong_for_serve<'w>(command: &'w [u8], words: &'w [Bytes]) -> Option<Complain
         stands(feed, is_port(feed), port),
         stands(
             turns,
-            is_number(turns, 1, MOST_TURNS),
+            is_small(turns, 1, MOST_TURNS),
             "isn't a number of turns: from 1 to 1000000000, without a leading zero",
+        ),
+    ])
+}
+
+/// What is wrong with the words behind `selftest`.
+fn wrong_for_selftest<'w>(command: &'w [u8], words: &'w [Bytes]) -> Option<Complaint<'w>> {
+    let [blocks, seed] = words else {
+        return Some(Complaint {
+            word: command,
+            text: "takes two words: selftest BLOCKS SEED",
+        });
+    };
+    let (blocks, seed) = (blocks.as_slice(), seed.as_slice());
+    first_wrong(&[
+        stands(
+            blocks,
+            is_small(blocks, 1, MOST_BLOCKS),
+            "isn't a number of blocks: from 1 to 10000, without a leading zero",
+        ),
+        stands(
+            seed,
+            is_number(seed, 0, u64::MAX),
+            "isn't a seed: a number from 0 to 18446744073709551615, without a leading zero",
         ),
     ])
 }
@@ -166,6 +197,7 @@ fn complaint_of<'w>(words: &'w [Bytes]) -> Option<Complaint<'w>> {
             "takes four words: init-from PROFILE HEIGHT HASH HOST",
         ),
         b"serve" => wrong_for_serve(command.as_slice(), rest),
+        b"selftest" => wrong_for_selftest(command.as_slice(), rest),
         b"replay" | b"dump" => Some(Complaint {
             word: command.as_slice(),
             text: "takes no other word",

@@ -4,7 +4,7 @@ use crate::outside::{holds, is_told};
 use bridge_core::Status;
 use std::test::Fail;
 
-static LINES: [(Status, u8, &str); 15] = [
+static LINES: [(Status, u8, &str); 16] = [
     (Status::Done, 0, ""),
     (Status::Words, 2, "bad words"),
     (Status::Uninitialised, 3, "not initialised"),
@@ -26,6 +26,11 @@ static LINES: [(Status, u8, &str); 15] = [
     (Status::InputLimit, 9, "input limit"),
     (Status::PortFault, 10, "port fault"),
     (Status::BadSnapshot { at: 9 }, 11, "bad snapshot at 9"),
+    (
+        Status::TestFailed { block: 300 },
+        12,
+        "self-test failed at block 300",
+    ),
 ];
 
 #[test]
