@@ -93,7 +93,7 @@ fn is_failure(query: &[u8], reply: &[u8]) -> bool {
 
 /// The reply to a query is this one, or, where that is allowed, SERVFAIL.
 fn replies(rt: &impl Abort, alloc: Global, answers: &mut Answers, row: &Exchange, may_fail: bool) {
-    let mut message = [0; 64];
+    let mut message = [0; 300];
     let mut want = [0; 512];
     let mut buffer = [0xaa; EDNS_SIZE as usize];
     let message_len = read_hex(row.query, &mut message);

@@ -8,7 +8,7 @@ use dns_message::Question;
 use domain_text::{Name, absolute_name};
 use import_expand::Names;
 use nmc_base::Bytes;
-use rows::{CHASES, RULES, VECTORS};
+use rows::{CHASES, HOSTILE, RULES, VECTORS};
 use std::alloc::Global;
 use std::process::Abort;
 use std::test::Fail;
@@ -240,6 +240,12 @@ fn rules(rt: HostRuntime) -> Result<(), Fail> {
 #[test]
 fn chases(rt: HostRuntime) -> Result<(), Fail> {
     table(&rt, rt.alloc(), CHASES)
+}
+
+/// One address for a ring of imports; and no data, without an error, where the value isn't read.
+#[test]
+fn hostile_values(rt: HostRuntime) -> Result<(), Fail> {
+    table(&rt, rt.alloc(), HOSTILE)
 }
 
 /// Answers of another program.

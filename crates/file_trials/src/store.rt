@@ -5,4 +5,5 @@ mod first_block;
 mod life;
 mod making;
 mod memory;
+mod saved_bytes;
 mod stops;

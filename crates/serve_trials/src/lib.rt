@@ -5,13 +5,23 @@
 #[cfg(test)]
 mod crashes;
 #[cfg(test)]
+mod failing_polls;
+#[cfg(test)]
+mod failing_streams;
+#[cfg(test)]
 mod feed;
 #[cfg(test)]
 mod first_block;
 #[cfg(test)]
+mod fronts;
+#[cfg(test)]
 mod outside;
 #[cfg(test)]
 mod polls;
+#[cfg(test)]
+mod refusals;
+#[cfg(test)]
+mod registered_again;
 #[cfg(test)]
 mod registering;
 #[cfg(test)]
@@ -29,4 +39,8 @@ mod stops;
 #[cfg(test)]
 mod streams;
 #[cfg(test)]
+mod tables;
+#[cfg(test)]
 mod texts;
+#[cfg(test)]
+mod wanting;

@@ -114,7 +114,7 @@ fn add(alloc: Global, port: &mut MemoryPort, text: &str) -> Result<(), NoMemory>
 }
 
 /// Adds the polls.
-fn add_all(alloc: Global, port: &mut MemoryPort, polls: &str) -> Result<(), NoMemory> {
+pub(crate) fn add_all(alloc: Global, port: &mut MemoryPort, polls: &str) -> Result<(), NoMemory> {
     for text in polls.split("; ") {
         add(alloc, port, text)?;
     }
@@ -144,7 +144,7 @@ fn is_sent(alloc: Global, sent: Option<Sent<'_>>, text: &str) -> Result<bool, No
 }
 
 /// The port sent these, and no more.
-fn sends_alone(alloc: Global, port: &MemoryPort, sends: &str) -> Result<bool, NoMemory> {
+pub(crate) fn sends_alone(alloc: Global, port: &MemoryPort, sends: &str) -> Result<bool, NoMemory> {
     let mut count = 0usize;
     for text in sends.split("; ") {
         if !is_sent(alloc, port.sent(count), text)? {

@@ -87,7 +87,7 @@ fn is_taken(alloc: Global, outside: &Outside, row: &str) -> Result<bool, NoMemor
     Ok(output.get(..count as usize) == Some(outside.sink.bytes()))
 }
 
-struct Replayed;
+pub(crate) struct Replayed;
 
 impl Trial for Replayed {
     fn is_right(alloc: Global, outside: &mut Outside, row: &str) -> Result<bool, NoMemory> {

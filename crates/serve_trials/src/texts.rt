@@ -78,7 +78,8 @@ fn part(word: &str) -> Option<&'static [u8]> {
     FIRST_BLOCK.get(from.parse::<usize>().ok()?..to.parse::<usize>().ok()?)
 }
 
-fn add_word(bytes: &mut Vec<u8>, word: &str) -> Result<(), AllocError> {
+/// Adds the bytes that a word stands for.
+pub(crate) fn add_word(bytes: &mut Vec<u8>, word: &str) -> Result<(), AllocError> {
     if let Some((front, behind)) = pieces(word) {
         bytes.extend_from_slice(front)?;
         return bytes.extend_from_slice(behind);

@@ -11,13 +11,13 @@ use std::alloc::Global;
 use std::process::Abort;
 use std::test::Fail;
 
-const MAGIC: Found = Found::Not(OpenFault::Damaged { file: 0, at: 1 });
+pub(super) const MAGIC: Found = Found::Not(OpenFault::Damaged { file: 0, at: 1 });
 
-const NETWORK: Found = Found::Not(OpenFault::Damaged { file: 0, at: 9 });
+pub(super) const NETWORK: Found = Found::Not(OpenFault::Damaged { file: 0, at: 9 });
 
-const HEIGHT: Found = Found::Not(OpenFault::Damaged { file: 0, at: 10 });
+pub(super) const HEIGHT: Found = Found::Not(OpenFault::Damaged { file: 0, at: 10 });
 
-const HOST: Found = Found::Not(OpenFault::Damaged { file: 0, at: 47 });
+pub(super) const HOST: Found = Found::Not(OpenFault::Damaged { file: 0, at: 47 });
 
 const IMAGE: Found = Found::Not(OpenFault::Damaged { file: 1, at: 0 });
 
@@ -66,7 +66,7 @@ static AREA_ROWS: [(usize, usize, Found); 10] = [
 ];
 
 /// The bytes with that at this place changed to its complement.
-fn changed(alloc: Global, bytes: &[u8], place: usize) -> Result<Bytes, NoMemory> {
+pub(super) fn changed(alloc: Global, bytes: &[u8], place: usize) -> Result<Bytes, NoMemory> {
     let mut copy = Bytes::copy_of(alloc, bytes)?;
     for (at, byte) in copy.as_mut_slice().iter_mut().enumerate() {
         if at == place {
