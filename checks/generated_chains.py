@@ -136,12 +136,17 @@ class Branch:
         above = self.height + 1
         return block_of(above, self.model.tip, [coinbase(above), *transactions])
 
-    def grow(self):
-        """One block more, in front of which a block with a stray transaction may come."""
+    def deeds(self):
+        """The transactions of a next block by chance, and how the names stand behind it."""
         stands, transactions = {}, []
         for letter, stand in self.kept[-1].items():
             made, stands[letter] = deeds_of(self.chance, letter, stand, self.height + 1, self.model.profile)
             transactions += made
+        return transactions, stands
+
+    def grow(self):
+        """One block more, in front of which a block with a stray transaction may come."""
+        transactions, stands = self.deeds()
         if self.chance.randrange(2):
             place = self.chance.randrange(len(transactions) + 1)
             odd = transactions[:place] + [stray(self.chance, self.kept[-1])] + transactions[place:]
