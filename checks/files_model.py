@@ -15,7 +15,6 @@ from snapshot_model import SnapshotFault, makes_of
 from values_model import Place, host, wire_of
 
 from blocks import CONNECT, DISCONNECT, QUERY, SAVE
-from stores import INIT, what_counts
 
 OPEN, CLOSED = b"\x01", b"\x00"
 MARK = b"NMCIDX1\n"
@@ -195,16 +194,6 @@ class Store:
             told.append(self.answer(given[at : at + 5 + length]))
             at += 5 + length
         return Run(b"".join(told), 0, "")
-
-
-def fronts_of(frames):
-    """The replies to frames over the files of a new store, and what counts of the files at the start and behind each."""
-    store = made(INIT)
-    replies, fronts = [], [what_counts(store.files)]
-    for frame in frames:
-        replies.append(store.answer(frame))
-        fronts.append(what_counts(store.files))
-    return replies, fronts
 
 
 def made(words, makes=()):

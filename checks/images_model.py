@@ -215,11 +215,16 @@ class Index(Chain):
 
     # The text
 
-    def text(self, version=2):
+    def parts(self, version=2):
+        """What stands before the lists of the text, and the entries of each list."""
         head = MAGIC + bytes([version, BYTES_OF_PROFILES[self.base.profile]]) + number(4, self.base.height) + self.base.hash
         coins = [at + coin_text(self.coins[at]) for at in sorted(self.coins, key=in_order)]
         names = [name_text(name) + listed([item_text(item, version) for item in items]) for name, items in self.given().items()]
-        return head + listed([undo_text(undo, version) for undo in self.undos]) + listed(coins) + listed(names)
+        return head, [[undo_text(undo, version) for undo in self.undos], coins, names]
+
+    def text(self, version=2):
+        head, lists = self.parts(version)
+        return head + b"".join(map(listed, lists))
 
 
 def number(length, value):

@@ -30,12 +30,21 @@ def opened(row):
         return run_in(folder, row.words, row.given), files_of(folder)
 
 
+def same(tally, row):
+    """Runs a row, and compares with what the model says of it, which is given back."""
+    return told_same(tally, row, opened(row), run_of(row.words, row.given, row.files))
+
+
+def told_same(tally, row, told, wanted):
+    """Whether what a row came to, and the files behind it, are those of the model."""
+    tally.same(row.what, told[0], wanted[0])
+    tally.same(f"{row.what}: the files", told[1], wanted[1])
+    return wanted
+
+
 def compare(tally, rows):
     """Runs the rows. What the model says of each, with the files behind it."""
     rows = list(rows)
     wanted = [run_of(row.words, row.given, row.files) for row in rows]
     with ThreadPoolExecutor(AT_ONCE) as pool:
-        for row, told, (run, files) in zip(rows, pool.map(opened, rows), wanted):
-            tally.same(row.what, told[0], run)
-            tally.same(f"{row.what}: the files", told[1], files)
-    return wanted
+        return [told_same(tally, *each) for each in zip(rows, pool.map(opened, rows), wanted)]

@@ -1,5 +1,6 @@
 """A run of `serve`: what it is asked by datagrams, and its feed; and chains whose states are known."""
 import contextlib
+import pathlib
 import select
 import socket
 import subprocess
@@ -54,6 +55,16 @@ class Server:
         replies = (self.once(message) for _ in range(TRIES))
         return next((reply for reply in replies if reply is not None), None)
 
+    def answers(self, messages):
+        """The replies to datagrams that are sent at once with a probe behind them, up to the probe's; None where that doesn't come."""
+        with socket.socket(socket.AF_INET, socket.SOCK_DGRAM) as client, contextlib.suppress(TimeoutError):
+            client.connect((HERE, self.udp))
+            client.settimeout(WAIT)
+            for message in (*messages, PROBE):
+                client.send(message)
+            return list(iter(lambda: client.recv(LARGEST), TO_PROBE))
+        return None
+
     def drops(self, message):
         """Whether a message gets no reply: the first that comes is that of the probe behind it."""
         with socket.socket(socket.AF_INET, socket.SOCK_DGRAM) as client:
@@ -65,6 +76,11 @@ class Server:
                 with contextlib.suppress(TimeoutError):
                     return client.recv(LARGEST) == TO_PROBE
         return False
+
+    def memory(self):
+        """The bytes that the process has in memory."""
+        rows = pathlib.Path(f"/proc/{self.run.pid}/status").read_text().splitlines()
+        return 1024 * next(int(row.split()[1]) for row in rows if row.startswith("VmRSS:"))
 
     def streams(self):
         return Stream(self.udp)
@@ -129,6 +145,10 @@ class Stream:
         """The replies to messages that are said at once with a probe behind them, up to the probe's."""
         self.say(*messages, PROBE)
         return list(iter(self.reply_before_probe, None))
+
+    def rest(self):
+        """The replies that come whole until the server closes."""
+        return list(iter(self.reply, None))
 
     def reply_before_probe(self):
         told = self.reply()
