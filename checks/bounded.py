@@ -8,8 +8,8 @@ import argparse
 import multiprocessing
 import os
 import random
-import subprocess
 import sys
+import traceback
 
 import limits
 from common import Tally, program
@@ -36,8 +36,9 @@ def looked_at(job):
     part = Part(seed, number)
     try:
         look(part, part.chance, count)
-    except (subprocess.TimeoutExpired, SystemExit) as why:
-        part.check("a run", False, why)
+    except (Exception, SystemExit):
+        # So the others go on, and what they have started is ended by them.
+        part.check("a part", False, traceback.format_exc())
     sys.stdout.flush()
     return part.passed, part.failed
 
