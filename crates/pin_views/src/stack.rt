@@ -1,0 +1,103 @@
+ghost use Rattle.std.specs.Prelude.{◌≡◌, ◌+◌, ◌-◌, ◌^◌, ◌<◌, ◌≤◌, ◌++◌, ◌∷◌, [], IfOk, OnOk, OnErr, nat_lt, length, take, slice_get};
+ghost use Rattle.std.specs.Option.{option_copied};
+
+use nmc_base::NoMemory;
+use shared_tree::Tree;
+use std::alloc::Global;
+use std::marker::Model;
+use std::rc::Rc;
+
+/// A stack. A pin of it is an equal stack over the same nodes, and stays as it is whatever becomes of this one.
+///
+/// Contracts see the list of its items, the one at the top last.
+#[derive(Drop)]
+pub struct SharedStack<T> {
+    // An item that was popped stays until the next push, since taking it out of what is shared could want memory.
+    items: Tree<T>,
+    count: usize,
+}
+
+impl<T> Model for SharedStack<T> {
+    ghost use Rattle.std.specs.Prelude.{◌≤◌, List, length, take};
+
+    ghost Value = { List T };
+
+    ghost view = { λ s. take s.count s.items.items };
+
+    ghost invariant = { λ s. s.count ≤ length s.items.items };
+}
+
+impl<T> SharedStack<T> {
+    /// No item. It takes no memory.
+    pub fn new() -> SharedStack<T>
+        ensures { result ≡ [] }
+    {
+        SharedStack {
+            items: Tree::new(),
+            count: 0,
+        }
+    }
+
+    /// Takes the item at the top away, and answers whether there was one. It takes no memory.
+    pub fn pop(&mut self) -> bool
+        ensures some { result ≡ nat_lt 0 (length self.old) }
+        ensures items { self.new ≡ take (length self.old - 1) self.old }
+    {
+        if self.count == 0 {
+            return false;
+        }
+        self.count -= 1;
+        true
+    }
+
+    /// The i-th item, counted from 0, the one at the top last, or None exactly past the end.
+    pub fn at(&self, i: usize) -> Option<&T>
+        ensures { option_copied result ≡ slice_get self.now i }
+    {
+        if i < self.count {
+            self.items.item(i)
+        } else {
+            None
+        }
+    }
+}
+
+impl<T: Drop> SharedStack<T> {
+    /// Puts an item on top. Where memory runs out, nothing changes.
+    pub fn push(&mut self, alloc: Global, item: T) -> Result<(), NoMemory>
+        ensures ok { OnOk result (self.new ≡ self.old ++ item ∷ []) }
+        ensures err { OnErr result (self.new ≡ self.old) }
+    {
+        if self.count == usize::MAX {
+            return Err(NoMemory);
+        }
+        let item = Rc::new(alloc, item)?;
+        let count = self.count;
+        put(alloc, &mut self.items, count, item)?;
+        self.count = count + 1;
+        Ok(())
+    }
+
+    /// An equal stack over the same nodes. It takes no memory: it is refused only where a node can count no further holder.
+    pub fn pin(&self) -> Result<SharedStack<T>, NoMemory>
+        ensures { IfOk result (λ s. s ≡ self.now) }
+    {
+        let items = self.items.pin()?;
+        let count = self.count;
+        Ok(SharedStack { items, count })
+    }
+}
+
+// Puts the item at the place, which may be the one behind the last.
+fn put<T: Drop>(alloc: Global, items: &mut Tree<T>, at: usize, item: Rc<T>) -> Result<(), NoMemory>
+    requires place { at ≤ length items.old.items }
+    requires fits { at + 1 < 2 ^ 64 }
+    ensures ok { OnOk result ((take (at + 1) items.new.items ≡ take at items.old.items ++ item.value ∷ []) × (at + 1 ≤ length items.new.items)) }
+    ensures err { OnErr result (items.new ≡ items.old) }
+{
+    if at < items.len() {
+        items.replace(alloc, at, item)
+    } else {
+        items.insert(alloc, at, item)
+    }
+}
