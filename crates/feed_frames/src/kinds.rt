@@ -15,7 +15,7 @@ pub const LONGEST_MESSAGE: usize = 65_535;
 pub const LONGEST_PAYLOAD: usize = LONGEST_BLOCK;
 
 /// The kinds of frames, by their numbers from 1 on. Who reads frames reads those up to a number; a kind more is one row more.
-pub const KINDS: [Kind; 4] = [
+pub const KINDS: [Kind; 7] = [
     // a block that is to join the chain
     Kind {
         byte: 1,
@@ -39,5 +39,23 @@ pub const KINDS: [Kind; 4] = [
         byte: 4,
         least: 0,
         greatest: 0,
+    },
+    // a listing of the names as they are now is to be opened
+    Kind {
+        byte: 5,
+        least: 0,
+        greatest: 0,
+    },
+    // the number of a listing, whose next page is asked for
+    Kind {
+        byte: 6,
+        least: 4,
+        greatest: 4,
+    },
+    // the number of a listing, which is to be closed
+    Kind {
+        byte: 7,
+        least: 4,
+        greatest: 4,
     },
 ];

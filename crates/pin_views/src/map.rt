@@ -1,4 +1,4 @@
-ghost use Rattle.std.specs.Prelude.{◌≡◌, [], IfOk, IfErr, OnOk, OnErr, slice_get};
+ghost use Rattle.std.specs.Prelude.{◌≡◌, [], IfOk, IfErr, OnOk, OnErr, length, slice_get};
 ghost use Rattle.std.specs.Option.{is_some, option_copied, option_map};
 ghost use Rattle.pin_views.specs.Pairs.{AreInOrder, IsAt, IsGap, value_at, with_pair, without_key};
 
@@ -36,6 +36,13 @@ impl<K: Ord, V> SharedMap<K, V> {
         ensures { result ≡ [] }
     {
         SharedMap { pairs: Tree::new() }
+    }
+
+    /// The number of pairs.
+    pub fn len(&self) -> usize
+        ensures { result ≡ length self.now }
+    {
+        self.pairs.len()
     }
 
     /// The value at the key, or None exactly where no pair has an equal one.

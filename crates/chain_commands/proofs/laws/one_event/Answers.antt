@@ -15,7 +15,10 @@ some_event frame (low, inl h) = (Do (Connect frame.payload), rw h.of_kind refl)
 some_event frame (low, inr (inl h)) = (Do (Disconnect frame.payload), rw h.of_kind refl)
 some_event frame (low, inr (inr (inl h))) = (Ask Datagram frame.payload, rw h.of_kind refl)
 some_event frame (low, inr (inr (inr (inl h)))) = (Save, framed_save frame h.of_kind (empty_of frame.payload h.no_longer))
-some_event frame (low, inr (inr (inr (inr h)))) = absurd h
+some_event frame (low, inr (inr (inr (inr (inl h))))) = absurd (omega (arith, low, h.of_kind))
+some_event frame (low, inr (inr (inr (inr (inr (inl h)))))) = absurd (omega (arith, low, h.of_kind))
+some_event frame (low, inr (inr (inr (inr (inr (inr (inl h))))))) = absurd (omega (arith, low, h.of_kind))
+some_event frame (low, inr (inr (inr (inr (inr (inr (inr h))))))) = absurd h
 
 payload_of : (a b : Frame) → a ≡ b → a.payload ≡ b.payload
 payload_of a b e = ap (λ (f : Frame). f.payload) e

@@ -1,0 +1,4 @@
+pub mod Listing
+pub mod Sessions
+pub mod Pinned
+pub mod Pages

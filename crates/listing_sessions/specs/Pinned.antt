@@ -1,0 +1,55 @@
+-- What the program keeps of listing sessions, and which sessions that stands for.
+use Rattle.std.specs.Prelude.{◌≡◌, ℕ, List, Option, Some, None}
+use Rattle.nmc_base.specs.declared.chain_ends.Profile.{Profile}
+use Rattle.chain_commands.specs.Chain.{Chain, height_of}
+use Rattle.feed_frames.specs.Replies.{Reply}
+use Rattle.std.specs.List.{slice_get}
+use Rattle.listing_sessions.specs.Listing.{IsListing}
+use Rattle.listing_sessions.specs.Sessions.{Session, Sessions}
+use Rattle.listing_sessions.specs.declared.listing.Listing.{Listing}
+use Rattle.pin_views.specs.declared.rows.Row.{Row}
+
+-- what stands at a place, if anything
+abbrev pub held_at : Option (Option Listing) → Option Listing
+held_at None = None
+held_at (Some held) = held
+
+-- the listing of a number
+abbrev pub listing_at : List (Option Listing) → ℕ → Option Listing
+listing_at held number = held_at (slice_get held number)
+
+-- the rows, the profile and the height are the chain's
+pub record IsTakenFrom (chain : Chain) (rows : List (List ℕ × Row)) (profile : Profile) (height : ℕ) : Type 0 where
+  pub listing : IsListing chain rows
+  pub profile_is : profile ≡ chain.base.profile
+  pub height_is : height ≡ height_of chain
+
+-- it pages through the listing of the session's chain, and stands where the session stands
+pub record IsPinnedTo (held : Listing) (now : Session) : Type 0 where
+  pub taken : IsTakenFrom now.chain held.rows held.profile held.height
+  pub position : held.position ≡ now.position
+
+abbrev pub StandsForOne : Option Listing → Option Session → Type 0
+StandsForOne None None = Unit {0}
+StandsForOne None (Some now) = ⊥
+StandsForOne (Some held) None = ⊥
+StandsForOne (Some held) (Some now) = IsPinnedTo held now
+
+-- number by number
+abbrev pub StandFor : List (Option Listing) → Sessions → Type 0
+StandFor held sessions = (number : ℕ) → StandsForOne (listing_at held number) (sessions number)
+
+-- a step of the sessions gives the reply, and what is held stands for what it leaves
+pub record Moves (Step : Sessions → Reply → Sessions → Type 0) (old : Sessions) (reply : Reply) (held : List (Option Listing)) : Type 0 where
+  pub new : Sessions
+  pub step : Step old reply new
+  pub stands : StandFor held new
+
+-- of all sessions that were stood for
+abbrev pub MakesStep : (Sessions → Reply → Sessions → Type 0) → List (Option Listing) → Reply → List (Option Listing) → Type 0
+MakesStep Step old reply new = (sessions : Sessions) → StandFor old sessions → Moves Step sessions reply new
+
+-- the rows are those of the chain, where they are there at all
+abbrev pub AreTakenFrom : Chain → Option (List (List ℕ × Row)) → Profile → ℕ → Type 0
+AreTakenFrom chain None profile height = (profile ≡ chain.base.profile) × (height ≡ height_of chain)
+AreTakenFrom chain (Some rows) profile height = IsTakenFrom chain rows profile height

@@ -1,0 +1,13 @@
+//! Listing sessions: each pages through the names of the chain that it was opened on, however the chain moves on meanwhile.
+#![tactic(auto)]
+
+mod codes;
+mod laws;
+mod listing;
+mod page;
+mod sessions;
+
+pub use kept_rows::Rows;
+pub use laws::one_listing;
+pub use page::{LARGEST_PAGE, LONGEST_PAGE};
+pub use sessions::{MOST_SESSIONS, Sessions};
