@@ -8,13 +8,3 @@ pub mod QueryingLemmas
 pub mod AnsweringLemmas
 pub mod DeterminedLemmas
 pub mod OpeningLemmas
-pub mod DumpingLemmas
-pub mod ServingLemmas
-pub mod WordLemmas
-pub mod StatusLemmas
-pub mod MakingLemmas
-pub mod PlayingLemmas
-pub mod RequestLemmas
-pub mod HitLemmas
-pub mod SelfTestLemmas
-pub mod SummaryLemmas

@@ -83,3 +83,6 @@ module _ (tells : Bool) (old new : DiskSeen) where
   begins_well (faults.Damaged file at) u told run stands well = absurd (u.follows told run stands)
   begins_well faults.DiskFault u told run stands well = absurd (well (u.cause refl).rose)
   begins_well faults.NoMemory u told run stands well = lacks_memory
+
+pub memory_not_fault : {P : Type 0} → faults.NoMemory ≡ faults.DiskFault → P
+memory_not_fault e = cc

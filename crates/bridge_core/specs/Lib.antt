@@ -3,12 +3,7 @@ pub mod Bridged
 pub mod Bridge
 pub mod Reached
 pub mod Statuses
+pub mod Reporting
 pub mod Opening
 pub mod Determined
 pub mod Replaying
-pub mod Dumping
-pub mod Serving
-pub mod Making
-pub mod Playing
-pub mod SelfTest
-pub mod Words

@@ -19,13 +19,15 @@ use std::sync::ledger::Ledger;
 
 /// What moves a bridge.
 #[derive(Clone, Copy)]
-pub(crate) enum Request<'a> {
+pub enum Request<'a> {
+    /// A command on the chain.
     Command(ChainCommand<'a>),
+    /// The index is to be saved.
     Save,
 }
 
 /// The bridge does what it is asked for.
-pub(crate) fn act<D: Disk, L: Ledger>(
+pub fn act<D: Disk, L: Ledger>(
     bridge: Bridge,
     alloc: Global,
     disk: &mut D,

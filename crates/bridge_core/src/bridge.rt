@@ -14,8 +14,8 @@ ghost use Rattle.name_store.specs.Stored as stores;
 ghost use Rattle.name_store.specs.Stored.{IsOn};
 ghost use Rattle.bridge_core.specs.Bridged.{StandsFor};
 ghost use Rattle.bridge_core.specs.Bridge.{AnswersEvent, AnswersQuery, IsCheapTurn};
-ghost use Rattle.bridge_core.specs.Dumping.{reported_of};
 ghost use Rattle.bridge_core.specs.Opening.{store_in};
+ghost use Rattle.bridge_core.specs.Reporting.{reported_of};
 ghost use Rattle.bridge_core.specs.Views.{carrier_of, command_of, IsWithinLimits};
 
 use crate::desk::Desk;
@@ -60,19 +60,19 @@ pub enum Turned {
 
 impl Bridge {
     /// The height of the newest block, or of the base.
-    pub(crate) fn height(&self) -> u32 {
+    pub fn height(&self) -> u32 {
         self.store.chain().tip().height
     }
 
     /// The newest block, or the base.
-    pub(crate) fn tip(&self) -> Tip
+    pub fn tip(&self) -> Tip
         ensures { result ≡ self.now.store.index.tip }
     {
         self.store.chain().tip()
     }
 
     /// How many names have an entry, and how many of these are served.
-    pub(crate) fn count_names(&self, alloc: Global) -> Result<NameCounts, NoMemory>
+    pub fn count_names(&self, alloc: Global) -> Result<NameCounts, NoMemory>
         ensures { IfOk result (λ counts. AreCounts (reported_by self.now.store.index) counts) }
     {
         count_names(alloc, self.store.chain())

@@ -3,32 +3,22 @@
 
 mod answering;
 mod bridge;
-mod codes;
-mod command;
-mod course;
+pub mod codes;
 mod desk;
-mod dumping;
 mod event;
-mod making;
-mod numbers;
 mod opening;
-mod playing;
 mod querying;
 mod replaying;
 mod replies;
 mod reply_room;
-mod self_test;
-mod serving;
 mod status;
-mod summary;
-mod words;
 
+pub use answering::{Request, act};
 pub use bridge::{Bridge, Turned};
-pub use command::run;
 pub use event::{ChainCommand, Event};
 pub use frame_loop::ReplyBuf;
 pub use kept_answers::Cache;
 pub use name_store::OpenFault;
+pub use opening::{let_go, unopened};
 pub use replaying::replay;
 pub use status::Status;
-pub use words::{Command, Plan, Start, Trial};

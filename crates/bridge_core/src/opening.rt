@@ -6,7 +6,7 @@ use crate::status::Status;
 use name_store::OpenFault;
 
 /// The status of files that couldn't be opened.
-pub(crate) fn unopened(fault: OpenFault) -> Status
+pub fn unopened(fault: OpenFault) -> Status
     ensures { result ≡ status_of_fault fault }
 {
     match fault {
@@ -17,5 +17,5 @@ pub(crate) fn unopened(fault: OpenFault) -> Status
     }
 }
 
-/// One place lets go of the bridge: each such place is dear to prove.
-pub(crate) fn let_go(_last: Turned) {}
+/// Lets go of a bridge, in one place for all: each such place is dear to prove.
+pub fn let_go(_last: Turned) {}

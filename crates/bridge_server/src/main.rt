@@ -4,7 +4,7 @@
 
 mod forms;
 
-use bridge_core::{Status, run};
+use bridge_commands::{Status, run};
 use forms::tell_forms;
 use nmc_base::{Bytes, NoMemory, Words};
 use std::process::ExitCode;

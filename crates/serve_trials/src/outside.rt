@@ -2,7 +2,8 @@
 
 use crate::streams::{Given, Pace, Taken};
 use crate::texts::{bytes_of, number_or};
-use bridge_core::{Status, run};
+use bridge_commands::run;
+use bridge_core::Status;
 use memory_disk::MemoryDisk;
 use memory_io::MemoryPort;
 use nmc_base::{Bytes, NoMemory, Words};

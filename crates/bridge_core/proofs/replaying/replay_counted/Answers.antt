@@ -6,7 +6,7 @@ use Rattle.frame_loop.specs.Transcript.{streams}
 use Rattle.name_store.specs.declared.faults.OpenFault.TheVariants.{NoMemory}
 use Rattle.bridge_core.specs.Determined.{outside}
 use Rattle.bridge_core.proofs.DeterminedLemmas.{replays_unbegun}
-use Rattle.bridge_core.proofs.StatusLemmas.{memory_not_fault}
+use Rattle.bridge_core.proofs.OpeningLemmas.{memory_not_fault}
 use Rattle.bridge_core.proofs.replaying.replay_counted.Goals as goal
 
 pub returns-in-Err : goal.returns-in-Err

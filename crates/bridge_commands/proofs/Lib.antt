@@ -1,0 +1,10 @@
+pub mod DumpingLemmas
+pub mod ServingLemmas
+pub mod WordLemmas
+pub mod StatusLemmas
+pub mod MakingLemmas
+pub mod PlayingLemmas
+pub mod RequestLemmas
+pub mod HitLemmas
+pub mod SelfTestLemmas
+pub mod SummaryLemmas

@@ -1,0 +1,53 @@
+-- What the statuses of `init` and `init-from` aren't, and which command the words ask for.
+use Rattle.std.proofs.Common.{◌≡◌, ℕ, Bool, List, Some, Result, Ok, Err, sym, ◌∙◌}
+use Rattle.byte_io.specs.Source.{SourceSeen}
+use Rattle.chain_starts.specs.declared.fault.StartFault.{StartFault}
+use Rattle.chain_starts.specs.declared.fault.StartFault.TheVariants as starts
+use Rattle.nmc_base.specs.declared.chain_ends.Base.{Base}
+use Rattle.disk_model.specs.DiskSeen.{DiskSeen}
+use Rattle.bridge_core.specs.declared.status.Status.{Status}
+use Rattle.bridge_core.specs.declared.status.Status.TheVariants.{Done, Words, Initialised, DiskFault}
+use Rattle.bridge_commands.specs.Making.{InitEnds, made, stays, failed, InitsFrom, status_of_start}
+use Rattle.bridge_commands.specs.declared.words.Command.TheVariants.{Init, SelfTest, Serve}
+use Rattle.bridge_commands.specs.declared.words.Plan.{Plan}
+use Rattle.bridge_commands.specs.declared.words.Start.{Start}
+use Rattle.bridge_commands.specs.declared.words.Trial.{Trial}
+
+pub initialised_not_done : {P : Type 0} → Initialised ≡ Done → P
+initialised_not_done e = cc
+
+pub fault_not_done : {P : Type 0} → DiskFault ≡ Done → P
+fault_not_done e = cc
+
+-- `init` never ends for its words
+pub init_not_words : {tells : Bool} {old new : DiskSeen} {status : Status} → InitEnds tells old new status → status ≡ Words → ⊥
+init_not_words (made was) e = cc
+init_not_words (stays was only) e = cc
+init_not_words (failed has) e = cc
+
+module _ (start : Start) (found base : Base) (host name : List ℕ) where
+  pub same_base : Some (Init start found host) ≡ Some (Init start base name) → found ≡ base
+  same_base e = cc
+
+  pub same_host : Some (Init start found host) ≡ Some (Init start base name) → host ≡ name
+  same_host e = cc
+
+-- nor does `init-from`
+start_not_words : (ended : Result (Unit {0}) StartFault) → status_of_start ended ≡ Words → ⊥
+start_not_words (Ok done) e = cc
+start_not_words (Err starts.Initialised) e = cc
+start_not_words (Err (starts.Bad at)) e = cc
+start_not_words (Err starts.InputLimit) e = cc
+start_not_words (Err starts.SourceFault) e = cc
+start_not_words (Err starts.DiskFault) e = cc
+start_not_words (Err starts.NoMemory) e = cc
+
+pub from_not_words : {tells : Bool} {base : Base} {host : List ℕ} {limit : ℕ} {old new : DiskSeen} {before after : SourceSeen} {status : Status}
+    → InitsFrom tells base host limit old new before after status → status ≡ Words → ⊥
+from_not_words inits e = start_not_words inits.ended (sym inits.status_is ∙ e)
+
+pub same_plan : (found plan : Plan) → Some (Serve found) ≡ Some (Serve plan) → found ≡ plan
+same_plan found plan e = cc
+
+pub same_trial : (found trial : Trial) → Some (SelfTest found) ≡ Some (SelfTest trial) → found ≡ trial
+same_trial found trial e = cc

@@ -1,0 +1,21 @@
+use Rattle.std.proofs.Common.{refl}
+use Rattle.fault_counts.proofs.FaultLemmas.{NeverFell_refl}
+use Rattle.disk_model.specs.Moments.{start}
+use Rattle.disk_model.proofs.ImageLemmas.{keeps_unchanged}
+use Rattle.name_store.specs.declared.faults.OpenFault.TheVariants.{NoMemory}
+use Rattle.bridge_core.proofs.OpeningLemmas.{memory_not_fault}
+use Rattle.bridge_commands.specs.Serving.{serve_seen}
+use Rattle.bridge_commands.proofs.ServingLemmas.{serves_unbegun}
+use Rattle.bridge_commands.proofs.serving.serve_counted.Goals as goal
+
+pub returns-in-Err : goal.returns-in-Err
+returns-in-Err g c =
+    let seen = g.D.Disk.seen in
+    let same = serve_seen (g.P.Port.seen c.args.port.now) (seen c.args.disk.now) in
+    serves_unbegun (record { tells = g.D.Disk.tells; seen = seen; disk = c.args.disk.now; old = same; new = same; plan = c.args.plan }) NoMemory refl (record {
+      writes_nothing = record { unchanged = refl; any_moment = λ told. keeps_unchanged (start refl) };
+      answer = λ told. tt;
+      follows = λ told run stands. tt;
+      never_fell = NeverFell_refl (seen c.args.disk.now).faults;
+      cause = λ e. memory_not_fault e;
+    })

@@ -1,0 +1,6 @@
+pub mod Dumping
+pub mod Serving
+pub mod Making
+pub mod Playing
+pub mod SelfTest
+pub mod Words
