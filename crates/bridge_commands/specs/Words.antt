@@ -8,7 +8,7 @@ use Rattle.nmc_base.specs.declared.chain_ends.Profile.{Profile}
 use Rattle.nmc_base.specs.declared.chain_ends.Profile.TheVariants.{Regtest, Main}
 use Rattle.name_store.specs.Host.{IsHostOf}
 use Rattle.bridge_commands.specs.declared.words.Command.{Command}
-use Rattle.bridge_commands.specs.declared.words.Command.TheVariants.{Replay, Dump, Init, Serve, SelfTest}
+use Rattle.bridge_commands.specs.declared.words.Command.TheVariants.{Replay, Listing, Dump, Init, Serve, SelfTest}
 use Rattle.bridge_commands.specs.declared.words.Plan.{Plan}
 use Rattle.bridge_commands.specs.declared.words.Start.{Start}
 use Rattle.bridge_commands.specs.declared.words.Start.TheVariants.{Empty, Snapshot}
@@ -35,6 +35,10 @@ AreTurns = IsNumber 1 1000000000
 -- how many blocks a self-test generates
 abbrev pub AreBlocks : List ℕ → ℕ → Type 0
 AreBlocks = IsNumber 1 10000
+
+-- how many rows a page has
+abbrev pub IsPageSize : List ℕ → ℕ → Type 0
+IsPageSize = IsNumber 1 50
 
 -- the number that a generated chain is made from
 abbrev pub IsSeed : List ℕ → ℕ → Type 0
@@ -103,9 +107,16 @@ pub record AsksToTest (words : List (List ℕ)) (trial : Trial) : Type 0 where
   pub words_are : words ≡ codes "selftest" ∷ (blocks ∷ (seed ∷ []))
   pub numbers : AreTrial blocks seed trial
 
+-- the word `list`, and how many rows a page has
+pub record AsksToList (words : List (List ℕ)) (size : ℕ) : Type 0 where
+  pub text : List ℕ
+  pub words_are : words ≡ codes "list" ∷ (text ∷ [])
+  pub size_is : IsPageSize text size
+
 -- the words ask for the command
 abbrev pub Asks : List (List ℕ) → Command → Type 0
 Asks words Replay = words ≡ codes "replay" ∷ []
+Asks words (Listing size) = AsksToList words size
 Asks words Dump = words ≡ codes "dump" ∷ []
 Asks words (Init start base name) = AsksForFiles words start base name
 Asks words (Serve plan) = AsksToServe words plan
@@ -114,6 +125,7 @@ Asks words (SelfTest trial) = AsksToTest words trial
 -- what a command has no use for stays as it is: the source, the sink and the port
 abbrev pub Spares : Command → (source sink port : Type 0) → Type 0
 Spares Replay source sink port = port
+Spares (Listing size) source sink port = port
 Spares Dump source sink port = source × port
 Spares (Init Empty base name) source sink port = source × sink × port
 Spares (Init Snapshot base name) source sink port = sink × port

@@ -3,7 +3,8 @@ ghost use Rattle.nmc_base.specs.declared.chain_ends.Base.{Base};
 ghost use Rattle.frame_loop.specs.Transcript.{streams};
 ghost use Rattle.bridge_core.specs.Determined.{outside};
 ghost use Rattle.bridge_core.specs.Replaying.{Replays};
-ghost use Rattle.bridge_commands.specs.Words.{Asks, AsksForFiles, AsksToServe, AsksToTest, Spares};
+ghost use Rattle.name_lister.specs.Listing.{Lists};
+ghost use Rattle.bridge_commands.specs.Words.{Asks, AsksForFiles, AsksToList, AsksToServe, AsksToTest, Spares};
 ghost use Rattle.bridge_commands.specs.Making.{Inits, InitsFrom};
 ghost use Rattle.bridge_commands.specs.Dumping.{Dumps, dump_seen};
 ghost use Rattle.bridge_commands.specs.SelfTest.{SelfTests};
@@ -17,13 +18,14 @@ use crate::words::{Command, Plan, Start, Trial, read_words};
 use bridge_core::{Status, replay};
 use byte_io::{Port, Sink, Source};
 use disk_model::Disk;
+use name_lister::list;
 use nmc_base::Words;
 use std::alloc::Global;
 
-/// The most bytes that one replay reads: 2^40.
+/// The most bytes that one run over a stream reads: 2^40.
 const LIMIT: u64 = 1 << 40;
 
-/// Does what the words say: `replay` or `dump` alone; `init` or `init-from` with a profile, a height, a hash and a host; `serve`
+/// Does what the words say: `replay` or `dump` alone; `list` with how many rows a page has; `init` or `init-from` with a profile, a height, a hash and a host; `serve`
 /// with the numbers of two ports and of the polls; or `selftest` with how many blocks and a seed.
 ///
 /// Other words end with `Status::Words`, and then nothing is read, written or asked of the disk or the port. `init` makes the
@@ -45,6 +47,9 @@ pub fn run<S: Source, K: Sink, D: Disk, P: Port>(
     ensures replay { Asks words.now.items Command.Replay
         → Replays D.tells D.seen disk.new (outside (streams (S.seen source.old) (K.seen sink.old)) (D.seen disk.old))
         (outside (streams (S.seen source.new) (K.seen sink.new)) (D.seen disk.new)) (2 ^ 40) result }
+    ensures list { (size : ℕ) → AsksToList words.now.items size
+        → Lists size D.tells D.seen disk.new (outside (streams (S.seen source.old) (K.seen sink.old)) (D.seen disk.old))
+        (outside (streams (S.seen source.new) (K.seen sink.new)) (D.seen disk.new)) (2 ^ 40) result }
     ensures init { (base : Base) (name : List ℕ) (asked : AsksForFiles words.now.items Start.Empty base name)
         → Inits D.tells base asked.host (D.seen disk.old) (D.seen disk.new) result }
     ensures init_from { (base : Base) (name : List ℕ) (asked : AsksForFiles words.now.items Start.Snapshot base name)
@@ -61,6 +66,7 @@ pub fn run<S: Source, K: Sink, D: Disk, P: Port>(
 {
     match read_words(words) {
         Some(Command::Replay) => replay(alloc, source, sink, disk, LIMIT),
+        Some(Command::Listing(size)) => list(alloc, source, sink, disk, LIMIT, size),
         Some(Command::Init(Start::Empty, base, host)) => init(disk, &base, &host),
         Some(Command::Init(Start::Snapshot, base, host)) => {
             init_from(alloc, source, disk, &base, &host)

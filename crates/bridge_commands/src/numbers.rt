@@ -1,5 +1,5 @@
 ghost use Rattle.std.specs.Prelude.{◌≡◌, ◌↔◌, ℕ, Some, IsTrue, IfSome};
-ghost use Rattle.bridge_commands.specs.Words.{IsNumber, IsHeight, IsPort, AreTurns, AreBlocks, IsSeed, IsPlain};
+ghost use Rattle.bridge_commands.specs.Words.{IsNumber, IsHeight, IsPort, AreTurns, AreBlocks, IsPageSize, IsSeed, IsPlain};
 
 use nmc_base::HIGHEST_HEIGHT;
 
@@ -8,6 +8,9 @@ const MOST_TURNS: u32 = 1_000_000_000;
 
 /// The most blocks that one self-test generates.
 const MOST_BLOCKS: u32 = 10_000;
+
+/// The most rows that one page of a listing has.
+const MOST_ROWS: u32 = 50;
 
 /// Whether a number is written without a sign and without a leading zero.
 fn is_plain(word: &[u8]) -> bool
@@ -88,4 +91,12 @@ pub(crate) fn read_seed(word: &[u8]) -> Option<u64>
     ensures one { (number : ℕ) → IsSeed word.now number → result ≡ Some number }
 {
     read_number(word, 0, u64::MAX)
+}
+
+/// How many rows a page has, which the word is.
+pub(crate) fn read_page_size(word: &[u8]) -> Option<u32>
+    ensures found { IfSome result (λ size. IsPageSize word.now size) }
+    ensures one { (size : ℕ) → IsPageSize word.now size → result ≡ Some size }
+{
+    read_small(word, 1, MOST_ROWS)
 }

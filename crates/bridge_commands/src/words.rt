@@ -4,7 +4,9 @@ ghost use Rattle.name_store.specs.Host.{IsHostOf};
 ghost use Rattle.nmc_base.specs.declared.chain_ends.Profile.{Profile};
 ghost use Rattle.bridge_commands.specs.Words.{Asks, AreFields, AreNumbers, AreTrial, IsHash, profile_word, start_word};
 
-use crate::numbers::{read_blocks, read_height, read_port, read_seed, read_turns};
+use crate::numbers::{
+    read_blocks, read_height, read_page_size, read_port, read_seed, read_turns,
+};
 use domain_text::{Name, absolute_name};
 use nmc_base::{Base, Hash32, Profile, Words};
 
@@ -42,6 +44,8 @@ pub enum Start {
 pub enum Command {
     /// The word `replay` alone.
     Replay,
+    /// The word `list`, and how many rows a page has.
+    Listing(u32),
     /// The word `dump` alone.
     Dump,
     /// The word of a start list, a profile, a height, a hash and a host: the base of the files, and the name of its host.
@@ -183,6 +187,12 @@ fn is_replay(word: &[u8]) -> bool
     word == b"replay".as_slice()
 }
 
+fn is_list(word: &[u8]) -> bool
+    ensures { IsTrue result ↔ (word.now ≡ codes "list") }
+{
+    word == b"list".as_slice()
+}
+
 fn is_dump(word: &[u8]) -> bool
     ensures { IsTrue result ↔ (word.now ≡ codes "dump") }
 {
@@ -209,6 +219,10 @@ pub(crate) fn read_words(words: &Words) -> Option<Command>
     match words.as_slice() {
         [word] if is_replay(word.as_slice()) => Some(Command::Replay),
         [word] if is_dump(word.as_slice()) => Some(Command::Dump),
+        [form, size] if is_list(form.as_slice()) => {
+            let size = read_page_size(size.as_slice())?;
+            Some(Command::Listing(size))
+        }
         [form, blocks, seed] if is_selftest(form.as_slice()) => {
             let trial = read_trial(blocks.as_slice(), seed.as_slice())?;
             Some(Command::SelfTest(trial))

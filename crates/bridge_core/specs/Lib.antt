@@ -6,4 +6,5 @@ pub mod Statuses
 pub mod Reporting
 pub mod Opening
 pub mod Determined
+pub mod Streaming
 pub mod Replaying

@@ -1,52 +1,11 @@
--- What a replay read and wrote, where its frames and replies led, and what its files stand for.
-use Rattle.std.specs.Prelude.{◌≡◌, ℕ, Bool}
-use Rattle.fault_counts.specs.Faults.{NeverFell}
+-- What a replay does: the run over a stream whose frames a bridge answers.
+use Rattle.std.specs.Prelude.{ℕ, Bool}
 use Rattle.disk_model.specs.DiskSeen.{DiskSeen}
-use Rattle.frame_loop.specs.Transcript.{Transcript}
-use Rattle.frame_loop.specs.declared.following.Ending.{Ending}
-use Rattle.frame_loop.specs.declared.following.Ending.TheVariants as endings
 use Rattle.chain_commands.specs.Event.{last_kind}
-use Rattle.bridge_core.specs.Reached.{Beginning, Reached, Broken}
-use Rattle.bridge_core.specs.Opening.{IsUnbegun, HasOpened, WritesNothing}
-use Rattle.bridge_core.specs.Determined.{Outside, IsDetermined, IsComplete}
-use Rattle.bridge_core.specs.declared.bridge.Turned.{Turned}
+use Rattle.bridge_core.specs.Determined.{Outside}
+use Rattle.bridge_core.specs.Reached.{Reached, Broken}
+use Rattle.bridge_core.specs.Streaming.{Streams}
 use Rattle.bridge_core.specs.declared.status.Status.{Status}
-use Rattle.bridge_core.specs.declared.status.Status.TheVariants.{Done, BadFrame, CutFrame, DiskFault, SourceFault, SinkFault, InputLimit}
 
--- the status of a loop that ended so: a bridge that has ended is a fault of the disk
-abbrev pub status_of_ending : Ending → Status
-status_of_ending endings.Done = Done
-status_of_ending (endings.BadFrame offset) = BadFrame offset
-status_of_ending (endings.CutFrame offset) = CutFrame offset
-status_of_ending endings.SourceFault = SourceFault
-status_of_ending endings.SinkFault = SinkFault
-status_of_ending endings.InputLimit = InputLimit
-status_of_ending endings.Ended = DiskFault
-
--- The files were opened, and the loop over the stream ended so, from the bridge that was opened.
-pub record EndsSo {D : Type 0} (tells : Bool) (seen : D → DiskSeen) (disk : D) (old new : Outside) (limit : ℕ) (how : Ending) : Type 0 where
-  pub start : Beginning D
-  pub start_is : start.before ≡ old.disk
-  pub opened : HasOpened tells old.disk (seen start.opened) start.bridge
-  pub last : Turned
-  pub transcript : Transcript last_kind (Reached tells seen start) (Broken tells seen start) old.streams new.streams limit how (last, disk)
-
--- Nothing was read and nothing written, nothing was written to the files, and the status has its cause.
-pub record StaysUnread (tells : Bool) (old new : Outside) (status : Status) : Type 0 where
-  pub streams : new.streams ≡ old.streams
-  pub writes_nothing : WritesNothing tells old.disk new.disk
-  pub cause : IsUnbegun tells old.disk new.disk status
-
--- Each status with its cause: the files couldn't be opened, or memory ran out; or the loop ended.
-pub data Ends {D : Type 0} (tells : Bool) (seen : D → DiskSeen) (disk : D) (old new : Outside) (limit : ℕ) : Status → Type 0 where
-  unbegun : (status : Status) → StaysUnread tells old new status → Ends tells seen disk old new limit status
-  ended : (how : Ending) → EndsSo tells seen disk old new limit how → Ends tells seen disk old new limit (status_of_ending how)
-
--- what a replay did: no count of faults fell, its transcript, and what that comes to where nothing failed
-pub record Replays {D : Type 0} (tells : Bool) (seen : D → DiskSeen) (disk : D) (old new : Outside) (limit : ℕ) (status : Status) : Type 0 where
-  pub source_later : NeverFell old.streams.source.faults new.streams.source.faults
-  pub sink_later : NeverFell old.streams.sink.faults new.streams.sink.faults
-  pub disk_later : NeverFell old.disk.faults new.disk.faults
-  pub ending : Ends tells seen disk old new limit status
-  pub determined : IsDetermined old new limit status
-  pub complete : IsComplete tells old new limit status
+abbrev pub Replays : {D : Type 0} (tells : Bool) (seen : D → DiskSeen) (disk : D) (old new : Outside) (limit : ℕ) → Status → Type 0
+Replays tells seen disk old new limit status = Streams last_kind (Reached tells seen) (Broken tells seen) tells seen disk old new limit status

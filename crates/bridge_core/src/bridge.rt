@@ -24,6 +24,7 @@ use crate::replies::{
     accept, lack_memory, refuse, refuse_back, refuse_save, tell_fault, tell_saved,
 };
 use byte_io::Sink;
+use chain_state::Chain;
 use disk_model::Disk;
 use dns_message::Transport;
 use frame_loop::ReplyBuf;
@@ -69,6 +70,13 @@ impl Bridge {
         ensures { result ≡ self.now.store.index.tip }
     {
         self.store.chain().tip()
+    }
+
+    /// The index of the chain.
+    pub fn chain(&self) -> &Chain
+        ensures { result.now ≡ self.now.store.index }
+    {
+        self.store.chain()
     }
 
     /// How many names have an entry, and how many of these are served.

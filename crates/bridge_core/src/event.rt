@@ -35,8 +35,8 @@ const CONNECT: u8 = 1;
 /// The kind of a save's frame, which is empty.
 const SAVE: u8 = 4;
 
-/// The event of a whole frame.
-pub(crate) fn read_event(frame: Frame<'_>) -> Event<'_>
+/// The event of a whole frame, of a kind that every run reads, or of a message over a stream.
+pub fn read_event(frame: Frame<'_>) -> Event<'_>
     requires { IsAskable last_kind (feed.frame_of frame) }
     ensures same { event_frame (event_of result) ≡ feed.frame_of frame.entry }
     ensures within { IsReadable result }

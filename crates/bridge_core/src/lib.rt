@@ -15,10 +15,10 @@ mod status;
 
 pub use answering::{Request, act};
 pub use bridge::{Bridge, Turned};
-pub use event::{ChainCommand, Event};
+pub use event::{ChainCommand, Event, read_event};
 pub use frame_loop::ReplyBuf;
 pub use kept_answers::Cache;
 pub use name_store::OpenFault;
 pub use opening::{let_go, unopened};
-pub use replaying::replay;
+pub use replaying::{replay, status_of};
 pub use status::Status;

@@ -1,7 +1,8 @@
 ghost use Rattle.std.specs.Prelude.{◌≡◌, ◌<◌, ◌≤◌, ◌^◌};
 ghost use Rattle.frame_loop.specs.Transcript.{streams};
 ghost use Rattle.bridge_core.specs.Determined.{outside};
-ghost use Rattle.bridge_core.specs.Replaying.{Replays, status_of_ending};
+ghost use Rattle.bridge_core.specs.Replaying.{Replays};
+ghost use Rattle.bridge_core.specs.Streaming.{status_of_ending};
 
 use crate::bridge::{Bridge, Turned};
 use crate::opening::{let_go, unopened};
@@ -14,8 +15,8 @@ use std::alloc::Global;
 use std::marker::Brand;
 use std::sync::ledger::{Blank, Ledger};
 
-/// The status of a run that ended so.
-fn status_of(ending: Ending) -> Status
+/// The status of a run over a stream that ended so.
+pub fn status_of(ending: Ending) -> Status
     ensures { result ≡ status_of_ending ending }
 {
     match ending {

@@ -1,5 +1,5 @@
 -- The rows of names, by their histories; and what an index says of names, and said before its newest block.
-use Rattle.std.specs.Prelude.{◌≡◌, ℕ, ◌≤◌, List, [], ◌∷◌, length, Option, Some, None}
+use Rattle.std.specs.Prelude.{◌≡◌, ℕ, ◌≤◌, List, [], ◌∷◌, Option, Some, None}
 use Rattle.std.specs.Cmp.Lexicographic.{slice_cmp}
 use Rattle.std.specs.Option.{option_map}
 use Rattle.std.specs.Ordering.{nat_cmp}
@@ -34,6 +34,11 @@ pub record FitsRow (name : List ℕ) (row : Row) : Type 0 where
 
 abbrev pub FitRows : List (List ℕ × Row) → Type 0
 FitRows rows = (name : List ℕ) (row : Row) → row_in rows name ≡ Some row → FitsRow name row
+
+-- rows in the order of their names, that fit
+pub record AreFitRows (rows : List (List ℕ × Row)) : Type 0 where
+  pub order : AreInOrder (slice_cmp nat_cmp) rows
+  pub fit : FitRows rows
 
 -- ---- what an index says of names
 

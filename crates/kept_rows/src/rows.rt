@@ -1,12 +1,10 @@
 ghost use Rattle.std.specs.Prelude.{◌≡◌, ◌+◌, ◌*◌, ◌≤◌, length, slice_get, IfOk, IfSome, OnOk};
-ghost use Rattle.std.specs.Cmp.Lexicographic.{slice_cmp};
 ghost use Rattle.std.specs.Option.{option_map};
-ghost use Rattle.std.specs.Ordering.{nat_cmp};
-ghost use Rattle.pin_views.specs.Pairs.{AreInOrder};
+ghost use Rattle.name_tables.specs.Parts.{newest_first};
 ghost use Rattle.kept_rows.specs.Rows.{AreRowsOf, FitsRow, names_now, names_before, newest_ops};
 
 use crate::steps::{refresh, take_back};
-use chain_names::Undo;
+use chain_names::{KeptOp, Undo};
 use chain_state::Chain;
 use nmc_base::{NoMemory, Steps};
 use pin_views::{NameKey, Row, SharedMap, rows_of};
@@ -25,13 +23,23 @@ pub struct Rows {
 impl Model for Rows {
     ghost use Rattle.std.specs.Prelude.{List, ℕ};
     ghost use Rattle.pin_views.specs.declared.rows.Row.{Row};
-    ghost use Rattle.kept_rows.specs.Rows.{FitRows};
+    ghost use Rattle.kept_rows.specs.Rows.{AreFitRows};
 
     ghost Value = { List (List ℕ × Row) };
 
     ghost view = { λ r. r.map };
 
-    ghost invariant = { λ r. FitRows r.map };
+    ghost invariant = { λ r. AreFitRows r.map };
+}
+
+/// The operations on names of the newest of the blocks that these records undo.
+fn ops_of_newest(undos: &[Undo]) -> &[KeptOp]
+    ensures { result.now ≡ newest_ops (newest_first undos.now) }
+{
+    match undos.last() {
+        Some(undo) => undo.ops.as_slice(),
+        None => &[],
+    }
 }
 
 impl Rows {
@@ -60,10 +68,8 @@ impl Rows {
         ensures cost { steps.new ≤ steps.old + length (newest_ops chain.now.undos) }
     {
         let parts = chain.parts();
-        match parts.undos.as_slice().last() {
-            None => Ok(()),
-            Some(undo) => refresh(alloc, &mut self.map, undo.ops.as_slice(), &parts.names, steps),
-        }
+        let ops = ops_of_newest(parts.undos.as_slice());
+        refresh(alloc, &mut self.map, ops, &parts.names, steps)
     }
 
     /// The rows as they are once the chain's newest block has left it. It takes no step on the tables: what the block's record
@@ -72,9 +78,8 @@ impl Rows {
         ensures { IfOk result (λ rows. AreRowsOf (names_now chain.now) self.now → AreRowsOf (names_before chain.now) rows) }
     {
         let mut map = self.map.pin()?;
-        if let Some(undo) = chain.parts().undos.as_slice().last() {
-            take_back(alloc, &mut map, undo.ops.as_slice())?;
-        }
+        let ops = ops_of_newest(chain.parts().undos.as_slice());
+        take_back(alloc, &mut map, ops)?;
         Ok(Rows { map })
     }
 

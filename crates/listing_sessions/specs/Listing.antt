@@ -25,7 +25,7 @@ is_served chain row = is_some (served_value chain.base.profile (histories chain)
 
 -- a truth value as a byte
 abbrev pub flag : Bool → ℕ
-flag yes = if yes then 1 else 0
+flag b = if b then 1 else 0
 
 -- the name behind its length in one byte; the height of the entry in 4 bytes; a byte that is 1 where the name is served; and the value
 -- behind its length in 2 bytes. Numbers have their low byte first.

@@ -68,7 +68,7 @@ pub data Opens (chain : Chain) (old : Sessions) (reply : Reply) (new : Sessions)
 
 -- the session's next page, of so many rows at most, is given, and its position moves behind it
 pub record Turns (size number : ℕ) (now : Session) (old : Sessions) (reply : Reply) (new : Sessions) : Type 0 where
-  pub open : old number ≡ Some now
+  pub is_open : old number ≡ Some now
   pub rows : List (List ℕ × Row)
   pub listing : IsListing now.chain rows
   pub told : reply ≡ page_reply now.chain size (drop now.position rows)
@@ -86,7 +86,7 @@ pub data Pages (size number : ℕ) (old : Sessions) (reply : Reply) (new : Sessi
 
 -- the session is closed
 pub record IsClosed (number : ℕ) (old : Sessions) (reply : Reply) (new : Sessions) : Type 0 where
-  pub open : old number ≢ None
+  pub was_open : old number ≢ None
   pub told : reply ≡ closed_reply
   pub gone : new ≡ with_session old number None
 

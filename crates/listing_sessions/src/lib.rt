@@ -5,6 +5,7 @@ mod codes;
 mod laws;
 mod listing;
 mod page;
+mod replies;
 mod sessions;
 
 pub use kept_rows::Rows;

@@ -1,30 +1,61 @@
-ghost use Rattle.std.specs.Prelude.{◌≡◌, ◌+◌, ◌≤◌, length, vec_capacity};
-ghost use Rattle.nmc_base.specs.Heights.{highest};
-ghost use Rattle.listing_sessions.specs.Pages.{GivesPage};
+ghost use Rattle.std.specs.Prelude.{◌≡◌, ◌+◌, ◌*◌, ◌<◌, ◌≤◌, ◌++◌, Some, length, not, slice_get, take, vec_capacity, vec_len};
+ghost use Rattle.std.specs.List.{flat_map};
+ghost use Rattle.kept_rows.specs.Rows.{FitsRow};
+ghost use Rattle.listing_sessions.specs.Listing.{row_text};
+ghost use Rattle.listing_sessions.specs.Pages.{GivesPage, is_live, left_of, longest_row, pinned};
 ghost use Rattle.listing_sessions.specs.declared.page.TheConstants.{LARGEST_PAGE, LONGEST_PAGE};
+ghost use Rattle.nmc_base.specs.Expiry.{is_expired};
+ghost use Rattle.nmc_base.specs.Heights.{highest};
 
 use crate::page::{write_head, write_row};
-use kept_rows::Rows;
+use kept_rows::{Row, Rows};
 use nmc_base::Profile;
+use std::marker::Model;
 
 /// A listing that is paged through: the rows of a chain's names, the profile of the chain and the height of its tip, and how many of
 /// the rows were given.
+///
+/// Contracts see just that.
 #[derive(Drop)]
 pub(crate) struct Listing {
-    pub(crate) rows: Rows,
-    pub(crate) profile: Profile,
-    pub(crate) height: u32,
-    pub(crate) position: usize,
-    ghost low: { height ≤ highest },
-    ghost within: { position ≤ length rows },
+    rows: Rows,
+    profile: Profile,
+    height: u32,
+    position: usize,
+}
+
+impl Model for Listing {
+    ghost use Rattle.std.specs.Prelude.{◌≤◌, length};
+    ghost use Rattle.nmc_base.specs.Heights.{highest};
+    ghost use Rattle.listing_sessions.specs.Pages.{Pinned, pinned};
+
+    ghost Value = { Pinned };
+
+    ghost view = { λ l. pinned l.rows l.profile l.height l.position };
+
+    ghost invariant = { λ l. (l.height ≤ highest) × (l.position ≤ length l.rows) };
 }
 
 impl Listing {
+    /// Of these rows none was given yet.
+    pub(crate) fn new(rows: Rows, profile: Profile, height: u32) -> Listing
+        requires { height ≤ highest }
+        ensures { result ≡ pinned rows profile height 0 }
+    {
+        Listing {
+            rows,
+            profile,
+            height,
+            position: 0,
+        }
+    }
+
     /// Writes the next page, of so many rows at most, in place of the text, and moves behind it.
     pub(crate) fn turn(&mut self, size: u32, text: &mut Vec<u8>)
         requires size { size ≤ LARGEST_PAGE }
         requires room { LONGEST_PAGE ≤ vec_capacity text.old }
         ensures page { GivesPage size self.old text.new.items self.new }
+        ensures short { vec_len text.new ≤ LONGEST_PAGE }
         ensures capacity { vec_capacity text.old ≤ vec_capacity text.new }
     {
         let left = self.rows.len() - self.position;
@@ -36,12 +67,39 @@ impl Listing {
     }
 
     /// Appends so many of the rows that weren't given.
-    fn write_rows(&self, count: usize, text: &mut Vec<u8>) {
+    fn write_rows(&self, count: usize, text: &mut Vec<u8>)
+        requires few { count ≤ LARGEST_PAGE }
+        requires within { self.now.position + count ≤ length self.now.rows }
+        requires room { vec_len text.old + count * longest_row ≤ vec_capacity text.old }
+        ensures text { text.new.items ≡ text.old.items ++ flat_map (row_text (is_live self.now.profile self.now.height)) (take count (left_of self.now)) }
+        ensures short { vec_len text.new ≤ vec_len text.old + count * longest_row }
+        ensures capacity { vec_capacity text.old ≤ vec_capacity text.new }
+    {
         for i in 0..count {
-            if let Some((name, row)) = self.rows.at(self.position + i) {
-                let is_live = !self.profile.expired(row.height, self.height);
-                write_row(text, name, row, is_live);
-            }
+            let (name, row) = self.left(i);
+            write_row(text, name, row, self.serves(row));
         }
+    }
+
+    /// The i-th of the rows that weren't given.
+    fn left(&self, i: usize) -> (&[u8], &Row)
+        requires { self.now.position + i < length self.now.rows }
+        ensures row { Some (result.0.now, result.1.now) ≡ slice_get (left_of self.now) i }
+        ensures fits { FitsRow result.0.now result.1.now }
+    {
+        // The number of rows fits its type.
+        let _count = self.rows.len();
+        match self.rows.at(self.position + i) {
+            Some(found) => found,
+            None => unreachable!(),
+        }
+    }
+
+    /// Whether the row's name is served: its value isn't expired at the height of the tip.
+    fn serves(&self, row: &Row) -> bool
+        requires { row.now.height ≤ highest }
+        ensures { result ≡ not (is_expired self.now.profile row.now.height self.now.height) }
+    {
+        !self.profile.expired(row.height, self.height)
     }
 }

@@ -1,19 +1,20 @@
-ghost use Rattle.std.specs.Prelude.{◌≡◌, ◌≤◌, ℕ, IfOk, IsSome, Option};
+ghost use Rattle.std.specs.Prelude.{◌≡◌, ◌≤◌, ◌<◌, IfOk, IsTrue, MatchBool, Some, None, length, slice_get, slice_set, vec_capacity, vec_len};
 ghost use Rattle.std.specs.Option.{option_map};
 ghost use Rattle.nmc_base.specs.Heights.{highest};
 ghost use Rattle.chain_commands.specs.Chain.{Chain};
 ghost use Rattle.listing_sessions.specs.Sessions.{Opens, Pages, Closes, none_open};
-ghost use Rattle.listing_sessions.specs.Pinned.{AreTakenFrom, MakesStep, StandFor};
-ghost use Rattle.listing_sessions.specs.declared.page.TheConstants.{LARGEST_PAGE};
+ghost use Rattle.listing_sessions.specs.Pinned.{AreTakenFrom, IsHeldAt, IsLeastEmpty, MakesStep, StandFor, TurnsAt, listing_at};
+ghost use Rattle.listing_sessions.specs.declared.page.TheConstants.{LARGEST_PAGE, LONGEST_PAGE};
 
-use crate::codes;
 use crate::listing::Listing;
 use crate::page::LONGEST_PAGE;
+use crate::replies::{lack_memory, refuse_more, refuse_number, tell_closed, tell_number, tell_page};
 use frame_loop::ReplyBuf;
 use kept_rows::Rows;
 use nmc_base::{NoMemory, Profile};
 use std::alloc::Global;
 use std::marker::Model;
+use std::mem;
 
 /// So many sessions are open at once, at most.
 pub const MOST_SESSIONS: usize = 8;
@@ -29,11 +30,11 @@ pub struct Sessions {
 
 impl Model for Sessions {
     ghost use Rattle.std.specs.Prelude.{◌≡◌, ◌≤◌, List, Option, length, vec_capacity};
-    ghost use Rattle.listing_sessions.specs.declared.listing.Listing.{Listing};
+    ghost use Rattle.listing_sessions.specs.Pages.{Pinned};
     ghost use Rattle.listing_sessions.specs.declared.page.TheConstants.{LONGEST_PAGE};
     ghost use Rattle.listing_sessions.specs.declared.sessions.TheConstants.{MOST_SESSIONS};
 
-    ghost Value = { List (Option Listing) };
+    ghost Value = { List (Option Pinned) };
 
     ghost view = { λ s. s.held.items };
 
@@ -41,10 +42,75 @@ impl Model for Sessions {
 }
 
 /// Rows that are pinned as they are now, where they are there.
-fn pinned(rows: Option<&Rows>) -> Result<Rows, NoMemory> {
+fn pinned_now(rows: Option<&Rows>) -> Result<Rows, NoMemory>
+    ensures { IfOk result (λ pinned. Some pinned ≡ option_map (λ r. r.now) rows.entry) }
+{
     match rows {
         None => Err(NoMemory),
         Some(rows) => rows.pin(),
+    }
+}
+
+/// The least number of which nothing is held.
+fn least_empty(held: &[Option<Listing>]) -> Option<usize>
+    ensures { IsLeastEmpty held.now result }
+{
+    for number in 0..held.len() {
+        if !is_held(held, number) {
+            return Some(number);
+        }
+    }
+    None
+}
+
+/// Whether a listing is held under the number.
+fn is_held(held: &[Option<Listing>], number: usize) -> bool
+    ensures { MatchBool result (IsHeldAt held.now number) (listing_at held.now number ≡ None) }
+{
+    matches!(held.get(number), Some(Some(_)))
+}
+
+/// Holds this under the number, and lets go of what was held there.
+fn put_at(held: &mut Vec<Option<Listing>>, number: usize, now: Option<Listing>)
+    requires { number < length held.old.items }
+    ensures { held.new.items ≡ slice_set held.old.items number now }
+{
+    held[number] = now;
+}
+
+/// Takes what is held under the number.
+fn take_at(held: &mut Vec<Option<Listing>>, number: usize) -> Option<Listing>
+    requires { number < length held.old.items }
+    ensures was { Some result ≡ slice_get held.old.items number }
+    ensures gone { held.new.items ≡ slice_set held.old.items number None }
+{
+    mem::replace(&mut held[number], None)
+}
+
+/// Writes the next page of what is held under the number, of so many rows at most, in place of the text; or answers that there is none.
+fn turn_at(
+    held: &mut Vec<Option<Listing>>,
+    number: usize,
+    size: u32,
+    text: &mut Vec<u8>,
+) -> bool
+    requires size { size ≤ LARGEST_PAGE }
+    requires room { LONGEST_PAGE ≤ vec_capacity text.old }
+    ensures turns { TurnsAt size held.old.items number text.new.items result held.new.items }
+    ensures short { IsTrue result → vec_len text.new ≤ LONGEST_PAGE }
+    ensures capacity { vec_capacity text.old ≤ vec_capacity text.new }
+{
+    if !is_held(held, number) {
+        return false;
+    }
+    match take_at(held, number) {
+        Some(listing) => {
+            let mut listing = listing;
+            listing.turn(size, text);
+            put_at(held, number, Some(listing));
+            true
+        }
+        None => unreachable!(),
     }
 }
 
@@ -64,22 +130,24 @@ impl Sessions {
     /// Opens a session on the chain of these rows, with its profile and the height of its tip, under the least number that isn't open.
     /// Code 0 and the number in 4 bytes, low byte first; code 31 where as many are open as may be; or code FE, want of memory, which it
     /// is too where no rows are there.
-    pub fn open(&mut self, rows: Option<&Rows>, profile: Profile, height: u32, reply: &mut ReplyBuf)
+    pub fn open(
+        &mut self,
+        rows: Option<&Rows>,
+        profile: Profile,
+        height: u32,
+        reply: &mut ReplyBuf,
+    )
         requires low { height ≤ highest }
         ensures { (chain : Chain) → AreTakenFrom chain (option_map (λ r. r.now) rows.entry) profile height → MakesStep (Opens chain) self.old reply.new self.new }
     {
-        match self.held.iter().position(|held| held.is_none()) {
-            None => reply.set(codes::TOO_MANY_SESSIONS, &[], &[]),
-            Some(number) => match pinned(rows) {
-                Err(NoMemory) => reply.set(codes::NO_MEMORY, &[], &[]),
+        match least_empty(&self.held) {
+            None => refuse_more(reply),
+            Some(number) => match pinned_now(rows) {
+                Err(NoMemory) => lack_memory(reply),
                 Ok(rows) => {
-                    self.held[number] = Some(Listing {
-                        rows,
-                        profile,
-                        height,
-                        position: 0,
-                    });
-                    reply.set(codes::DONE, &(number as u32).to_le_bytes(), &[]);
+                    let listing = Listing::new(rows, profile, height);
+                    put_at(&mut self.held, number, Some(listing));
+                    tell_number(reply, number);
                 }
             },
         }
@@ -91,12 +159,10 @@ impl Sessions {
         requires size { size ≤ LARGEST_PAGE }
         ensures { MakesStep (Pages size number) self.old reply.new self.new }
     {
-        match self.held.get_mut(number as usize) {
-            Some(Some(listing)) => {
-                listing.turn(size, &mut self.text);
-                reply.set(codes::DONE, &self.text, &[]);
-            }
-            _ => reply.set(codes::NO_SESSION, &[], &[]),
+        if turn_at(&mut self.held, number as usize, size, &mut self.text) {
+            tell_page(reply, &self.text);
+        } else {
+            refuse_number(reply);
         }
     }
 
@@ -104,12 +170,12 @@ impl Sessions {
     pub fn close(&mut self, number: u32, reply: &mut ReplyBuf)
         ensures { MakesStep (Closes number) self.old reply.new self.new }
     {
-        match self.held.get_mut(number as usize) {
-            Some(held) if held.is_some() => {
-                *held = None;
-                reply.set(codes::DONE, &[], &[]);
-            }
-            _ => reply.set(codes::NO_SESSION, &[], &[]),
+        let place = number as usize;
+        if is_held(&self.held, place) {
+            put_at(&mut self.held, place, None);
+            tell_closed(reply);
+        } else {
+            refuse_number(reply);
         }
     }
 }

@@ -1,7 +1,10 @@
 pub mod Event
 pub mod Step
 pub mod Views
+pub mod Rows
 pub mod Lister
+pub mod Opening
 pub mod Answers
 pub mod Costs
 pub mod Reached
+pub mod Listing

@@ -8,7 +8,7 @@ use Rattle.bridge_core.specs.Reached.{Beginning}
 use Rattle.bridge_core.specs.Replaying.{Replays}
 use Rattle.bridge_core.specs.declared.status.Status.{Status}
 use Rattle.bridge_core.proofs.OpeningLemmas.{first_reached}
-use Rattle.bridge_core.proofs.DeterminedLemmas.{replays_loop, replays_unbegun}
+use Rattle.bridge_core.proofs.DeterminedLemmas.{bridge_answers, streams_loop, streams_unbegun}
 use Rattle.bridge_core.proofs.replaying.replay_by.Goals as goal
 
 pub returns-in-Ok : goal.returns-in-Ok
@@ -29,7 +29,7 @@ returns-in-Ok g c =
     let old = outside (streams (g.S.Source.seen c.args.source.now) (g.K.Sink.seen c.args.sink.now)) before in
     let new = outside (streams (g.S.Source.seen c.follow-ending.new.source) (g.K.Sink.seen c.follow-ending.new.sink)) (seen c.follow-ending.new.world) in
     subst (λ (s : Status). Replays tells seen c.follow-ending.new.world old new c.args.limit s) (sym c.status_of.ensures)
-    (replays_loop (record { tells = tells; seen = seen; disk = c.follow-ending.new.world; old = old; new = new; limit = c.args.limit }) (record {
+    (streams_loop (bridge_answers tells seen) (record { tells = tells; disk = c.follow-ending.new.world; old = old; new = new; limit = c.args.limit }) (record {
       begun = begun;
       begun_is = refl;
       opened = o;
@@ -49,7 +49,7 @@ returns-in-Err g c =
     let old = outside around (seen c.args.disk.now) in
     let new = outside around (seen c.open.new.disk) in
     subst (λ (s : Status). Replays tells seen c.open.new.disk old new c.args.limit s) (sym c.unopened.ensures)
-    (replays_unbegun (record { tells = tells; seen = seen; disk = c.open.new.disk; old = old; new = new; limit = c.args.limit }) c.in-Err.fault refl (record {
+    (streams_unbegun (bridge_answers tells seen) (record { tells = tells; disk = c.open.new.disk; old = old; new = new; limit = c.args.limit }) c.in-Err.fault refl (record {
       writes_nothing = record { unchanged = c.in-Err.ensures.reads; any_moment = c.in-Err.ensures.time };
       answer = c.in-Err.ensures.answer;
       follows = λ told run stands. opens_for (bytes_in (seen c.args.disk.now)) (seen c.open.new.disk).moments.now (Err c.in-Err.fault) (c.in-Err.ensures.answer told) run stands;

@@ -5,7 +5,7 @@ use Rattle.disk_model.proofs.ImageLemmas.{keeps_unchanged}
 use Rattle.frame_loop.specs.Transcript.{streams}
 use Rattle.name_store.specs.declared.faults.OpenFault.TheVariants.{NoMemory}
 use Rattle.bridge_core.specs.Determined.{outside}
-use Rattle.bridge_core.proofs.DeterminedLemmas.{replays_unbegun}
+use Rattle.bridge_core.proofs.DeterminedLemmas.{bridge_answers, streams_unbegun}
 use Rattle.bridge_core.proofs.OpeningLemmas.{memory_not_fault}
 use Rattle.bridge_core.proofs.replaying.replay_counted.Goals as goal
 
@@ -13,7 +13,7 @@ pub returns-in-Err : goal.returns-in-Err
 returns-in-Err g c =
     let seen = g.D.Disk.seen in
     let same = outside (streams (g.S.Source.seen c.args.source.now) (g.K.Sink.seen c.args.sink.now)) (seen c.args.disk.now) in
-    replays_unbegun (record { tells = g.D.Disk.tells; seen = seen; disk = c.args.disk.now; old = same; new = same; limit = c.args.limit }) NoMemory refl
+    streams_unbegun (bridge_answers g.D.Disk.tells seen) (record { tells = g.D.Disk.tells; disk = c.args.disk.now; old = same; new = same; limit = c.args.limit }) NoMemory refl
     (record {
       writes_nothing = record { unchanged = refl; any_moment = λ told. keeps_unchanged (start refl) };
       answer = λ told. tt;

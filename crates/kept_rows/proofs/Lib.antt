@@ -1,0 +1,3 @@
+pub mod IndexRows
+pub mod RowLemmas
+pub mod StepLemmas

@@ -1,0 +1,109 @@
+ghost use Rattle.std.specs.Prelude.{◌≡◌, ◌<◌, ◌≤◌, ◌^◌};
+ghost use Rattle.frame_loop.specs.Transcript.{streams};
+ghost use Rattle.bridge_core.specs.Determined.{outside};
+ghost use Rattle.listing_sessions.specs.declared.page.TheConstants.{LARGEST_PAGE};
+ghost use Rattle.name_lister.specs.Listing.{Lists};
+
+use crate::lister::{ListTurned, Lister};
+use bridge_core::{Status, status_of, unopened};
+use byte_io::{Sink, Source};
+use disk_model::Disk;
+use frame_loop::{Buffers, follow};
+use nmc_base::{NoMemory, Steps};
+use std::alloc::Global;
+use std::marker::Brand;
+use std::sync::ledger::{Blank, Ledger};
+
+/// Lets go of a lister, in a place of its own: such a place is dear to prove.
+fn let_go(_turned: ListTurned) {}
+
+/// Opens the files, and then reads and answers frames by means of these buffers.
+fn list_by<S: Source, K: Sink, D: Disk, L: Ledger>(
+    alloc: Global,
+    buffers: &mut Buffers,
+    source: &mut S,
+    sink: &mut K,
+    disk: &mut D,
+    limit: u64,
+    page: u32,
+    steps: &mut Steps<L>,
+) -> Status
+    requires limit { limit ≤ 2 ^ 40 }
+    requires page { page ≤ LARGEST_PAGE }
+    ensures { Lists page D.tells D.seen disk.new (outside (streams (S.seen source.old) (K.seen sink.old)) (D.seen disk.old))
+        (outside (streams (S.seen source.new) (K.seen sink.new)) (D.seen disk.new)) limit result }
+{
+    match Lister::open(alloc, disk, page, steps) {
+        Ok(lister) => {
+            let mut turned = ListTurned::On(lister);
+            let ending = follow(
+                alloc,
+                &mut turned,
+                disk,
+                buffers,
+                source,
+                sink,
+                limit,
+                steps,
+            );
+            let_go(turned);
+            status_of(ending)
+        }
+        Err(fault) => unopened(fault),
+    }
+}
+
+/// A listing run whose steps are counted in the ledger of the blank.
+fn list_counted<S: Source, K: Sink, D: Disk, L: Ledger>(
+    alloc: Global,
+    source: &mut S,
+    sink: &mut K,
+    disk: &mut D,
+    limit: u64,
+    page: u32,
+    blank: Blank,
+) -> Status
+    requires limit { limit ≤ 2 ^ 40 }
+    requires page { page ≤ LARGEST_PAGE }
+    requires name { blank.name ≡ L.name }
+    requires parts { blank.parts ≡ L.parts }
+    requires some { 0 < blank.parts }
+    ensures { Lists page D.tells D.seen disk.new (outside (streams (S.seen source.old) (K.seen sink.old)) (D.seen disk.old))
+        (outside (streams (S.seen source.new) (K.seen sink.new)) (D.seen disk.new)) limit result }
+{
+    let mut steps = Steps::<L>::new(blank);
+    let mut buffers = match Buffers::new(alloc) {
+        Ok(buffers) => buffers,
+        Err(NoMemory) => return Status::NoMemory,
+    };
+    list_by(
+        alloc,
+        &mut buffers,
+        source,
+        sink,
+        disk,
+        limit,
+        page,
+        &mut steps,
+    )
+}
+
+/// Opens the files of the disk, and then reads frames from the source, at most `limit` bytes, and answers each on the sink: those of a
+/// replay as a replay does, and those of listing sessions, whose pages have so many rows.
+///
+/// Want of memory ends it before anything is read: also where the rows of the names find none.
+pub fn list<S: Source, K: Sink, D: Disk>(
+    alloc: Global,
+    source: &mut S,
+    sink: &mut K,
+    disk: &mut D,
+    limit: u64,
+    page: u32,
+) -> Status
+    requires limit { limit ≤ 2 ^ 40 }
+    requires page { page ≤ LARGEST_PAGE }
+    ensures { Lists page D.tells D.seen disk.new (outside (streams (S.seen source.old) (K.seen sink.old)) (D.seen disk.old))
+        (outside (streams (S.seen source.new) (K.seen sink.new)) (D.seen disk.new)) limit result }
+{
+    list_counted::<S, K, D, Brand>(alloc, source, sink, disk, limit, page, Blank::new(1))
+}
