@@ -1,6 +1,7 @@
 -- What the turn of a lister does, of every state that the lister stands for.
 use Rattle.std.specs.Prelude.{◌≡◌, ℕ, Bool}
 use Rattle.bridge_core.specs.Bridge.{IsValidEvent, AnswersEvent}
+use Rattle.bridge_core.specs.Bridged.{Bridged}
 use Rattle.bridge_core.specs.declared.bridge.Turned.{Turned}
 use Rattle.bridge_core.specs.declared.bridge.Turned.TheVariants as bridge
 use Rattle.disk_model.specs.DiskSeen.{DiskSeen}
@@ -37,9 +38,13 @@ abbrev pub bridge_in : ListTurned → Turned
 bridge_in (On lister) = bridge.On lister.bridge
 bridge_in Ended = bridge.Ended
 
+abbrev pub KeepsBridge : Bridged → ListTurned → Type 0
+KeepsBridge bridge (On lister) = lister.bridge ≡ bridge
+KeepsBridge bridge Ended = ⊥
+
 -- the bridge stays as it was, and so does the disk, of which nothing is asked
 pub record StandsAside {D : Type 0} (old : Listed) (before : D) (turned : ListTurned) (after : D) : Type 0 where
-  pub bridge_stays : bridge_in turned ≡ bridge.On old.bridge
+  pub bridge_stays : KeepsBridge old.bridge turned
   pub untouched : after ≡ before
 
 -- what any run is asked the bridge answers; and it isn't concerned with listings

@@ -2,7 +2,7 @@
 use Rattle.std.specs.Prelude.{◌≡◌, ℕ, Bool, IsTrue, List, [], ◌∷◌, ◌++◌, map}
 use Rattle.bridge_core.specs.Bridge.{fault_reply}
 use Rattle.bridge_core.specs.Reached.{Beginning, Begins, IsReached, IsBroken}
-use Rattle.chain_commands.specs.Event.{Event}
+use Rattle.chain_commands.specs.Event.{Event, event_frame}
 use Rattle.chain_commands.specs.RunState.{RunState}
 use Rattle.disk_model.specs.DiskSeen.{DiskSeen}
 use Rattle.feed_frames.specs.Frames.{Frame}
@@ -24,47 +24,45 @@ with_pages size begun = record { begun = begun; size = size }
 
 -- ---- a lister that goes on
 
--- Of a run state that it began at: the machine gives these replies, the lister stands for what they lead to, and the bridge below was
--- led to the run state of that.
-pub record LeadsTo (size : ℕ) (run led : RunState) (events : List ListEvent) (replies : List Reply) (lister : Listed) : Type 0 where
+-- Of a run state that it began at: the machine with sessions gives these replies, and the lister stands for what they lead to.
+pub record LeadsTo (size : ℕ) (run : RunState) (events : List ListEvent) (replies : List Reply) (lister : Listed) : Type 0 where
   pub new : ListState
   pub runs : ListRun size (beginning run) events replies new
   pub stands : StandsFor lister new
-  pub same_run : new.run ≡ led
 
 -- The frames are events, which were answered by these replies. The plain ones among them led the bridge and its files to where a run of
--- these alone leads: all that holds of their replies and of crashes holds here. And of every run state that it began at, the sessions
--- were answered as the machine does.
+-- these alone leads: so all that holds of their replies and of crashes there holds here. And of every run state that it began at, the
+-- machine with sessions gives all the replies.
 pub record IsListReached {D : Type 0} (tells : Bool) (seen : D → DiskSeen) (start : ListBeginning D) (frames : List Frame) (replies : List Reply) (lister : Listed) (disk : D) : Type 0 where
   pub events : List ListEvent
   pub frames_are : frames ≡ map list_frame events
-  pub plain_frames : List Frame
+  pub plain_events : List Event
   pub answered : List Reply
-  pub plain : IsReached tells seen start.begun plain_frames answered lister.bridge disk
-  pub among : AreAmong events replies plain.events answered
+  pub among : AreAmong events replies plain_events answered
+  pub plain : IsReached tells seen start.begun (map event_frame plain_events) answered lister.bridge disk
   pub size_is : lister.page ≡ start.size
-  pub each : (run : RunState) (begins : Begins tells start.begun run) → LeadsTo start.size run (plain.each run begins).new events replies lister
+  pub each : (run : RunState) → Begins tells start.begun run → LeadsTo start.size run events replies lister
 
 -- ---- a lister that a fault of the disk has ended
 
--- of a run state that it began at: the machine gives all but the last event their replies
-pub record LedTo (size : ℕ) (run led : RunState) (events : List ListEvent) (replies : List Reply) : Type 0 where
+-- of a run state that it began at: the machine gives these replies
+pub record LedTo (size : ℕ) (run : RunState) (events : List ListEvent) (replies : List Reply) : Type 0 where
   pub new : ListState
   pub runs : ListRun size (beginning run) events replies new
-  pub same_run : new.run ≡ led
 
 -- The frames are events. The last is a plain one, and in its turn the disk failed: so it was with the bridge below and the plain events
--- alone.
+-- alone. The machine gives all but the last their replies.
 pub record IsListBroken {D : Type 0} (tells : Bool) (seen : D → DiskSeen) (start : ListBeginning D) (frames : List Frame) (replies : List Reply) (disk : D) : Type 0 where
   pub events : List ListEvent
+  pub last : Event
   pub told : List Reply
-  pub plain_frames : List Frame
-  pub all_answered : List Reply
-  pub plain : IsBroken tells seen start.begun plain_frames all_answered disk
-  pub frames_are : frames ≡ map list_frame (events ++ Plain plain.last ∷ [])
+  pub plain_events : List Event
+  pub answered : List Reply
+  pub frames_are : frames ≡ map list_frame (events ++ Plain last ∷ [])
   pub replies_are : replies ≡ told ++ fault_reply ∷ []
-  pub among : AreAmong events told plain.events plain.answered
-  pub each : (run : RunState) (begins : Begins tells start.begun run) → LedTo start.size run (plain.each run begins).new events told
+  pub among : AreAmong events told plain_events answered
+  pub plain : IsBroken tells seen start.begun (map event_frame (plain_events ++ last ∷ [])) (answered ++ fault_reply ∷ []) disk
+  pub each : (run : RunState) → Begins tells start.begun run → LedTo start.size run events told
 
 -- ---- the words of the loop
 

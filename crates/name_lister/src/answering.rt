@@ -1,6 +1,9 @@
-ghost use Rattle.name_lister.specs.Views.{list_event_of};
+ghost use Rattle.frame_loop.specs.Turns as loops;
+ghost use Rattle.name_lister.specs.Event.{list_frame};
+ghost use Rattle.name_lister.specs.Reached.{Ready, Reached, Broken};
+ghost use Rattle.name_lister.specs.Views.{list_event_of, IsListReadable};
 
-use crate::event::read_list_event;
+use crate::event::{ListEvent, read_list_event};
 use crate::lister::ListTurned;
 use disk_model::Disk;
 use feed_frames::Frame;
@@ -9,6 +12,31 @@ use nmc_base::Steps;
 use std::alloc::Global;
 use std::mem;
 use std::sync::ledger::Ledger;
+
+/// Has a lister deal with an event. It is moved, as that needs; what a fault of the disk has ended stays so.
+fn deal<D: Disk, L: Ledger>(
+    turned: &mut ListTurned,
+    alloc: Global,
+    disk: &mut D,
+    event: ListEvent<'_>,
+    reply: &mut ReplyBuf,
+    steps: &mut Steps<L>,
+) -> Result<(), Over>
+    requires within { IsListReadable event }
+    requires ready { Ready D.tells D.seen (turned.old, disk.old) }
+    ensures { loops.Turns (Ready D.tells D.seen) (Reached D.tells D.seen) (Broken D.tells D.seen) (turned.old, disk.old) (list_frame (list_event_of event.entry)) reply.new (turned.new, disk.new) result }
+{
+    match mem::replace(turned, ListTurned::Ended) {
+        ListTurned::Ended => Err(Over),
+        ListTurned::On(lister) => match lister.turn(alloc, disk, event, reply, steps) {
+            ListTurned::Ended => Err(Over),
+            ListTurned::On(next) => {
+                *turned = ListTurned::On(next);
+                Ok(())
+            }
+        },
+    }
+}
 
 /// A lister answers frames by means of the disk that has the files of its bridge. Once a fault has ended it, it answers none.
 impl<D: Disk> Answerer<D> for ListTurned {
@@ -35,16 +63,6 @@ impl<D: Disk> Answerer<D> for ListTurned {
         reply: &mut ReplyBuf,
         steps: &mut Steps<L>,
     ) -> Result<(), Over> {
-        let event = read_list_event(frame);
-        match mem::replace(self, ListTurned::Ended) {
-            ListTurned::Ended => Err(Over),
-            ListTurned::On(lister) => match lister.turn(alloc, disk, event, reply, steps) {
-                ListTurned::Ended => Err(Over),
-                ListTurned::On(next) => {
-                    *self = ListTurned::On(next);
-                    Ok(())
-                }
-            },
-        }
+        deal(self, alloc, disk, read_list_event(frame), reply, steps)
     }
 }

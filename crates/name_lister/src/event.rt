@@ -1,4 +1,5 @@
-ghost use Rattle.std.specs.Prelude.{◌≡◌};
+ghost use Rattle.std.specs.Prelude.{◌≡◌, length};
+ghost use Rattle.std.specs.Int.{w32, to_le_bytes};
 ghost use Rattle.feed_frames.specs.Front as feed;
 ghost use Rattle.frame_loop.specs.Turns.{IsAskable};
 ghost use Rattle.name_lister.specs.Event.{last_list_kind, list_frame};

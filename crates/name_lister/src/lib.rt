@@ -3,12 +3,10 @@
 
 mod answering;
 mod event;
-mod laws;
 mod lister;
 mod listing;
 mod rows;
 
 pub use event::ListEvent;
-pub use laws::{plain_run, pinned_pages};
 pub use lister::{ListTurned, Lister};
 pub use listing::list;

@@ -1,8 +1,10 @@
-ghost use Rattle.std.specs.Prelude.{◌≡◌, ◌≤◌, ◌<◌, IsTrue, IfOk, OnOk};
+ghost use Rattle.std.specs.Prelude.{◌≡◌, ◌≤◌, length, IsTrue, IfOk, OnOk};
+ghost use Rattle.nmc_base.specs.Heights.{highest};
+ghost use Rattle.nmc_base.specs.declared.limits.TheConstants.{LONGEST_BLOCK};
 ghost use Rattle.disk_model.specs.Changes.{KeepsSettled};
 ghost use Rattle.disk_model.specs.DiskSeen.{EndsWith, bytes_in};
 ghost use Rattle.disk_model.specs.Moments.{EachMoment};
-ghost use Rattle.bridge_core.specs.Views.{carrier_of, IsWithinLimits};
+ghost use Rattle.bridge_core.specs.Views.{carrier_of, event_of, IsReadable};
 ghost use Rattle.chain_commands.specs.Event.{Connect, Disconnect, Do, Ask, Save};
 ghost use Rattle.chain_commands.specs.RunState.{RunState};
 ghost use Rattle.kept_answers.specs.Answering.{none_kept};
@@ -20,13 +22,14 @@ ghost use Rattle.name_lister.specs.Views.{list_event_of, IsListReadable};
 ghost use Rattle.listing_sessions.specs.declared.page.TheConstants.{LARGEST_PAGE};
 
 use crate::event::ListEvent;
-use crate::rows::{joined, prepared};
+use crate::rows::{behind_connect, behind_disconnect, prepared};
 use bridge_core::{Bridge, ChainCommand, Event, OpenFault, Turned};
+use chain_state::Chain;
 use disk_model::Disk;
 use dns_message::Transport;
 use frame_loop::ReplyBuf;
 use listing_sessions::{Rows, Sessions};
-use nmc_base::{Hash32, Steps};
+use nmc_base::{Hash32, NoMemory, Steps};
 use std::alloc::Global;
 use std::marker::Model;
 use std::sync::ledger::Ledger;
@@ -85,7 +88,10 @@ impl Lister {
         ensures ends { EndsWith OpenFault.DiskFault (D.seen disk.old) (D.seen disk.new) result }
     {
         match Bridge::open(alloc, disk) {
-            Ok(bridge) => Lister::over(alloc, bridge, page, steps),
+            Ok(bridge) => match Lister::over(alloc, bridge, page, steps) {
+                Ok(lister) => Ok(lister),
+                Err(NoMemory) => Err(OpenFault::NoMemory),
+            },
             Err(fault) => Err(fault),
         }
     }
@@ -96,22 +102,20 @@ impl Lister {
         bridge: Bridge,
         page: u32,
         steps: &mut Steps<L>,
-    ) -> Result<Lister, OpenFault>
+    ) -> Result<Lister, NoMemory>
         requires { page ≤ LARGEST_PAGE }
+        ensures bridge { IfOk result (λ lister. lister.bridge ≡ bridge) }
+        ensures begins { IfOk result (λ lister. (run : RunState) → bridges.StandsFor bridge run → StandsFor lister (beginning run)) }
+        ensures page { IfOk result (λ lister. lister.page ≡ page) }
     {
-        let rows = match Rows::of(alloc, bridge.chain(), steps) {
-            Ok(rows) => rows,
-            Err(_) => return Err(OpenFault::NoMemory),
-        };
-        match Sessions::new(alloc) {
-            Ok(sessions) => Ok(Lister {
-                bridge,
-                rows: Some(rows),
-                sessions,
-                page,
-            }),
-            Err(_) => Err(OpenFault::NoMemory),
-        }
+        let rows = Rows::of(alloc, bridge.chain(), steps)?;
+        let sessions = Sessions::new(alloc)?;
+        Ok(Lister {
+            bridge,
+            rows: Some(rows),
+            sessions,
+            page,
+        })
     }
 
     /// Connects a block, and takes the rows along.
@@ -137,11 +141,7 @@ impl Lister {
         match bridge.turn(alloc, disk, ChainCommand::Connect(bytes), reply, steps) {
             Turned::Ended => ListTurned::Ended,
             Turned::On(bridge) => {
-                let rows = if reply.code() == DONE {
-                    joined(alloc, rows, bridge.chain(), steps)
-                } else {
-                    rows
-                };
+                let rows = behind_connect(alloc, rows, reply, bridge.chain(), steps);
                 ListTurned::On(Lister {
                     bridge,
                     rows,
@@ -175,7 +175,7 @@ impl Lister {
         match bridge.turn(alloc, disk, ChainCommand::Disconnect(hash), reply, steps) {
             Turned::Ended => ListTurned::Ended,
             Turned::On(bridge) => {
-                let rows = if reply.code() == DONE { before } else { rows };
+                let rows = behind_disconnect(rows, before, reply);
                 ListTurned::On(Lister {
                     bridge,
                     rows,
@@ -209,32 +209,55 @@ impl Lister {
     }
 
     /// Answers a message of DNS.
-    fn query(
-        &mut self,
+    fn query<D: Disk>(
+        self,
         alloc: Global,
+        disk: &D,
         transport: Transport,
         message: &[u8],
         reply: &mut ReplyBuf,
-    )
+    ) -> ListTurned
+        requires on_disk { IsTrue D.tells → IsOn self.bridge.store (D.seen disk.now).moments.now }
+        ensures { AnswersList D.tells D.seen self disk.now (Plain (Ask (carrier_of transport) message.now)) reply.new result disk.now }
     {
-        self.bridge.query(alloc, transport, message, reply);
+        let _ = disk;
+        let mut lister = self;
+        lister.bridge.query(alloc, transport, message, reply);
+        ListTurned::On(lister)
     }
 
     /// Opens a session on the chain as it is.
-    fn open_session(&mut self, reply: &mut ReplyBuf) {
-        let chain = self.bridge.chain();
-        let (profile, height) = (chain.base().profile, chain.tip().height);
-        self.sessions.open(self.rows.as_ref(), profile, height, reply);
+    fn open_session<D: Disk>(self, disk: &D, reply: &mut ReplyBuf) -> ListTurned
+        ensures { AnswersList D.tells D.seen self disk.now Open reply.new result disk.now }
+    {
+        let _ = disk;
+        let mut lister = self;
+        let chain = lister.bridge.chain();
+        let (profile, height) = (chain.base().profile, height_of(chain));
+        lister
+            .sessions
+            .open(lister.rows.as_ref(), profile, height, reply);
+        ListTurned::On(lister)
     }
 
     /// Gives the next page of a session.
-    fn turn_page(&mut self, number: u32, reply: &mut ReplyBuf) {
-        self.sessions.page(number, self.page, reply);
+    fn turn_page<D: Disk>(self, disk: &D, number: u32, reply: &mut ReplyBuf) -> ListTurned
+        ensures { AnswersList D.tells D.seen self disk.now (Page number) reply.new result disk.now }
+    {
+        let _ = disk;
+        let mut lister = self;
+        lister.sessions.page(number, lister.page, reply);
+        ListTurned::On(lister)
     }
 
     /// Closes a session.
-    fn close_session(&mut self, number: u32, reply: &mut ReplyBuf) {
-        self.sessions.close(number, reply);
+    fn close_session<D: Disk>(self, disk: &D, number: u32, reply: &mut ReplyBuf) -> ListTurned
+        ensures { AnswersList D.tells D.seen self disk.now (Close number) reply.new result disk.now }
+    {
+        let _ = disk;
+        let mut lister = self;
+        lister.sessions.close(number, reply);
+        ListTurned::On(lister)
     }
 
     /// Deals with one event, and writes its one reply.
@@ -258,20 +281,47 @@ impl Lister {
         ensures answers { AnswersList D.tells D.seen self disk.old (list_event_of event.entry) reply.new result disk.new }
         ensures cost { IsCheapTurn self (list_event_of event.entry) reply.new result steps.old steps.new }
     {
-        let mut lister = self;
         match event {
-            ListEvent::Plain(Event::Do(ChainCommand::Connect(bytes))) => {
-                return lister.connect(alloc, disk, bytes, reply, steps);
-            }
-            ListEvent::Plain(Event::Do(ChainCommand::Disconnect(hash))) => {
-                return lister.disconnect(alloc, disk, hash, reply, steps);
-            }
-            ListEvent::Plain(Event::Save) => return lister.save(alloc, disk, reply),
-            ListEvent::Plain(Event::Ask(transport, message)) => lister.query(alloc, transport, message, reply),
-            ListEvent::Open => lister.open_session(reply),
-            ListEvent::Page(number) => lister.turn_page(number, reply),
-            ListEvent::Close(number) => lister.close_session(number, reply),
+            ListEvent::Plain(event) => self.turn_plain(alloc, disk, event, reply, steps),
+            ListEvent::Open => self.open_session(disk, reply),
+            ListEvent::Page(number) => self.turn_page(disk, number, reply),
+            ListEvent::Close(number) => self.close_session(disk, number, reply),
         }
-        ListTurned::On(lister)
     }
+
+    /// Deals with what a bridge may be asked.
+    fn turn_plain<D: Disk, L: Ledger>(
+        self,
+        alloc: Global,
+        disk: &mut D,
+        event: Event<'_>,
+        reply: &mut ReplyBuf,
+        steps: &mut Steps<L>,
+    ) -> ListTurned
+        requires within { IsReadable event }
+        requires on_disk { IsTrue D.tells → IsOn self.bridge.store (D.seen disk.old).moments.now }
+        ensures answers { AnswersList D.tells D.seen self disk.old (Plain (event_of event.entry)) reply.new result disk.new }
+        ensures cost { IsCheapTurn self (Plain (event_of event.entry)) reply.new result steps.old steps.new }
+    {
+        match event {
+            Event::Do(ChainCommand::Connect(bytes)) => {
+                self.connect(alloc, disk, bytes, reply, steps)
+            }
+            Event::Do(ChainCommand::Disconnect(hash)) => {
+                self.disconnect(alloc, disk, hash, reply, steps)
+            }
+            Event::Ask(transport, message) => self.query(alloc, disk, transport, message, reply),
+            Event::Save => self.save(alloc, disk, reply),
+        }
+    }
+}
+
+/// The height of the chain's tip, which is one that a chain may have.
+fn height_of(chain: &Chain) -> u32
+    ensures same { result ≡ chain.now.tip.height }
+    ensures low { result ≤ highest }
+{
+    // A chain says that it is sound where its parts are looked at.
+    let _parts = chain.parts();
+    chain.tip().height
 }

@@ -1,0 +1,4 @@
+pub mod RunLemmas
+pub mod TurnLemmas
+pub mod ReachLemmas
+pub mod ListLemmas

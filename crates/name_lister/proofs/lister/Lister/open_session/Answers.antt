@@ -1,0 +1,31 @@
+use Rattle.std.proofs.Common.{◌≡◌, ℕ, List, Option, sym, ap, subst, ◌∙◌}
+use Rattle.std.specs.Option.{option_copied}
+use Rattle.nmc_base.specs.declared.chain_ends.Base.{Base}
+use Rattle.nmc_base.specs.declared.chain_ends.Profile.{Profile}
+use Rattle.chain_state.specs.Chain.{Indexed}
+use Rattle.listing_sessions.specs.Pinned.{AreTakenFrom}
+use Rattle.pin_views.specs.declared.rows.Row.{Row}
+use Rattle.name_lister.specs.Answers.{AnswersList}
+use Rattle.name_lister.specs.Event.{Open}
+use Rattle.name_lister.specs.Lister.{Listed, listed}
+use Rattle.name_lister.specs.declared.lister.ListTurned.TheVariants.{On}
+use Rattle.name_lister.proofs.TurnLemmas.{opened}
+use Rattle.name_lister.proofs.lister.Lister.open_session.Goals as goal
+
+pub returns : goal.returns
+returns g c =
+    let tells = g.D.Disk.tells in
+    let seen = g.D.Disk.seen in
+    let disk = c.args.disk.now in
+    let rows = option_copied c.as_ref.result in
+    let index = c.lister.inside.bridge.store.index in
+    let old = listed c.lister.inside.bridge c.lister.inside.rows c.lister.inside.sessions c.lister.inside.page in
+    let new = listed c.lister.inside.bridge c.lister.inside.rows c.open.new.self c.lister.inside.page in
+    let profile : c.base.result.now.profile ≡ index.base.profile = ap (λ (b : Base). b.profile) c.base.ensures ∙ ap (λ (i : Indexed). i.base.profile) c.chain-chain.ensures in
+    let height : c.height_of-height.result ≡ index.tip.height = c.height_of-height.ensures.same ∙ ap (λ (i : Indexed). i.tip.height) c.chain-chain.ensures in
+    subst (λ (o : Listed). AnswersList tells seen o disk Open c.open.new.reply (On new) disk) c.lister.view_is
+    (opened tells seen old disk c.open.new.reply c.open.new.self (λ chain taken.
+        c.open.ensures chain
+        (subst (λ (p : Profile). AreTakenFrom chain rows p c.height_of-height.result) (sym profile)
+        (subst (λ (h : ℕ). AreTakenFrom chain rows index.base.profile h) (sym height)
+        (subst (λ (r : Option (List (List ℕ × Row))). AreTakenFrom chain r index.base.profile index.tip.height) (sym c.as_ref.ensures.value) taken)))))
