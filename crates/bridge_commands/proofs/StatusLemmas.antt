@@ -8,7 +8,7 @@ use Rattle.disk_model.specs.DiskSeen.{DiskSeen}
 use Rattle.bridge_core.specs.declared.status.Status.{Status}
 use Rattle.bridge_core.specs.declared.status.Status.TheVariants.{Done, Words, Initialised, DiskFault}
 use Rattle.bridge_commands.specs.Making.{InitEnds, made, stays, failed, InitsFrom, status_of_start}
-use Rattle.bridge_commands.specs.declared.words.Command.TheVariants.{Init, SelfTest, Serve}
+use Rattle.bridge_commands.specs.declared.words.Command.TheVariants.{Init, Listing, SelfTest, Serve}
 use Rattle.bridge_commands.specs.declared.words.Plan.{Plan}
 use Rattle.bridge_commands.specs.declared.words.Start.{Start}
 use Rattle.bridge_commands.specs.declared.words.Trial.{Trial}
@@ -51,3 +51,6 @@ same_plan found plan e = cc
 
 pub same_trial : (found trial : Trial) → Some (SelfTest found) ≡ Some (SelfTest trial) → found ≡ trial
 same_trial found trial e = cc
+
+pub same_size : (found size : ℕ) → Some (Listing found) ≡ Some (Listing size) → found ≡ size
+same_size found size e = cc

@@ -4,12 +4,13 @@ use std::{fmt, str};
 use system_io::People;
 
 /// What each command is called with.
-const FORMS: [&str; 8] = [
+const FORMS: [&str; 9] = [
     "the commands:",
     "  init PROFILE HEIGHT HASH HOST        makes the files of a chain's base in this folder",
     "  init-from PROFILE HEIGHT HASH HOST   makes them with the names of a snapshot from standard input",
     "  serve UDP_PORT FEED_PORT TURNS       answers queries, and takes blocks from a feed",
     "  replay                               takes blocks from standard input, and replies on standard output",
+    "  list ROWS                            does the same, and lists the names by pages of so many rows",
     "  dump                                 writes what each name has to standard output",
     "  selftest BLOCKS SEED                 plays a generated chain over files in memory, and writes a summary",
     "the manual jaqhumpi(8) says more",
@@ -21,6 +22,8 @@ const LONGEST_HOST_NAME: usize = 244;
 const MOST_TURNS: u32 = 1_000_000_000;
 
 const MOST_BLOCKS: u32 = 10_000;
+
+const MOST_ROWS: u32 = 50;
 
 /// What is wrong with words that ask for nothing: this word, and what is to be said of it.
 #[derive(Drop)]
@@ -157,6 +160,22 @@ fn wrong_for_serve<'w>(command: &'w [u8], words: &'w [Bytes]) -> Option<Complain
     ])
 }
 
+/// What is wrong with the words behind `list`.
+fn wrong_for_list<'w>(command: &'w [u8], words: &'w [Bytes]) -> Option<Complaint<'w>> {
+    let [rows] = words else {
+        return Some(Complaint {
+            word: command,
+            text: "takes one word: list ROWS",
+        });
+    };
+    let rows = rows.as_slice();
+    first_wrong(&[stands(
+        rows,
+        is_small(rows, 1, MOST_ROWS),
+        "isn't a number of rows: from 1 to 50, without a leading zero",
+    )])
+}
+
 /// What is wrong with the words behind `selftest`.
 fn wrong_for_selftest<'w>(command: &'w [u8], words: &'w [Bytes]) -> Option<Complaint<'w>> {
     let [blocks, seed] = words else {
@@ -197,6 +216,7 @@ fn complaint_of<'w>(words: &'w [Bytes]) -> Option<Complaint<'w>> {
             "takes four words: init-from PROFILE HEIGHT HASH HOST",
         ),
         b"serve" => wrong_for_serve(command.as_slice(), rest),
+        b"list" => wrong_for_list(command.as_slice(), rest),
         b"selftest" => wrong_for_selftest(command.as_slice(), rest),
         b"replay" | b"dump" => Some(Complaint {
             word: command.as_slice(),

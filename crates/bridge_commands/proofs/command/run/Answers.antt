@@ -2,21 +2,27 @@ use Rattle.std.proofs.Common.{List, ℕ, ◌^◌, Some, refl, sym, ap, subst, �
 use Rattle.std.proofs.lemmas.Option.{none-some}
 use Rattle.nmc_base.specs.declared.chain_ends.Base.{Base}
 use Rattle.name_store.specs.Host.{IsHostOf}
+use Rattle.bridge_core.specs.Determined.{outside}
+use Rattle.frame_loop.specs.Transcript.{streams}
+use Rattle.name_lister.specs.Listing.{Lists}
 use Rattle.bridge_commands.specs.Making.{Inits, InitsFrom}
 use Rattle.bridge_commands.specs.SelfTest.{SelfTests}
 use Rattle.bridge_commands.specs.Serving.{Serves, serve_seen}
 use Rattle.bridge_commands.specs.Words.{Asks}
 use Rattle.bridge_commands.specs.declared.words.Command.{Command}
-use Rattle.bridge_commands.specs.declared.words.Command.TheVariants.{Replay, Dump, Init, Serve, SelfTest}
+use Rattle.bridge_commands.specs.declared.words.Command.TheVariants.{Replay, Listing, Dump, Init, Serve, SelfTest}
 use Rattle.bridge_commands.specs.declared.words.Plan.{Plan}
 use Rattle.bridge_commands.specs.declared.words.Start.{Start}
 use Rattle.bridge_commands.specs.declared.words.Start.TheVariants.{Empty, Snapshot}
 use Rattle.bridge_commands.specs.declared.words.Trial.{Trial}
-use Rattle.bridge_commands.proofs.StatusLemmas.{init_not_words, from_not_words, same_base, same_host, same_plan, same_trial}
+use Rattle.bridge_commands.proofs.StatusLemmas.{init_not_words, from_not_words, same_base, same_host, same_plan, same_size, same_trial}
 use Rattle.bridge_commands.proofs.command.run.Goals as goal
 
 pub returns-in-None-clause-replay : goal.returns-in-None-clause-replay
 returns-in-None-clause-replay g c = λ asked. absurd (none-some _ (c.in-None.ensures.one Replay asked))
+
+pub returns-in-None-clause-list : goal.returns-in-None-clause-list
+returns-in-None-clause-list g c = λ size asked. absurd (none-some _ (c.in-None.ensures.one (Listing size) asked))
 
 pub returns-in-None-clause-init : goal.returns-in-None-clause-init
 returns-in-None-clause-init g c = λ base name asked. absurd (none-some _ (c.in-None.ensures.one (Init Empty base name) asked))
@@ -32,6 +38,12 @@ returns-in-None-clause-serve g c = λ plan asked. absurd (none-some _ (c.in-None
 
 pub returns-in-None-clause-selftest : goal.returns-in-None-clause-selftest
 returns-in-None-clause-selftest g c = λ trial asked. absurd (none-some _ (c.in-None.ensures.one (SelfTest trial) asked))
+
+pub returns-in-Some-Listing-clause-list : goal.returns-in-Some-Listing-clause-list
+returns-in-Some-Listing-clause-list g c = λ size asked.
+    let one = sym (ap Some c.in-Some-Listing.field-0-is) ∙ c.in-Some-Listing.ensures.one (Listing size) asked in
+    subst (λ (n : ℕ). Lists n g.D.Disk.tells g.D.Disk.seen c.list.new.disk (outside (streams (g.S.Source.seen c.args.source.now) (g.K.Sink.seen c.args.sink.now)) (g.D.Disk.seen c.args.disk.now))
+    (outside (streams (g.S.Source.seen c.list.new.source) (g.K.Sink.seen c.list.new.sink)) (g.D.Disk.seen c.list.new.disk)) (2 ^ 40) c.list.result) (same_size c.in-Some-Listing.size size one) c.list.ensures
 
 pub returns-in-Some-SelfTest-clause-selftest : goal.returns-in-Some-SelfTest-clause-selftest
 returns-in-Some-SelfTest-clause-selftest g c = λ trial asked.
