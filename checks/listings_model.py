@@ -10,11 +10,22 @@ from common import Run, reply
 from files_model import Store, Unopened, answered
 from images_model import name_text, number
 
-from blocks import CLOSING, OPENING, PAGE
+from blocks import CLOSING, OPENING, PAGE, frame
 
 LENGTHS = {**files_model.LENGTHS, OPENING: (0, 0), PAGE: (4, 4), CLOSING: (4, 4)}
 MOST_SESSIONS, MOST_ROWS = 8, 50
 TOO_MANY, NO_SESSION, NO_MEMORY = 31, 32, 0xFE
+OPEN = frame(OPENING, b"")
+
+
+def page(session):
+    """The frame that asks for a page of a session."""
+    return frame(PAGE, number(4, session))
+
+
+def close(session):
+    """The frame that closes a session."""
+    return frame(CLOSING, number(4, session))
 
 
 class Row(typing.NamedTuple):
