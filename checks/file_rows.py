@@ -51,7 +51,7 @@ def counting(files):
     return kept
 
 
-def compare_model(tally, table):
+def compare_model(tally, table, run_of=run_of):
     """What the model says of the rows, each over the files that the model left before it."""
     files = []
     for row in file_rows(table):

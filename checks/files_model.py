@@ -183,17 +183,22 @@ class Store:
 
     def replayed(self, given):
         """What a replay of the bytes tells, and how it ends."""
-        told, at = [], 0
-        while at < len(given):
-            least, most = LENGTHS.get(given[at : at + 1], (1, 0))
-            length = int.from_bytes(given[at + 1 : at + 5], "little")
-            if least > most or len(given) - at >= 5 and not least <= length <= most:
-                return Run(b"".join(told), 4, f"bad frame at {at}")
-            if len(given) - at < 5 + length or len(given) - at < 5:
-                return Run(b"".join(told), 4, f"cut frame at {at}")
-            told.append(self.answer(given[at : at + 5 + length]))
-            at += 5 + length
-        return Run(b"".join(told), 0, "")
+        return answered(self.answer, given)
+
+
+def answered(answer, given, lengths=LENGTHS):
+    """What a run tells that reads the kinds of frames with these lengths and answers each so, and how it ends."""
+    told, at = [], 0
+    while at < len(given):
+        least, most = lengths.get(given[at : at + 1], (1, 0))
+        length = int.from_bytes(given[at + 1 : at + 5], "little")
+        if least > most or len(given) - at >= 5 and not least <= length <= most:
+            return Run(b"".join(told), 4, f"bad frame at {at}")
+        if len(given) - at < 5 + length or len(given) - at < 5:
+            return Run(b"".join(told), 4, f"cut frame at {at}")
+        told.append(answer(given[at : at + 5 + length]))
+        at += 5 + length
+    return Run(b"".join(told), 0, "")
 
 
 def made(words, makes=()):

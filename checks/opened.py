@@ -42,7 +42,7 @@ def told_same(tally, row, told, wanted):
     return wanted
 
 
-def compare(tally, rows):
+def compare(tally, rows, run_of=run_of):
     """Runs the rows. What the model says of each, with the files behind it."""
     rows = list(rows)
     wanted = [run_of(row.words, row.given, row.files) for row in rows]
