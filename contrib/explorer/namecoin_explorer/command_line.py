@@ -14,7 +14,7 @@ from namecoin_feeder.following import Choices
 from namecoin_feeder.measures import HERE
 from namecoin_feeder.node import Node
 from namecoin_feeder.progress import Progress
-from namecoin_feeder.troubles import Stop
+from namecoin_feeder.troubles import Stop, Trouble
 
 from . import __version__
 from .asking import Asker
@@ -166,7 +166,7 @@ class Explorer:
         choices = Choices(False, given.every, given.deepest, given.base, given.unknown, given.again, given.save_every)
         sleep = sleeper(self.ending)
         try:
-            self.follower = Following(self.node, ProgramFeed(self.asker), pauses, self.log, choices, time.monotonic, sleep)
+            self.follower = Following(self.node, ProgramFeed(self.asker.ask_for_follower), pauses, self.log, choices, time.monotonic, sleep)
             self.follower.follow()
         except BaseException as fault:
             self.fails(fault)
@@ -183,7 +183,7 @@ class Explorer:
     def status_of(self, event):
         if isinstance(event, signal.Signals) or isinstance(event, int):
             return INTERRUPTED if event == signal.SIGINT else int(Status.DONE)
-        if isinstance(event, Stop):
+        if isinstance(event, (Stop, Trouble)):
             self.log.say(str(event))
             return int(event.status)
         if isinstance(event, ProgramEnded):

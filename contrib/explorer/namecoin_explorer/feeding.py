@@ -9,13 +9,13 @@ from .statuses import Over
 
 
 class ProgramFeed(Feed):
-    """A feed whose frames are asked of the program, each when its reply is wanted."""
+    """A feed whose frames are asked of the program by `ask`, each when its reply is wanted."""
 
     name, title = "the program's output", "the program"
 
-    def __init__(self, asker):
+    def __init__(self, ask):
         super().__init__()
-        self.asker, self.frames = asker, []
+        self.ask, self.frames = ask, []
 
     def reach(self):
         """The program is there from the start to the end."""
@@ -24,7 +24,7 @@ class ProgramFeed(Feed):
         self.frames += frames
 
     def reply(self, seconds=0.0):
-        return self.asker.ask_for_follower(self.frames.pop(0))
+        return self.ask(self.frames.pop(0))
 
     def drop(self):
         self.frames = []

@@ -40,7 +40,9 @@ td.number { text-align: right; font-variant-numeric: tabular-nums; white-space: 
 th.number { text-align: right; }
 table.facts { width: auto; } table.facts th, table.items th { color: var(--soft); font-weight: 600; white-space: nowrap; }
 table.names td:first-child { width: 34%; }
+table.items th { width: 1%; min-width: 7rem; }
 table.items table.items { border-style: dashed; }
+.none { font-style: italic; }
 td ul { margin: 0; padding-left: 1.1rem; }
 .turn { display: flex; flex-wrap: wrap; gap: .4rem 1.4rem; margin: .9rem 0; align-items: baseline; }
 .turn .end { margin-left: auto; }
@@ -200,7 +202,7 @@ def name_page(frame, listing, number, row, domain):
     if isinstance(value, Pairs):
         items = f"<h2>Items</h2>{laid_out(value)}"
     elif row.value:
-        what = "JSON, but no object" if value is not None else "no JSON"
+        what = "JSON, but no object" if value is not None else "no JSON that is read"
         items = f"<h2>Items</h2><p>The value is {what}: for DNS it has no items.</p>"
     else:
         items = ""

@@ -8,7 +8,7 @@ from namecoin_feeder.troubles import Stop
 
 from .statuses import Status
 
-# Of what the child says on standard error: lines of so many bytes, the last ones.
+# Of what the child says on standard error: the last lines, of each so many bytes.
 MOST_LINE, MOST_LINES = 600, 20
 MOST_PAYLOAD = 65_535
 # Seconds to wait for the child to end by itself once its input has ended; then it is killed.
@@ -43,9 +43,12 @@ class Program:
 
     def listen(self):
         with self.run.stderr as stream:
+            is_rest = False
             while line := stream.readline(MOST_LINE):
-                if text := line.decode("ascii", "replace").strip():
+                text = line.decode("ascii", "backslashreplace").strip()
+                if text and not is_rest:
                     self.said.append(text)
+                is_rest = not line.endswith(b"\n")
 
     def ask(self, frame):
         """The reply to a frame."""

@@ -5,10 +5,11 @@ import urllib.parse
 
 from namecoin_feeder.progress import spoken
 from namecoin_feeder.replies import ACCEPTED
-from namecoin_feeder.server import CONNECT, PROBE, Feed, frame
+from namecoin_feeder.server import frame
 
 from . import dns, pages
 from .asking import Tip
+from .feeding import ProgramFeed
 from .listings import IDLE, MOST_KEPT, MOST_OPEN, NINTH, Closed, NoMemory
 from .program import unexpected
 
@@ -30,12 +31,13 @@ CLOSED = {
 
 def tip_of(asker):
     """The tip at the start, as the program's replies tell it: the hash by the probe of the feeder, the height by the SOA of bit."""
-    hash = Feed().tip_of(asker.ask(frame(CONNECT, PROBE)))
+    feed = ProgramFeed(asker.ask)
+    feed.open()
     reply = asker.ask(frame(QUERY, dns.query([b"bit"], dns.TYPES["SOA"])))
     try:
         if reply.code != ACCEPTED:
             raise dns.BadReply
-        return Tip(dns.serial_of(reply.payload), hash)
+        return Tip(dns.serial_of(reply.payload), feed.tip)
     except dns.BadReply:
         raise unexpected(f"code {reply.code} to a query for the SOA of bit") from None
 

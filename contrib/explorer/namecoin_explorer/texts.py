@@ -7,6 +7,10 @@ import typing
 ODD = re.compile(rb"[^\x20-\x7e]+")
 # A value nests no deeper than this on a page; what is below stands there as text.
 DEEPEST = 12
+# The program reads no JSON that nests deeper (docs/RULES.md).
+MOST_LEVELS = 127
+# A text of JSON in quotes, or a bracket.
+BRACKETS = re.compile(rb'"(?:[^"\\]|\\.)*"|[\[\]{}]', re.DOTALL)
 
 
 def text_of(data):
@@ -14,7 +18,7 @@ def text_of(data):
     made, at = [], 0
     for odd in ODD.finditer(data):
         made.append(html.escape(data[at : odd.start()].decode("ascii")))
-        made.append('<span class="odd">' + "".join(f"\\x{it:02x}" for it in odd[0]) + "</span>")
+        made.append('<span class="odd">' + "<wbr>".join(f"\\x{it:02x}" for it in odd[0]) + "</span>")
         at = odd.end()
     return "".join([*made, html.escape(data[at:].decode("ascii"))]) or '<span class="none">empty</span>'
 
@@ -50,8 +54,19 @@ MEANINGS = {
 }
 
 
+def nests(data):
+    """How deep the brackets of a text of JSON nest."""
+    depth = deepest = 0
+    for mark in BRACKETS.findall(data):
+        depth += (mark in b"[{") - (mark in b"]}")
+        deepest = max(deepest, depth)
+    return deepest
+
+
 def value_of(data):
-    """A value as JSON, an object as Pairs; None where it isn't JSON."""
+    """A value as JSON, an object as Pairs; None where it isn't JSON, or none that the program reads, since it nests too deep."""
+    if nests(data) > MOST_LEVELS:
+        return None
     try:
         return json.loads(data.decode("utf-8"), object_pairs_hook=Pairs, parse_constant=no_constant)
     except (ValueError, RecursionError):
@@ -74,10 +89,17 @@ def laid_out(value, depth=0):
     if isinstance(value, list):
         if not value:
             return '<span class="none">an empty list</span>'
-        return "<ul>" + "".join(f"<li>{laid_out(item, depth + 1)}</li>" for item in value) + "</ul>"
+        return "<ul>" + "".join(f"<li>{in_list(item, depth + 1)}</li>" for item in value) + "</ul>"
     if isinstance(value, str):
         return f"<code>{words_of(value)}</code>"
     return f"<code>{words_of(json.dumps(value))}</code>"
+
+
+def in_list(value, depth):
+    """An item of a list; one that is a short list itself, as that of a record, stands on a line."""
+    if isinstance(value, list) and value and not any(isinstance(it, (list, Pairs)) for it in value):
+        return ", ".join(laid_out(it, depth + 1) for it in value)
+    return laid_out(value, depth)
 
 
 def key_of(key, depth):

@@ -17,16 +17,18 @@ import typing
 import unittest
 
 from . import EXPLORER, FEEDER
-from .model_program import FAULT, Listed, initialised, opened
-
-# The feeder's tests have the chains and the node; their package has the same name as this one.
 from .fed import Chains, FakeNode, first_out, name_of
+from .model_program import FAULT, Listed, initialised
 from blocks import FIRST, NEW, name_script, named, outpoint
 from common import HERE, free_port
 from digests import hash160
+from stores import PROGRAM
 
 SECONDS, MEMORY, MATURITY = 30, "/dev/shm", 12
-MODEL = [sys.executable, str(EXPLORER / "tests" / "model_program.py")]
+# The tests are run over a model, and where this variable says so over the built program.
+OVER, BUILT = "EXPLORER_OVER", "built"
+IS_BUILT = os.environ.get(OVER) == BUILT
+CHILD = [PROGRAM] if IS_BUILT else [sys.executable, EXPLORER / "tests" / "model_program.py"]
 TAG = re.compile(r"<[^>]*>")
 
 
@@ -38,8 +40,7 @@ class Page(typing.NamedTuple):
     @property
     def text(self):
         """What a reader reads of it."""
-        body = re.sub(r"<style>.*?</style>", "", self.html, flags=re.DOTALL)
-        return html.unescape(TAG.sub("\n", body))
+        return text_of(self.html)
 
     @property
     def links(self):
@@ -62,6 +63,12 @@ class Page(typing.NamedTuple):
     def row_links(self):
         """The links to the pages of its names."""
         return re.findall(r'<tr><td><a href="([^"]*)"><code>', self.html)
+
+
+def text_of(page):
+    """The text of a page's HTML, each tag being the end of a line."""
+    body = re.sub(r"<style>.*?</style>|<wbr>", "", page, flags=re.DOTALL)
+    return html.unescape(TAG.sub("\n", body))
 
 
 def as_shown(data):
@@ -104,7 +111,7 @@ class Named(Chains):
 class Explorer:
     """A run of the explorer, over a program in a folder."""
 
-    def __init__(self, node, cookie, folder, *more, program=MODEL, rows=5):
+    def __init__(self, node, cookie, folder, *more, program=CHILD, rows=5):
         self.port = free_port(socket.SOCK_STREAM)
         fast = ("--every", "0.05", "--longest-pause", "0.2", "--timeout", "5")
         places = ("--port", self.port, "--folder", folder, "--program", shlex.join(map(str, program)), "--rows", rows)
@@ -172,9 +179,17 @@ class Case(unittest.TestCase):
         self.room, self.chains = pathlib.Path(room.name), Named()
         self.folder, self.cookie = self.room / "files", self.room / "cookie"
         self.folder.mkdir()
-        initialised(self.folder, self.chains.first)
+        self.initialise()
         self.node = FakeNode(self.chains, self.chains.first, cookie=self.cookie)
         self.addCleanup(self.node.stop)
+
+    def initialise(self):
+        """Makes the program's files."""
+        if IS_BUILT:
+            words = ["init", "regtest", "0", self.chains.first[::-1].hex(), "ns.example."]
+            subprocess.run([PROGRAM, *words], cwd=self.folder, check=True)
+        else:
+            initialised(self.folder, self.chains.first)
 
     def explorer(self, *more, **how):
         run = Explorer(self.node, self.cookie, self.folder, *more, **how)
@@ -182,6 +197,9 @@ class Case(unittest.TestCase):
         return run
 
     def faults(self, *lines):
+        """What is wrong with the program from now on."""
+        if IS_BUILT:
+            self.skipTest("the built program has no faults to order")
         (self.folder / FAULT).write_text("".join(f"{it}\n" for it in lines))
 
     def names_at(self, tip):
@@ -199,4 +217,5 @@ class Case(unittest.TestCase):
         return self.chains.blocks[tip].height
 
 
-__all__ = ["EXPLORER", "FEEDER", "Case", "Explorer", "Page", "as_shown", "initialised", "name_of", "opened", "raw", "request", "unittest"]
+__all__ = ["BUILT", "CHILD", "EXPLORER", "FEEDER", "IS_BUILT", "OVER", "Case", "Explorer", "Named", "Page", "SECONDS"]
+__all__ += ["as_shown", "initialised", "name_of", "raw", "request", "text_of", "unittest"]

@@ -13,4 +13,4 @@ if NAME not in sys.modules:
     spec.loader.exec_module(sys.modules[NAME])
 
 chains, fake_node = (importlib.import_module(f"{NAME}.{it}") for it in ("chains", "fake_node"))
-Chains, first_out, name_of, FakeNode = chains.Chains, chains.first_out, chains.name_of, fake_node.FakeNode
+Chains, first_out, name_of, FakeNode, RpcFault = chains.Chains, chains.first_out, chains.name_of, fake_node.FakeNode, fake_node.RpcFault
