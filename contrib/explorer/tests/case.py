@@ -198,9 +198,15 @@ class Case(unittest.TestCase):
 
     def faults(self, *lines):
         """What is wrong with the program from now on."""
-        if IS_BUILT:
-            self.skipTest("the built program has no faults to order")
         (self.folder / FAULT).write_text("".join(f"{it}\n" for it in lines))
+
+    def ends(self, run, status, *told):
+        """It ends by itself with this status, and says this."""
+        found, said = run.ended()
+        self.assertEqual(found, status, said)
+        for it in told:
+            self.assertIn(it, said)
+        self.assertNotIn("Traceback", said)
 
     def names_at(self, tip):
         """The rows of the names of a chain."""

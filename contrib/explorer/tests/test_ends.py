@@ -20,13 +20,6 @@ def children_of(number):
 
 
 class Ends(Case):
-    def ends(self, run, status, *told):
-        found, said = run.ended()
-        self.assertEqual(found, status, said)
-        for it in told:
-            self.assertIn(it, said)
-        self.assertNotIn("Traceback", said)
-
     def test_signals(self):
         """Each ends it and the program, whose files have all blocks; the next run goes on from there."""
         height = self.has_names(ODD)
@@ -83,57 +76,6 @@ class Ends(Case):
         with contextlib.suppress(OSError):
             run.get("/names/new")
         self.ends(run, Status.PROGRAM, "was ended by the signal 9")
-
-    def test_the_program_ends(self):
-        self.faults("06 none")
-        run = self.explorer().reaches(self.has_names(ODD))
-        with contextlib.suppress(OSError):
-            run.begin()
-        self.ends(run, Status.PROGRAM, "has ended with status 5: disk fault", "`dump`, at a terminal, tells the cause")
-
-    def test_the_program_says_odd_things(self):
-        self.faults("05 end 77 one\x1b[2Jtwo \N{BULLET}" + "x" * 3000)
-        run = self.explorer().started()
-        with contextlib.suppress(OSError):
-            run.begin()
-        _, said = run.ended()
-        self.assertIn("status 77: one?[2Jtwo", said)
-        self.assertTrue(said.isascii() and "\x1b" not in said and len(said) < 2000)
-
-    def test_replies_that_are_none_of_lists(self):
-        odd = {
-            "05 0003000000000000": "code 0 to an opening",
-            "05 1f00000000": "code 31 to an opening",
-            "06 2000000000": "code 32 to a page",
-            "06 000500000002" + "00000000": "code 0 to a page",
-            "06 000500000000" + "00000000": "code 0 to a page",
-            "06 000500000001" + "01000000": "code 0 to a page",
-            "06 000600000001" + "0000000000": "code 0 to a page",
-            "06 0015000000 0102000000 0161 01000000 01 0000 0161 01000000 01 0000": "code 0 to a page",
-            "06 00ffffffff": "a reply of 4294967295 bytes",
-            "03 0001000000aa": "a query for the SOA",
-            "01 0001000000aa": "what answers at",
-        }
-        for fault, told in odd.items():
-            first, _, rest = fault.partition(" ")
-            self.faults(f"{first} {rest.replace(' ', '')}")
-            run = self.explorer()
-            with contextlib.suppress(OSError, AssertionError):
-                run.started()
-                run.begin()
-            self.ends(run, Status.SERVER, told)
-
-    def test_slow_blocks(self):
-        """A reader waits for one frame of a block at most."""
-        self.faults("01 slow 0.4")
-        run = self.explorer().started()
-        self.node.move(self.chains.grow(self.chains.first, 12))
-        run.waits_for("a block", lambda: "at height 12" in run.get("/").text)
-        for _ in range(4):
-            begun = time.monotonic()
-            self.assertEqual(run.get("/").status, 200)
-            self.assertLess(time.monotonic() - begun, 1.2)
-        run.reaches(12)
 
 
 class Nodes(Case):
@@ -218,6 +160,7 @@ class Nodes(Case):
         status, said = run.ended()
         self.assertEqual((status, "more than 2 of its newest blocks" in said), (Status.OTHER_CHAIN, True), said)
         self.explorer().reaches(5)
+
 
 if __name__ == "__main__":
     unittest.main()

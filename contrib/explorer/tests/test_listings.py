@@ -141,13 +141,6 @@ class Listings(Case):
             self.assertEqual(run.get(f"/names/{token}/{place}").status, 404, place)
         self.assertEqual(run.get(path).status, 200)
 
-    def test_no_memory(self):
-        self.faults("05 fe00000000")
-        run = self.explorer().reaches(self.has_names(ODD))
-        told = run.get("/names/new")
-        self.assertEqual((told.status, "out of memory" in told.text), (503, True))
-        self.assertEqual(run.get("/").status, 200)
-
     def test_no_names(self):
         run = self.explorer().reaches(0)
         page = run.get(run.begin())

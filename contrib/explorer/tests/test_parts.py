@@ -14,7 +14,7 @@ import types
 from .case import Case, as_shown, unittest
 from .test_listings import ODD
 
-from answers_model import QR, A, Record, Reply
+from answers_model import QR, A, Question, Record, Reply
 from common import HERE
 from namecoin_explorer import dns, texts
 from namecoin_explorer.asking import SHARE, Asker, Job, Tip
@@ -288,7 +288,8 @@ class Answers(unittest.TestCase):
     def test_what_is_no_reply(self):
         """Any bytes are read, or are none: nothing else comes of them."""
         chance = random.Random(5)
-        good = Reply(1, QR, None, [Record((b"a", b"bit"), A, (b"\x01\x02\x03\x04",))], []).text()
+        question = Question((b"a", b"bit"), A, 1, b"\1a\3bit\0\0\1\0\1")
+        good = Reply(1, QR, question, [Record((b"a", b"bit"), A, (b"\x01\x02\x03\x04",))], []).text()
         self.assertEqual(dns.answer_of(good).records[0].told, [b"1.2.3.4"])
         for _ in range(20_000):
             text = bytearray(good)
@@ -298,57 +299,6 @@ class Answers(unittest.TestCase):
                 dns.answer_of(bytes(text[: chance.choice((len(text), chance.randrange(len(text) + 1)))]))
             except dns.BadReply:
                 pass
-
-
-class OverPages(Case):
-    def test_answers(self):
-        """How a name is answered now: by the model's records, of each type; and by those of the next block behind it."""
-        value = {
-            "ip": ["192.0.2.1", "192.0.2.2"],
-            "ip6": "2001:db8::1",
-            "txt": ["one", ["two", "<script>alert(1)</script>"]],
-            "mx": [[10, "mail"]],
-            "srv": [[1, 2, 80, "web"]],
-            "sshfp": [[1, 1, "AAAA"]],
-            "tls": [[3, 1, 1, "AQID"]],
-            "map": {"www": {"alias": "@"}, "sub": {"ns": "ns.example.org.", "ds": [[1, 8, 2, "AQID"]]}},
-        }
-        names = {**ODD, b"d/example": json.dumps(value).encode()}
-        run = self.explorer().reaches(self.has_names(names))
-        wanted = {
-            "example.bit A": ["192.0.2.1", "192.0.2.2"],
-            "example.bit AAAA": ["2001:db8::1"],
-            "example.bit TXT": ['"one"', '"two" "<script>alert(1)</script>"'],
-            "example.bit MX": ["10 mail.example.bit."],
-            "example.bit SRV": ["1 2 80 web.example.bit."],
-            "example.bit SSHFP": ["1 1 000000"],
-            "example.bit TLSA": ["3 1 1 010203"],
-            "www.example.bit CNAME": ["example.bit."],
-            "www.example.bit A": ["example.bit.", "192.0.2.1", "192.0.2.2"],
-            "sub.example.bit DS": ["1 8 2 010203"],
-            "bit NS": ["ns.example."],
-        }
-        for asked, records in wanted.items():
-            name, type = asked.split()
-            told = run.get(f"/answer?name={name}&type={type}")
-            self.assertEqual(told.status, 200)
-            self.assertNotIn("<script", told.html)
-            answer = told.html.partition("<h2>Answer</h2>")[2].partition("<h2>")[0]
-            says = re.findall(r"<td>[A-Z]+</td><td><code>(.*?)</code></td></tr>", answer)
-            self.assertEqual([html.unescape(re.sub("<[^>]*>", "", it)) for it in says], records, asked)
-        told = run.get("/answer?name=example.bit&type=ANY").text
-        for record in ("192.0.2.2", "2001:db8::1", "10 mail.example.bit."):
-            self.assertIn(record, told)
-        self.assertIn("answered by the name servers below", run.get("/answer?name=sub.example.bit&type=A").text)
-        self.assertIn("ns.example.org.", run.get("/answer?name=sub.example.bit&type=A").text)
-        self.assertIn("there is no such name now", run.get("/answer?name=nobody.bit&type=A").text)
-        self.assertIn("has nothing of this type", run.get("/answer?name=plain.bit&type=MX").text)
-        self.assertIn("only names below bit are answered", run.get("/answer?name=example.com&type=A").text)
-        # Behind the blocks in which it expires it isn't answered any more, while a listing still has it.
-        tip = self.chains.grow(self.node.tip, 31)
-        self.node.move(tip)
-        run.reaches(self.chains.blocks[tip].height)
-        self.assertIn("there is no such name now", run.get("/answer?name=example.bit&type=A").text)
 
 
 if __name__ == "__main__":
