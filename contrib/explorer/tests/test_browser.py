@@ -1,4 +1,5 @@
 """The pages in a real browser: what it makes of them, and that nothing of a name or a value is run."""
+import contextlib
 import html
 import http.server
 import os
@@ -38,8 +39,9 @@ class Bare(http.server.BaseHTTPRequestHandler):
         for name, value in (PLAIN_HEADERS if self.path == "/guarded" else {"Content-Type": "text/html"}).items():
             self.send_header(name, value)
         self.send_header("Content-Length", str(len(text)))
-        self.end_headers()
-        self.wfile.write(text)
+        with contextlib.suppress(OSError):
+            self.end_headers()
+            self.wfile.write(text)
 
     def log_message(self, *_):
         pass
