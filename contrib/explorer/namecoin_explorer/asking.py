@@ -16,6 +16,8 @@ from .statuses import Over
 
 # So many jobs of a user are done between two frames of the follower.
 SHARE = 4
+# Where more jobs than this wait, those that were dropped meanwhile are let go of: there are fewer connections than that.
+MOST_JOBS = 128
 
 
 class Tip(typing.NamedTuple):
@@ -60,6 +62,8 @@ class Asker:
     def add(self, job):
         with self.condition:
             self.jobs.append(job)
+            if len(self.jobs) > MOST_JOBS:
+                self.jobs = collections.deque(it for it in self.jobs if not it.is_dropped)
             self.condition.notify_all()
 
     def ask_for_follower(self, frame):
@@ -119,6 +123,8 @@ class Asker:
         """The jobs of this round, in the order of their coming: of each user a few."""
         counts, taken, left = collections.Counter(), [], collections.deque()
         for job in self.jobs:
+            if job.is_dropped:
+                continue
             counts[job.user] += 1
             (taken if counts[job.user] <= SHARE else left).append(job)
         self.jobs = left

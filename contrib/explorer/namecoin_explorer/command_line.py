@@ -121,7 +121,7 @@ class Explorer:
         self.front = Front(given.port, self.answer, None, self.log.say)
         self.program = Program(given.program, given.rows, given.folder)
         self.asker = self.front.asker = Asker(self.program, self.begins, self.between, self.fails)
-        self.site = Site(self.asker, self.listings, self.news, self.node_height)
+        self.site = Site(self.asker, self.listings, self.news, self.node_height, self.log.say)
         self.asker.start()
         self.front.start(self.fails)
 

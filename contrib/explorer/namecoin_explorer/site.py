@@ -18,6 +18,8 @@ QUERY = b"\x03"
 DOMAIN = re.compile(rb"d/([a-z0-9](?:[a-z0-9-]{0,61}[a-z0-9])?)")
 LISTING = re.compile(r"/names/([A-Za-z0-9_-]{22})(?:/([1-9][0-9]{0,9}|end)(?:/([1-9][0-9]?))?)?")
 MOST_FIELDS = 4
+# Seconds from one line on want of memory to the next.
+QUIET = 600.0
 CLOSED = {
     NINTH: (
         "Your listing was closed",
@@ -43,10 +45,12 @@ def tip_of(asker):
 
 
 class Site:
-    """`news` gives what is told of the node, `follower` its height."""
+    """`news` gives what is told of the node, `node_height` its height; `say` tells the operator."""
 
-    def __init__(self, asker, listings, news, node_height, clock=time.monotonic):
-        self.asker, self.listings, self.news, self.node_height, self.clock = asker, listings, news, node_height, clock
+    def __init__(self, asker, listings, news, node_height, say, clock=time.monotonic):
+        self.asker, self.listings, self.news, self.node_height, self.say, self.clock = asker, listings, news, node_height, say, clock
+        # No want of memory is told before this moment.
+        self.quiet_until = clock()
 
     def answer(self, request):
         """The response to a request."""
@@ -90,10 +94,16 @@ class Site:
         try:
             listing = self.listings.begin(self.asker.ask, request.user, self.asker.tip)
         except NoMemory:
+            self.tell_of_memory()
             why = "The program is out of memory for one more listing. Try again in a while."
             return pages.told(self.frame(), 503, "No listing can be begun now", why, again=True, **{"Retry-After": "60"})
         self.listings.turn(self.asker.ask, listing)
         return pages.goes_to(pages.page_path(listing, 1))
+
+    def tell_of_memory(self):
+        if self.clock() >= self.quiet_until:
+            self.quiet_until = self.clock() + QUIET
+            self.say("the program is out of memory for a listing (code FE); where that stays so, start the explorer anew, with more memory")
 
     def by_get(self):
         return pages.told(self.frame(), 405, "A page is turned by GET alone", "HEAD turns none.", Allow="GET")

@@ -14,7 +14,8 @@ class Faults(Case):
         run = self.explorer().reaches(self.has_names(ODD))
         told = run.get("/names/new")
         self.assertEqual((told.status, "out of memory" in told.text), (503, True))
-        self.assertEqual(run.get("/").status, 200)
+        self.assertEqual((run.get("/names/new").status, run.get("/").status), (503, 200))
+        self.assertEqual(sum("out of memory for a listing" in it for it in run.said), 1)
 
     def test_the_program_ends(self):
         self.faults("06 none")

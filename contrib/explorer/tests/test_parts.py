@@ -3,10 +3,13 @@ import collections
 import html
 import json
 import os
+import pathlib
 import random
 import re
 import socket
 import struct
+import subprocess
+import sys
 import threading
 import time
 import types
@@ -20,7 +23,7 @@ from namecoin_explorer import dns, texts
 from namecoin_explorer.asking import SHARE, Asker, Job, Tip
 from namecoin_explorer.front import Front
 from namecoin_explorer.listings import CLOSE, IDLE, MOST_OPEN, NINTH, OPEN, PAGE, BadPage, Closed, Listings, Row, page_of
-from namecoin_explorer.users import users_of
+from namecoin_explorer.users import TABLE, users_in, users_of
 from namecoin_feeder.replies import Reply as Told
 
 BLOCK = b"\x01block"
@@ -73,6 +76,19 @@ class Asking(unittest.TestCase):
         # The block under way when the job came, whose frame may be counted or not, and at most one behind it.
         self.assertLessEqual(max(count for _, count in done), 2)
         self.assertGreater(program.frames.count(BLOCK), 3)
+
+    def test_what_waits_is_bounded(self):
+        """Jobs whose connections are gone don't pile up while the program takes its time."""
+        asker = self.asker(Slow())
+        for number in range(100_000):
+            job = Job(1, lambda: None, lambda _: None)
+            asker.add(job)
+            job.is_dropped = number % 1000 != 0
+            if not job.is_dropped:
+                held = job
+            self.assertLess(len(asker.jobs), 300)
+        self.assertIs([it for it in asker.jobs if not it.is_dropped][-1], held)
+        asker.start()
 
     def test_shares(self):
         """One user's many jobs let blocks and another user through."""
@@ -217,12 +233,27 @@ class Users(unittest.TestCase):
             with socket.create_connection(ours) as one, socket.create_connection(ours) as two:
                 taken = [server.accept(), server.accept()]
                 pairs = [(one.getsockname(), ours), (two.getsockname(), ours), ((HERE, 1), ours)]
-                self.assertEqual(users_of(pairs), [os.getuid(), os.getuid(), None])
-                self.assertEqual(users_of(pairs[:1], types.SimpleNamespace(open=lambda: open("/nowhere"))), [None])
+                for way in (users_of, lambda pairs: users_in(TABLE, pairs)):
+                    self.assertEqual(way(pairs), [os.getuid(), os.getuid(), None])
+                self.assertEqual(users_in(pathlib.Path("/nowhere"), pairs[:1]), [None])
             # Nobody holds the other ends any more, which the system then gives to the user 0.
-            self.assertEqual(users_of(pairs), [None, None, None])
+            for way in (users_of, lambda pairs: users_in(TABLE, pairs)):
+                self.assertEqual(way(pairs), [None, None, None])
             for line, _ in taken:
                 line.close()
+
+    @unittest.skipIf(os.geteuid(), "this doesn't run as root")
+    def test_other_users(self):
+        """Another user's connection is told as his."""
+        lines = "import socket, sys; line = socket.create_connection(('127.0.0.1', int(sys.argv[1]))); sys.stdin.read()"
+        with socket.create_server((HERE, 0)) as server:
+            python = next(it for it in ("/usr/bin/python3", sys.executable) if os.path.exists(it))
+            run = subprocess.Popen([python, "-c", lines, str(server.getsockname()[1])], stdin=subprocess.PIPE, user=65534, cwd="/")
+            line, theirs = server.accept()
+            pairs = [(theirs, server.getsockname())]
+            self.assertEqual((users_of(pairs), users_in(TABLE, pairs)), ([65534], [65534]))
+            run.communicate()
+            line.close()
 
     def test_places_of_connections(self):
         """Where all are taken, the oldest of the user with most goes, one without a whole request first."""

@@ -1,7 +1,10 @@
 """Requests of all kinds: what is no page's gets none, and nobody keeps another from reading or the blocks from coming."""
 import contextlib
+import os
 import re
 import socket
+import subprocess
+import sys
 import threading
 import time
 
@@ -13,6 +16,37 @@ from namecoin_explorer import front
 from namecoin_explorer.pages import PLAIN_HEADERS
 
 GOOD = b"Host: 127.0.0.1\r\n"
+NOBODY = 65534
+# Holds as many connections as it can, begins listings without end, and says when it has begun some.
+NEIGHBOUR = """
+import http.client, socket, sys, threading
+port = int(sys.argv[1])
+def holds():
+    lines = []
+    while True:
+        try:
+            lines = [*lines[-150:], socket.create_connection(("127.0.0.1", port), 5)]
+            lines[-1].sendall(b"GET / HTTP/1.1\\r\\n")
+        except OSError:
+            pass
+def asks(path):
+    count = 0
+    while True:
+        try:
+            line = http.client.HTTPConnection("127.0.0.1", port, timeout=5)
+            line.request("GET", path)
+            told = line.getresponse()
+            told.read()
+            line.close()
+            count += told.status == 303
+        except (OSError, http.client.HTTPException):
+            continue
+        if path == "/names/new" and count == 20:
+            print("begun 20", flush=True)
+threading.Thread(target=asks, args=("/answer?name=plain.bit&type=ANY",)).start()
+threading.Thread(target=holds).start()
+asks("/names/new")
+"""
 
 
 def status_of(told):
@@ -167,6 +201,31 @@ class Strangers(Case):
             for thread in threads:
                 thread.join(SECONDS)
         self.assertLess(self.memory() - before, 40_000)
+
+    @unittest.skipIf(os.geteuid(), "this doesn't run as root")
+    def test_a_neighbour(self):
+        """Another user of the machine takes what he can of connections and listings: ours stay, and blocks come."""
+        paths = [self.run_.begin() for _ in range(3)]
+        python = next(it for it in ("/usr/bin/python3", sys.executable) if os.path.exists(it))
+        run = subprocess.Popen([python, "-c", NEIGHBOUR, str(self.port)], stdout=subprocess.PIPE, user=NOBODY, cwd="/", text=True)
+        self.addCleanup(run.stdout.close)
+        self.addCleanup(run.wait)
+        self.addCleanup(run.kill)
+        self.assertEqual(run.stdout.readline(), "begun 20\n")
+        slowest = 0.0
+        for number in range(1, 31):
+            begun = time.monotonic()
+            for path in paths:
+                self.assertEqual(self.run_.get(path).status, 200)
+            slowest = max(slowest, time.monotonic() - begun)
+            if number % 10 == 0:
+                self.node.move(self.chains.grow(self.node.tip, 2))
+                self.height += 2
+                self.run_.reaches(self.height)
+        self.assertLess(slowest, 10)
+        later = self.run_.begin()
+        self.assertIsNone(run.poll())
+        self.assertEqual({self.run_.get(it).status for it in [*paths, later]}, {200})
 
     def memory(self):
         """Kibibytes that the explorer holds."""
