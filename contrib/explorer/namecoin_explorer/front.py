@@ -30,6 +30,8 @@ SECONDS = {READING: 10.0, ASKED: 30.0, WRITING: 20.0, LEAVING: 1.0}
 # What a client still sends while it goes is read up to so many bytes.
 MOST_LATE, PIECE = 1 << 18, 65_536
 PAUSE = 1.0
+# Seconds from one line for the operator to the next.
+QUIET = 600.0
 END = b"\r\n\r\n"
 TOKEN = re.compile(rb"[!#$%&'*+.^_`|~0-9A-Za-z-]+")
 FIRST_LINE = re.compile(rb"([!#$%&'*+.^_`|~0-9A-Za-z-]{1,32}) ([\x21-\x7e]+) HTTP/1\.[01]")
@@ -133,7 +135,7 @@ class Front:
         self.selector, self.lines = selectors.DefaultSelector(), []
         self.waker, self.woken = socket.socketpair()
         # Responses that came of jobs.
-        self.made, self.is_over, self.deaf_until = collections.deque(), False, 0.0
+        self.made, self.is_over, self.deaf_until, self.quiet_until = collections.deque(), False, 0.0, clock()
         for item in (self.listener, self.waker, self.woken):
             item.setblocking(False)
         self.selector.register(self.listener, selectors.EVENT_READ)
@@ -189,12 +191,19 @@ class Front:
         for line in [it for it in self.lines if it.until <= now]:
             if line.state == ASKED:
                 line.job.is_dropped = True
+                self.tell(f"a reader had no page within {SECONDS[ASKED]:g} seconds: the program has much to do, or doesn't answer")
                 self.answer(line, refusal(503, "The program has too much to do for an answer now. Try again in a moment.", **{"Retry-After": "5"}))
             else:
                 self.close(line)
         if self.deaf_until and self.deaf_until <= now:
             self.deaf_until = 0.0
             self.selector.register(self.listener, selectors.EVENT_READ)
+
+    def tell(self, text):
+        """Tells the operator, but not often: any reader can be the cause."""
+        if self.clock() >= self.quiet_until:
+            self.quiet_until = self.clock() + QUIET
+            self.say(text)
 
     # Coming and going
 
@@ -206,6 +215,7 @@ class Front:
                 # No number is left for a connection: another time.
                 self.selector.unregister(self.listener)
                 self.deaf_until = self.clock() + PAUSE
+                self.tell(f"no connection can be taken: {fault.strerror}; it is tried again each second")
             return
         item.setblocking(False)
         line = Line(item, address, self.clock())

@@ -48,7 +48,8 @@ td ul { margin: 0; padding-left: 1.1rem; }
 .turn .end { margin-left: auto; }
 form { display: flex; flex-wrap: wrap; gap: .6rem; margin: .8rem 0 1rem; align-items: end; }
 label { display: grid; gap: .15rem; font-size: .85rem; color: var(--soft); }
-input, select, button, .button { font: inherit; color: var(--text); padding: .35rem .6rem; border: 1px solid var(--line); border-radius: .3rem; background: var(--box); }
+input, select, button, .button { font: inherit; color: var(--text); background: var(--box); padding: .35rem .6rem;
+  border: 1px solid var(--line); border-radius: .3rem; }
 input { width: min(24rem, 80vw); }
 button, .button { color: var(--link); border-color: var(--link); text-decoration: none; display: inline-block; cursor: pointer; }
 """
@@ -245,7 +246,8 @@ def answer_page(frame, name, type, asked, answer):
     else:
         code, meaning = CODES.get(answer.code, (f"RCODE {answer.code}", "an error"))
         if answer.code == 0 and not answer.records:
-            meaning = "answered by the name servers below" if not answer.is_ours and answer.authority else "the name is there, and has nothing of this type"
+            is_delegated = not answer.is_ours and answer.authority
+            meaning = "answered by the name servers below" if is_delegated else "the name is there, and has nothing of this type"
         said = f"<p><strong>{code}</strong>: {meaning}.</p>"
         if answer.is_cut:
             said += "<p class=warn>The answer is too long for this page: it would be told over TCP.</p>"

@@ -16,7 +16,8 @@ from common import HERE
 from namecoin_explorer.pages import PLAIN_HEADERS
 
 BROWSER, SECONDS = "chromium", 120
-WORDS = ("--headless", "--disable-gpu", "--no-first-run", "--disable-extensions", "--disable-dev-shm-usage", "--hide-scrollbars", "--window-size=1000,900")
+WORDS = ("--headless", "--disable-gpu", "--no-first-run", "--disable-extensions", "--disable-dev-shm-usage")
+WORDS += ("--hide-scrollbars", "--window-size=1000,900")
 RAN = "ran"
 SCRIPT = b"<script>document.documentElement.id='ran'</script>"
 IMAGE = b"<img src=x onerror=\"document.documentElement.id='ran'\">"

@@ -28,6 +28,8 @@ class Ends(Case):
             path = run.begin()
             self.assertEqual(run.get(path).status, 200)
             (child,) = children_of(run.run.pid)
+            # An interrupt of the terminal reaches the explorer alone.
+            self.assertNotEqual(os.getpgid(child), os.getpgid(run.run.pid))
             begun = time.monotonic()
             found, said = run.stop(number)
             self.assertEqual((found, "Traceback" in said), (status, False), said)

@@ -1,7 +1,6 @@
 """The parts by themselves: who asks when, whose place goes, whose a connection is, texts, pages of a program, and answers."""
 import collections
 import html
-import json
 import os
 import pathlib
 import random
@@ -14,8 +13,7 @@ import threading
 import time
 import types
 
-from .case import Case, as_shown, unittest
-from .test_listings import ODD
+from .case import as_shown, unittest
 
 from answers_model import QR, A, Question, Record, Reply
 from common import HERE
@@ -66,15 +64,19 @@ class Asking(unittest.TestCase):
         for number in range(300):
             name = b"\x03%d" % number
             begun = len(program.frames)
-            job = Job(number % 50, lambda name=name, begun=begun: (asker.ask(name), done.append((name, program.frames[begun:].count(BLOCK)))), lambda _: None)
-            asker.add(job)
+
+            def work(name=name, begun=begun):
+                asker.ask(name)
+                done.append(program.frames[begun:].count(BLOCK))
+
+            asker.add(Job(number % 50, work, lambda _: None))
             time.sleep(chance.choice((0, 0, 0, 0.005)))
         while len(done) < 300:
             time.sleep(0.01)
         over.set()
         thread.join()
         # The block under way when the job came, whose frame may be counted or not, and at most one behind it.
-        self.assertLessEqual(max(count for _, count in done), 2)
+        self.assertLessEqual(max(done), 2)
         self.assertGreater(program.frames.count(BLOCK), 3)
 
     def test_what_waits_is_bounded(self):
@@ -220,7 +222,8 @@ class PagesOfTheProgram(unittest.TestCase):
         self.assertEqual(len(page_of(good, 5)[1]), 2)
         for cut in range(len(good)):
             self.assertRaises(BadPage, page_of, good[:cut], 5)
-        bad = [good + b"\0", self.text(0, one), self.text(2, one), self.text(1, one, two, self.row(b"c")), self.text(1, two, one), self.text(1, one, one)]
+        bad = [good + b"\0", self.text(0, one), self.text(2, one), self.text(1, one, two, self.row(b"c"))]
+        bad += [self.text(1, two, one), self.text(1, one, one)]
         bad += [self.text(1, self.row(b"a", is_served=2)), self.text(1, self.row(b"a", value=bytes(1024))), b"\1\xff\xff\xff\xff"]
         for text in bad:
             self.assertRaises(BadPage, page_of, text, 2)
@@ -273,9 +276,12 @@ class Users(unittest.TestCase):
 class Texts(unittest.TestCase):
     def test_bytes(self):
         for byte in range(256):
-            made = texts.text_of(b"a" + bytes([byte]) + b"b")
-            self.assertEqual(html.unescape(re.sub("<[^>]*>", "", made)), as_shown(b"a" + bytes([byte]) + b"b"))
+            data = b"<b>\"&'" + bytes([byte]) + b"<i>\"&'"
+            made = texts.text_of(data)
+            self.assertEqual(html.unescape(re.sub("<[^>]*>", "", made)), as_shown(data))
             self.assertTrue(all(0x20 <= ord(it) < 0x7F for it in made))
+            self.assertEqual(set(re.findall("<[^>]*>", made)) - {'<span class="odd">', "</span>"}, set())
+            self.assertNotIn("'", made)
         self.assertNotIn("<script", texts.text_of(b"<script>"))
 
     def test_values(self):
@@ -310,9 +316,9 @@ class Texts(unittest.TestCase):
 
 class Answers(unittest.TestCase):
     def test_names(self):
-        rows = {"example.bit": [b"example", b"bit"], "example": [b"example", b"bit"], "d/example": [b"example", b"bit"], "www.example.bit.": [b"www", b"example", b"bit"]}
-        for text, labels in {**rows, "bit": [b"bit"], "a.com": [b"a", b"com"], "<i>": [b"<i>", b"bit"]}.items():
-            self.assertEqual(dns.labels_of(text), labels)
+        rows = {"example.bit": "example bit", "example": "example bit", "d/example": "example bit", "www.example.bit.": "www example bit"}
+        for text, labels in {**rows, "bit": "bit", "a.com": "a com", "<i>": "<i> bit"}.items():
+            self.assertEqual(dns.labels_of(text), labels.encode().split())
         for text in ("", ".", "..", "a..b", ".bit", "a b", "\u00e4.bit", "a" * 64, "a." * 127 + "bit", "a\x00", "d/"):
             self.assertRaises(dns.BadName, dns.labels_of, text)
 

@@ -130,7 +130,8 @@ class Strangers(Case):
             self.gets(row + GOOD + b"\r\n\r\n", 400)
         for row in (b"no colon", b" folded: x", b"na me: x", b": x", b"a: b\nc: d", b"a: \0", b"a\0: b"):
             self.gets(b"GET / HTTP/1.1\r\n" + GOOD + row + b"\r\n\r\n", 400, row)
-        for path in ("*", "evil", "//", "/..", "/../../etc/passwd", "/%2e%2e/etc/passwd", "/names/../../etc/passwd", "/favicon.ico", "/names/", "/names/new/", "/tip", "/index.html"):
+        paths = ("*", "evil", "//", "/..", "/../../etc/passwd", "/%2e%2e/etc/passwd", "/names/../../etc/passwd", "/favicon.ico", "/names/")
+        for path in (*paths, "/names/new/", "/tip", "/index.html"):
             told = self.gets(b"GET %s HTTP/1.1\r\n" % path.encode() + GOOD + b"\r\n", 404 if path.startswith("/") else 400, path)
             self.assertNotIn(b"root:", told)
 
@@ -147,8 +148,8 @@ class Strangers(Case):
             self.assertEqual(status_of(line.recv(100)), 200)
 
     def test_words_in_questions(self):
-        rows = ("name=%00", "name=%ff", "name=a%20b", "name=" + "a" * 1500, "name=..", "name=" + "a." * 130, "name=x&type=NONE", "a=1&" * 100, "name=")
-        for words in (*rows, "name=" + "a" * 64, "name=x&type=%3Cscript%3E", "name=%3Cscript%3E%C3%A4"):
+        rows = ("name=%00", "name=%ff", "name=a%20b", "name=" + "a" * 1500, "name=..", "name=" + "a." * 130, "name=x&type=NONE")
+        for words in (*rows, "a=1&" * 100, "name=", "name=" + "a" * 64, "name=x&type=%3Cscript%3E", "name=%3Cscript%3E%C3%A4"):
             told = request(self.port, f"/answer?{words}")
             self.assertEqual((told.status, "<script" in told.html), (400, False), words)
         told = request(self.port, "/answer?name=%3Cscript%3Ealert(1)%3C/script%3E&type=A")
@@ -164,6 +165,8 @@ class Strangers(Case):
                     line.sendall((b"", b"GET / HT", b"GET / HTTP/1.1\r\n" + GOOD, b"GET / HTTP/1.1\r\n" + GOOD + b"\r\n")[number % 4])
                     lines.append(line)
             self.assertEqual(len(lines), 200)
+            held_there = len(os.listdir(f"/proc/{self.run_.run.pid}/fd"))
+            self.assertTrue(front.MOST_LINES <= held_there <= front.MOST_LINES + 20, held_there)
             path = self.run_.begin()
             self.assertEqual(self.run_.get(path).status, 200)
             self.node.move(self.chains.grow(self.node.tip, 5))
