@@ -195,6 +195,9 @@ class Explorer:
 
     def close(self):
         self.ending.set()
+        for number in (signal.SIGTERM, signal.SIGINT):
+            # A second one doesn't wait for the program.
+            signal.signal(number, signal.SIG_DFL)
         if self.front is not None:
             self.front.end(ENDING)
         if self.asker is not None and not self.asker.end(ENDING):

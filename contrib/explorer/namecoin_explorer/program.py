@@ -79,7 +79,9 @@ class Program:
     def ended(self):
         """Why the child can't be asked any more."""
         status = self.close()
-        if status is not None and status < 0:
+        if status is None:
+            return ProgramEnded(f"{self.words[0]} can't be asked any more, and doesn't end: it is killed")
+        if status < 0:
             return ProgramEnded(f"{self.words[0]} was ended by the signal {-status}")
         line = f": {self.said[-1]}" if self.said else ""
         hint = f"; {HINTS[status]}" if status in HINTS else ""
