@@ -4,8 +4,8 @@
 usage: model_program.py list ROWS
 
 Its file `model` in the folder that it is run in has its base, and the frames that it took. What is wrong with it is said by the file
-`fault`: each line is the hexadecimal of the first bytes of a frame, with the hexadecimal of what it gets in place of a reply, `none`
-for an end with status 5, `end STATUS TEXT` for another one, or `slow SECONDS`.
+`fault`: each line is the hexadecimal of the first bytes of a frame, with the hexadecimal of what it gets in place of a reply, `disk`
+for the last reply of a disk that fails and an end with status 5, `end STATUS TEXT` for another one, or `slow SECONDS`.
 """
 import json
 import pathlib
@@ -108,7 +108,9 @@ def answered(model, frame, log):
     fault = fault_of(frame)
     if fault is not None and fault.startswith("slow"):
         time.sleep(float(fault.split()[1]))
-    elif fault == "none":
+    elif fault == "disk":
+        sys.stdout.buffer.write(reply(0xFD))
+        sys.stdout.buffer.flush()
         ends(5, "disk fault")
     elif fault is not None and fault.startswith("end"):
         _, status, line = fault.split(" ", 2)

@@ -19,11 +19,18 @@ class Faults(Case):
         self.assertEqual(sum("out of memory for a listing" in it for it in run.said), 1)
 
     def test_the_program_ends(self):
-        self.faults("06 none")
-        run = self.explorer().reaches(self.has_names(ODD))
-        with contextlib.suppress(OSError):
-            run.begin()
-        self.ends(run, Status.PROGRAM, "has ended with status 5: disk fault", "`dump`, at a terminal, tells the cause")
+        height = self.has_names(ODD)
+        for kind in ("06", "03", "01"):
+            self.faults()
+            run = self.explorer().reaches(height)
+            self.faults(f"{kind} disk")
+            with contextlib.suppress(OSError, AssertionError):
+                if kind == "01":
+                    self.has_names({b"d/more": b"{}"})
+                else:
+                    run.get("/answer?name=plain.bit")
+                    run.begin()
+            self.ends(run, Status.PROGRAM, "has ended with status 5: disk fault", "`dump`, at a terminal, tells the cause")
 
     def test_the_program_says_odd_things(self):
         self.faults("05 end 77 one\x1b[2Jtwo \N{BULLET}" + "x" * 3000)
@@ -56,6 +63,17 @@ class Faults(Case):
                 run.started()
                 run.begin()
             self.ends(run, Status.SERVER, told)
+
+    def test_names_that_come_again(self):
+        """A page that doesn't go on behind the one before."""
+        rows = "".join(f"01{letter:02x} 01000000 01 0000" for letter in b"abcde").replace(" ", "")
+        self.faults(f"06 00{5 + len(rows) // 2:02x}000000" + "00" + "05000000" + rows)
+        run = self.explorer().started()
+        told = run.get(run.begin())
+        self.assertEqual(told.names(), [*"abcde"])
+        with contextlib.suppress(OSError):
+            run.get(told.next())
+        self.ends(run, Status.SERVER, "code 0 to a page")
 
     def test_slow_blocks(self):
         """Pages are read between the blocks."""

@@ -78,6 +78,19 @@ class Asking(unittest.TestCase):
         self.assertLessEqual(max(done), 1)
         self.assertGreater(program.frames.count(BLOCK), 3)
 
+    def test_readers_first(self):
+        """A job that waits is done before the frame of a block that waits too."""
+        program = Slow()
+        asker = self.asker(program)
+        asker.add(Job(1, lambda: asker.ask(b"\x03"), lambda _: None))
+        thread = threading.Thread(target=lambda: asker.ask_for_follower(BLOCK))
+        thread.start()
+        while asker.frame is None:
+            time.sleep(0.001)
+        asker.start()
+        thread.join()
+        self.assertEqual(program.frames, [b"\x03", BLOCK])
+
     def test_what_waits_is_bounded(self):
         """Jobs whose connections are gone don't pile up while the program takes its time."""
         asker = self.asker(Slow())
@@ -327,6 +340,8 @@ class Answers(unittest.TestCase):
         question = Question((b"a", b"bit"), A, 1, b"\1a\3bit\0\0\1\0\1")
         good = Reply(1, QR, question, [Record((b"a", b"bit"), A, (b"\x01\x02\x03\x04",))], []).text()
         self.assertEqual(dns.answer_of(good).records[0].told, [b"1.2.3.4"])
+        for text in (good + b"\0", good[:-1], b""):
+            self.assertRaises(dns.BadReply, dns.answer_of, text)
         for _ in range(20_000):
             text = bytearray(good)
             for _ in range(chance.randrange(1, 5)):
