@@ -1,5 +1,6 @@
 """The pages in a real browser: what it makes of them, and that nothing of a name or a value is run."""
 import contextlib
+import functools
 import html
 import http.server
 import os
@@ -7,6 +8,7 @@ import re
 import shutil
 import struct
 import subprocess
+import tempfile
 import threading
 import zlib
 
@@ -48,13 +50,31 @@ class Bare(http.server.BaseHTTPRequestHandler):
         pass
 
 
-@unittest.skipUnless(shutil.which(BROWSER), f"{BROWSER} is missing")
+def browsed(profile, url, *words):
+    """What the browser has made of a page."""
+    sandbox = ["--no-sandbox"] if os.geteuid() == 0 else []
+    run = [BROWSER, *WORDS, *sandbox, f"--user-data-dir={profile}", *words, url]
+    return subprocess.run(run, stdout=subprocess.PIPE, stderr=subprocess.DEVNULL, timeout=SECONDS, text=True).stdout
+
+
+@functools.lru_cache(None)
+def why_not():
+    """Why no browser is asked here; None where one is."""
+    if not shutil.which(BROWSER):
+        return f"{BROWSER} is missing"
+    with tempfile.TemporaryDirectory() as profile:
+        told = browsed(profile, "data:text/html,<title>it</title>", "--dump-dom")
+    return None if "<title>it</title>" in told else f"{BROWSER} shows nothing here"
+
+
 class Browser(Case):
+    def setUp(self):
+        if why := why_not():
+            self.skipTest(why)
+        super().setUp()
+
     def browse(self, url, *words):
-        """What the browser has made of a page."""
-        sandbox = ["--no-sandbox"] if os.geteuid() == 0 else []
-        run = [BROWSER, *WORDS, *sandbox, f"--user-data-dir={self.room / 'profile'}", *words, url]
-        return subprocess.run(run, stdout=subprocess.PIPE, stderr=subprocess.DEVNULL, timeout=SECONDS, text=True).stdout
+        return browsed(self.room / "profile", url, *words)
 
     def seen(self, run, path):
         """The elements of a page behind whatever ran in it."""
