@@ -1,5 +1,6 @@
 """The words, what is made of them, and the exit status."""
 import argparse
+import os
 import pathlib
 import queue
 import shlex
@@ -73,10 +74,11 @@ def rows(text):
 
 
 def program(text):
-    words = shlex.split(text)
-    if not words:
+    first, *words = shlex.split(text) or [""]
+    if not first:
         raise ValueError
-    return words
+    # It is started in the folder of its files, and meant from here.
+    return [os.path.abspath(first) if os.sep in first else first, *words]
 
 
 def words():

@@ -6,7 +6,7 @@ import signal
 import socket
 import time
 
-from .case import Case, unittest
+from .case import CHILD, EXPLORER, Case, unittest
 from .fed import RpcFault
 from .test_listings import ODD
 
@@ -55,6 +55,13 @@ class Ends(Case):
     def test_a_program_without_list(self):
         old = ["sh", "-c", "echo bad words >&2; exit 2"]
         self.ends(self.explorer(program=old), Status.PROGRAM, "has ended with status 2: bad words", "does this program know `list`?")
+
+    def test_places_from_here(self):
+        """A program and a folder are meant from where the explorer is started."""
+        first, *words = map(str, CHILD)
+        self.folder = pathlib.Path(os.path.relpath(self.folder, EXPLORER))
+        run = self.explorer(program=[os.path.relpath(first, EXPLORER), *words])
+        run.reaches(self.has_names(ODD))
 
     def test_no_program(self):
         self.ends(self.explorer(program=["/nowhere/program"]), Status.WORDS, "/nowhere/program can't be started")
