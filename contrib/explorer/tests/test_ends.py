@@ -58,10 +58,9 @@ class Ends(Case):
 
     def test_places_from_here(self):
         """A program and a folder are meant from where the explorer is started."""
-        first, *words = map(str, CHILD)
+        program = os.path.relpath(CHILD[-1], EXPLORER)
         self.folder = pathlib.Path(os.path.relpath(self.folder, EXPLORER))
-        run = self.explorer(program=[os.path.relpath(first, EXPLORER), *words])
-        run.reaches(self.has_names(ODD))
+        self.explorer(program=[program]).reaches(self.has_names(ODD))
 
     def test_no_program(self):
         self.ends(self.explorer(program=["/nowhere/program"]), Status.WORDS, "/nowhere/program can't be started")
