@@ -21,14 +21,19 @@ def ran(module):
 def run_all(folder):
     """The status of the script: 0 where all passed."""
     tally, begun = Tally(), time.monotonic()
+    run_into(tally, folder)
+    print(f"{tally.name}: {time.monotonic() - begun:.0f} seconds")
+    return tally.end()
+
+
+def run_into(tally, folder, left_out=(), what=""):
+    """Runs the files of tests but these, and counts what passed; what is told of a test begins with `what`."""
     sys.path.insert(0, str(folder))
-    modules = sorted(path.stem for path in (folder / "tests").glob("test_*.py"))
+    modules = sorted({path.stem for path in (folder / "tests").glob("test_*.py")} - set(left_out))
     with multiprocessing.Pool(max(2, len(os.sched_getaffinity(0)))) as pool:
         for passed, failed, skipped in pool.imap(ran, modules, 1):
             tally.passed += passed
             for test, text in failed:
-                tally.check(test, False, text)
-            for line in skipped:
-                tally.leaves_out(*line)
-    print(f"{tally.name}: {time.monotonic() - begun:.0f} seconds")
-    return tally.end()
+                tally.check(what + test, False, text)
+            for test, why in skipped:
+                tally.leaves_out(what + test, why)

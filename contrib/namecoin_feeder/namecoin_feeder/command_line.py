@@ -96,36 +96,46 @@ def words():
 
 
 def add_source(group):
+    add_node(group)
+    text = "block files in place of a node: to their best chain, once"
+    group.add_argument("--blocks", metavar="FILE", nargs="+", type=pathlib.Path, help=text)
+
+
+def add_node(group):
     files = {"metavar": "FILE", "type": pathlib.Path}
     group.add_argument("--node", metavar="URL", type=url, default=NODE, help="the node's JSON-RPC (%(default)s)")
     group.add_argument("--cookie", default=COOKIE, help="the node's cookie (%(default)s)", **files)
     group.add_argument("--user", metavar="NAME", help="a name in place of the cookie, with its password")
     group.add_argument("--password-file", help=f"its first line is the password; without it the variable {PASSWORD} is", **files)
-    group.add_argument("--blocks", nargs="+", help="block files in place of a node: to their best chain, once", **files)
 
 
 def add_ways(group):
     """How to follow."""
-    blocks, times = {"metavar": "BLOCKS", "type": count}, {"metavar": "SECONDS", "type": seconds}
-    some_times = {"metavar": "SECONDS", "type": some_seconds}
     group.add_argument("--once", action="store_true", help="end as soon as the server stands at the node's tip")
+    add_following(group)
+    times = {"metavar": "SECONDS", "type": seconds}
+    text = "ask the server for a save behind so many blocks, and once when it first stands at the tip; 0: never (%(default)s)"
+    group.add_argument("--save-every", metavar="BLOCKS", default=EVERY, type=count, help=text)
+    text = "end where nothing went well for so long; 0: try for ever (%(default)s)"
+    group.add_argument("--patience", default=0, help=text, **times)
+    text = "behind a refused block, or what else would end it, try again so much later; 0: end (%(default)s)"
+    group.add_argument("--again", default=0, help=text, **times)
+    text = "tell figures in the text form of Prometheus at this port of 127.0.0.1, at /metrics"
+    group.add_argument("--metrics", metavar="PORT", type=port, help=text)
+
+
+def add_following(group):
+    """How to follow a node on and on."""
+    blocks, some_times = {"metavar": "BLOCKS", "type": count}, {"metavar": "SECONDS", "type": some_seconds}
     group.add_argument("--every", default=1, help="look for a new tip so often (%(default)s)", **some_times)
     group.add_argument("--deepest", default=1000, help="take no more blocks off in one reorganisation (%(default)s)", **blocks)
     text = "the height of the server's base: nothing is taken off for a fork below it (%(default)s)"
     group.add_argument("--base", metavar="HEIGHT", default=0, type=count, help=text)
     text = "take so many blocks off that the node doesn't know, though no fork is known then (%(default)s)"
     group.add_argument("--unknown", default=0, help=text, **blocks)
-    text = "ask the server for a save behind so many blocks, and once when it first stands at the tip; 0: never (%(default)s)"
-    group.add_argument("--save-every", default=EVERY, help=text, **blocks)
-    text = "end where nothing went well for so long; 0: try for ever (%(default)s)"
-    group.add_argument("--patience", default=0, help=text, **times)
-    text = "behind a refused block, or what else would end it, try again so much later; 0: end (%(default)s)"
-    group.add_argument("--again", default=0, help=text, **times)
     text = "pauses between tries grow up to this (%(default)g)"
     group.add_argument("--longest-pause", default=LONGEST_PAUSE, help=text, **some_times)
     group.add_argument("--timeout", default=60, help="wait so long for an answer (%(default)s)", **some_times)
-    text = "tell figures in the text form of Prometheus at this port of 127.0.0.1, at /metrics"
-    group.add_argument("--metrics", metavar="PORT", type=port, help=text)
 
 
 def credentials(given):

@@ -90,7 +90,7 @@ class Follower:
     def step(self):
         """One look at the source, and what is to be done then. Whether the server stands at its tip."""
         if self.server.open():
-            self.progress.say(f"the server at {self.server.name} stands on block {shown(self.server.tip)}")
+            self.progress.say(f"{self.server.title} stands on block {shown(self.server.tip)}")
         self.settle(0)
         best = self.source.best()
         self.top = self.measures.node_height = best.height

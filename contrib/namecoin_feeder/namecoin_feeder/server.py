@@ -1,4 +1,4 @@
-"""The feed of a server: a connection on which frames go out and their replies come back in order."""
+"""The feed of a server: frames go out and their replies come back in order, over a connection or another way."""
 import collections
 import select
 import socket
@@ -31,49 +31,35 @@ def frame(kind, payload):
     return kind + struct.pack("<I", len(payload)) + payload
 
 
-class Server:
-    """One connection at a time, and where the server's chain stands, as its replies tell it."""
+class Feed:
+    """Where a server's chain stands, as its replies tell it. How frames go out and replies come back is left to the classes below:
+    `reach` makes the way where there is none, `send` takes frames, `reply` gives the next reply, and `drop` lets go of the way."""
 
-    def __init__(self, address, seconds):
-        self.address, self.seconds = address, seconds
-        self.socket = self.stream = self.tip = None
+    name = ""
+
+    def __init__(self):
+        self.tip = None
         # The height that the reply to the last accepted command told.
         self.height = None
         # What was sent and isn't answered yet, the oldest first.
         self.sent = collections.deque()
 
     @property
-    def name(self):
-        return "{}:{}".format(*self.address)
+    def title(self):
+        return f"the server at {self.name}"
 
     def open(self):
-        """Makes the connection and asks for the tip, where that isn't done. Whether it was done now."""
-        if self.socket is not None and not self.sent and self.is_readable():
-            raise self.lost(None)
-        try:
-            if self.socket is None:
-                self.socket = socket.create_connection(self.address, self.seconds)
-                self.socket.setsockopt(socket.IPPROTO_TCP, socket.TCP_NODELAY, 1)
-                self.stream = self.socket.makefile("rb", ROOM)
-        except OSError as fault:
-            self.drop()
-            raise ServerTrouble(f"the server at {self.name} isn't reached: {told(fault)}") from None
+        """Makes the way to the server and asks for the tip, where that isn't done. Whether it was done now."""
+        self.reach()
         if self.tip is not None:
             return False
-        self.write(frame(CONNECT, PROBE))
+        self.send([frame(CONNECT, PROBE)])
         self.tip = self.tip_of(self.read())
         return True
 
-    def is_readable(self):
-        """Whether something comes unasked, which is the connection's end: the server may have been started anew."""
-        return bool(select.select([self.socket], [], [], 0)[0])
-
-    def drop(self):
-        """Closes the connection. Whatever was sent and isn't answered may or may not be in the chain."""
-        for item in (self.stream, self.socket):
-            if item is not None:
-                item.close()
-        self.socket = self.stream = self.tip = None
+    def forget(self):
+        """Whatever was sent and isn't answered may or may not be in the chain."""
+        self.tip = None
         self.sent.clear()
 
     def tip_of(self, reply):
@@ -87,7 +73,7 @@ class Server:
     def connect(self, blocks):
         """Sends blocks, in order; `answer` gives their replies."""
         self.sent.extend(blocks)
-        self.write(b"".join(frame(CONNECT, block.data) for block in blocks))
+        self.send([frame(CONNECT, block.data) for block in blocks])
 
     def answer(self):
         """The oldest block that isn't answered yet, and its reply."""
@@ -101,7 +87,7 @@ class Server:
 
     def disconnect(self):
         """Takes the newest block off; False where the chain has none on its base."""
-        self.write(frame(DISCONNECT, self.tip))
+        self.send([frame(DISCONNECT, self.tip)])
         reply = self.read()
         if reply.code == ACCEPTED:
             self.accepts(reply)
@@ -113,7 +99,7 @@ class Server:
 
     def is_on_base(self):
         """Whether the chain has no block on its base: what the refusal of a disconnect tells whose hash is no block's."""
-        self.write(frame(DISCONNECT, NO_HASH))
+        self.send([frame(DISCONNECT, NO_HASH)])
         reply = self.read()
         if reply.code not in (AT_BASE, NOT_TIP):
             raise self.unexpected(reply)
@@ -121,10 +107,8 @@ class Server:
 
     def save(self):
         """Asks for a save, all blocks being answered. Its reply: how many saves there were, a refusal of one, or that memory is wanting."""
-        self.write(frame(SAVE, b""))
-        self.socket.settimeout(max(self.seconds, SAVE_SECONDS))
-        reply = self.reply()
-        self.socket.settimeout(self.seconds)
+        self.send([frame(SAVE, b"")])
+        reply = self.reply(SAVE_SECONDS)
         if reply.code == DISK_FAILED:
             self.drop()
             raise ServerTrouble("the server's disk failed at a save (code FD): is there room for its index once more?")
@@ -144,18 +128,77 @@ class Server:
         self.tip = reply.payload
         return ServerTrouble(f"the server stands on another block than before, {shown(self.tip)}: who else feeds it?")
 
-    def write(self, text):
-        try:
-            self.socket.sendall(text)
-        except OSError as fault:
-            raise self.lost(fault) from None
-
     def read(self):
         """The next reply to a block. The two that tell of the server's own want are troubles."""
         return self.wanted(self.reply())
 
-    def reply(self):
-        """The next reply, whatever it is."""
+    def wanted(self, reply):
+        if reply.code == DISK_FAILED:
+            self.drop()
+            raise ServerTrouble("the server's disk failed (code FD)")
+        if reply.code == NO_MEMORY:
+            self.drop()
+            raise ServerTrouble("the server is out of memory (code FE)")
+        return reply
+
+    def unexpected(self, reply):
+        self.drop()
+        told = f"code {reply.code}, payload {reply.payload[:40].hex() or 'empty'}"
+        return Stop(Status.SERVER, f"what answers at {self.name} is no feed that this program knows: {told}")
+
+
+class Server(Feed):
+    """One connection at a time."""
+
+    def __init__(self, address, seconds):
+        super().__init__()
+        self.address, self.seconds = address, seconds
+        self.socket = self.stream = None
+
+    @property
+    def name(self):
+        return "{}:{}".format(*self.address)
+
+    def reach(self):
+        if self.socket is not None and not self.sent and self.is_readable():
+            raise self.lost(None)
+        try:
+            if self.socket is None:
+                self.socket = socket.create_connection(self.address, self.seconds)
+                self.socket.setsockopt(socket.IPPROTO_TCP, socket.TCP_NODELAY, 1)
+                self.stream = self.socket.makefile("rb", ROOM)
+        except OSError as fault:
+            self.drop()
+            raise ServerTrouble(f"{self.title} isn't reached: {told(fault)}") from None
+
+    def is_readable(self):
+        """Whether something comes unasked, which is the connection's end: the server may have been started anew."""
+        return bool(select.select([self.socket], [], [], 0)[0])
+
+    def drop(self):
+        """Closes the connection."""
+        for item in (self.stream, self.socket):
+            if item is not None:
+                item.close()
+        self.socket = self.stream = None
+        self.forget()
+
+    def send(self, frames):
+        try:
+            self.socket.sendall(b"".join(frames))
+        except OSError as fault:
+            raise self.lost(fault) from None
+
+    def reply(self, seconds=0.0):
+        """The next reply, whatever it is; it may take so many seconds, where that is longer than usual."""
+        if seconds <= self.seconds:
+            return self.next_reply()
+        self.socket.settimeout(seconds)
+        reply = self.next_reply()
+        self.socket.settimeout(self.seconds)
+        return reply
+
+    def next_reply(self):
         head = self.take(5)
         length = int.from_bytes(head[1:], "little")
         if length > MOST_PAYLOAD:
@@ -171,25 +214,11 @@ class Server:
             raise self.lost(None)
         return text
 
-    def wanted(self, reply):
-        if reply.code == DISK_FAILED:
-            self.drop()
-            raise ServerTrouble("the server's disk failed (code FD)")
-        if reply.code == NO_MEMORY:
-            self.drop()
-            raise ServerTrouble("the server is out of memory (code FE)")
-        return reply
-
     def lost(self, fault):
         """The trouble that the connection is lost."""
         self.drop()
         kind = ServerTrouble if isinstance(fault, socket.timeout) else FeedEnded
-        return kind(f"the server at {self.name} " + (f"is lost: {told(fault)}" if fault else "closed the feed"))
-
-    def unexpected(self, reply):
-        self.drop()
-        told = f"code {reply.code}, payload {reply.payload[:40].hex() or 'empty'}"
-        return Stop(Status.SERVER, f"what answers at {self.name} is no feed that this program knows: {told}")
+        return kind(f"{self.title} " + (f"is lost: {told(fault)}" if fault else "closed the feed"))
 
 
 def told(fault):

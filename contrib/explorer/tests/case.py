@@ -1,0 +1,227 @@
+"""What the tests share: a chain with names of all kinds, a node that has it, the explorer as a program of its own, and readers."""
+import contextlib
+import html
+import http.client
+import os
+import pathlib
+import re
+import shlex
+import signal
+import socket
+import subprocess
+import sys
+import tempfile
+import threading
+import time
+import typing
+import unittest
+
+from . import EXPLORER, FEEDER
+from .fed import Chains, FakeNode, first_out, name_of
+from .model_program import FAULT, Listed, initialised
+from blocks import FIRST, NEW, name_script, named, outpoint
+from common import HERE, free_port
+from digests import hash160
+from stores import PROGRAM
+
+SECONDS, MEMORY, MATURITY = 30, "/dev/shm", 12
+# The tests are run over a model, and where this variable says so over the built program.
+OVER, BUILT = "EXPLORER_OVER", "built"
+IS_BUILT = os.environ.get(OVER) == BUILT
+CHILD = [PROGRAM] if IS_BUILT else [sys.executable, EXPLORER / "tests" / "model_program.py"]
+TAG = re.compile(r"<[^>]*>")
+
+
+class Page(typing.NamedTuple):
+    status: int
+    headers: dict
+    html: str
+
+    @property
+    def text(self):
+        """What a reader reads of it."""
+        return text_of(self.html)
+
+    @property
+    def links(self):
+        return [html.unescape(it) for it in re.findall(r'href="([^"]*)"', self.html)]
+
+    def next(self):
+        """The link to the page behind it; None where there is none."""
+        found = re.search(r'<a rel=next href="([^"]*)"', self.html)
+        return found and found[1]
+
+    def shown(self, pattern):
+        """What a reader reads of the first part of the HTML that fits."""
+        return html.unescape(TAG.sub("", re.search(pattern, self.html, re.DOTALL)[1]))
+
+    def names(self):
+        """The names of a listing's page, as they are shown."""
+        rows = re.findall(r'<tr><td><a href="[^"]*"><code>(.*?)</code></a>', self.html)
+        return [html.unescape(TAG.sub("", it)) for it in rows]
+
+    def row_links(self):
+        """The links to the pages of its names."""
+        return re.findall(r'<tr><td><a href="([^"]*)"><code>', self.html)
+
+
+def text_of(page):
+    """The text of a page's HTML, each tag being the end of a line."""
+    body = re.sub(r"<style>.*?</style>|<wbr>", "", page, flags=re.DOTALL)
+    return html.unescape(TAG.sub("\n", body))
+
+
+def as_shown(data):
+    """Bytes as pages are to show them."""
+    return "".join(chr(it) if 0x20 <= it < 0x7F else f"\\x{it:02x}" for it in data) or "empty"
+
+
+def request(port, path, method="GET", headers=None, seconds=SECONDS):
+    line = http.client.HTTPConnection(HERE, port, timeout=seconds)
+    with contextlib.closing(line):
+        line.request(method, path, headers=headers or {})
+        told = line.getresponse()
+        return Page(told.status, {name.lower(): value for name, value in told.getheaders()}, told.read().decode())
+
+
+def raw(port, data, seconds=SECONDS):
+    """All that comes back for some bytes on a connection."""
+    with socket.create_connection((HERE, port), seconds) as line:
+        line.settimeout(seconds)
+        with contextlib.suppress(BrokenPipeError, ConnectionResetError):
+            line.sendall(data)
+        text = b""
+        with contextlib.suppress(ConnectionResetError):
+            while piece := line.recv(65536):
+                text += piece
+        return text
+
+
+class Named(Chains):
+    """Chains whose blocks may also open names of any bytes."""
+
+    def opening(self, tip, names):
+        """A tip above that has these names with these values: committed to in one block, opened twelve blocks later."""
+        salt = b"salt"
+        commits = [named(outpoint(b"\xdd" * 28 + n.to_bytes(4, "little")), name_script(NEW, hash160(salt + it))) for n, it in enumerate(names)]
+        opens = [named(first_out(it), name_script(FIRST, name, salt, value)) for it, (name, value) in zip(commits, names.items())]
+        return self.add(self.grow(self.add(tip, commits), MATURITY - 1), opens)
+
+
+class Explorer:
+    """A run of the explorer, over a program in a folder."""
+
+    def __init__(self, node, cookie, folder, *more, program=CHILD, rows=5):
+        self.port = free_port(socket.SOCK_STREAM)
+        fast = ("--every", "0.05", "--longest-pause", "0.2", "--timeout", "5")
+        places = ("--port", self.port, "--folder", folder, "--program", shlex.join(map(str, program)), "--rows", rows)
+        words = [sys.executable, "-m", "namecoin_explorer", *places, "--node", node.url, "--cookie", cookie, *fast, *more]
+        self.run = subprocess.Popen(list(map(str, words)), cwd=EXPLORER, stderr=subprocess.PIPE, text=True)
+        self.said = []
+        self.listener = threading.Thread(target=self.listen, daemon=True)
+        self.listener.start()
+
+    def listen(self):
+        for line in self.run.stderr:
+            self.said.append(line.rstrip("\n"))
+
+    def waits_for(self, what, holds):
+        until = time.monotonic() + SECONDS
+        while not holds():
+            if time.monotonic() > until or self.run.poll() is not None and not holds():
+                raise AssertionError(f"waited for {what}: {self.run.poll()}, {self.said}")
+            time.sleep(0.02)
+        return self
+
+    def hears(self, text):
+        return self.waits_for(text, lambda: any(text in it for it in self.said))
+
+    def started(self):
+        return self.hears("the pages are at")
+
+    def reaches(self, height):
+        """Waits until the pages tell this height."""
+        self.started()
+        return self.waits_for(f"height {height}", lambda: f"stands at height {height:,}\n" in self.get("/").text)
+
+    def get(self, path, method="GET", **headers):
+        return request(self.port, path, method, {name.replace("_", "-"): value for name, value in headers.items()})
+
+    def begin(self):
+        """The path of the first page of a new listing."""
+        told = self.get("/names/new")
+        if told.status != 303:
+            raise AssertionError(f"{told.status}: {told.text}")
+        return told.headers["location"]
+
+    def ended(self):
+        """Its status, where it ends by itself; and what it said."""
+        status = self.run.wait(SECONDS)
+        self.listener.join(SECONDS)
+        return status, "\n".join(self.said)
+
+    def stop(self, number=signal.SIGTERM):
+        if self.run.poll() is None:
+            self.run.send_signal(number)
+        return self.ended()
+
+    def kill(self):
+        self.run.kill()
+        self.run.wait()
+        self.listener.join(SECONDS)
+        self.run.stderr.close()
+
+
+class Case(unittest.TestCase):
+    def setUp(self):
+        room = tempfile.TemporaryDirectory(prefix="jaqhumpi-", dir=MEMORY if os.access(MEMORY, os.W_OK) else None)
+        self.addCleanup(room.cleanup)
+        self.room, self.chains = pathlib.Path(room.name), Named()
+        self.folder, self.cookie = self.room / "files", self.room / "cookie"
+        self.folder.mkdir()
+        self.initialise()
+        self.node = FakeNode(self.chains, self.chains.first, cookie=self.cookie)
+        self.addCleanup(self.node.stop)
+
+    def initialise(self):
+        """Makes the program's files."""
+        if IS_BUILT:
+            words = ["init", "regtest", "0", self.chains.first[::-1].hex(), "ns.example."]
+            subprocess.run([PROGRAM, *words], cwd=self.folder, check=True)
+        else:
+            initialised(self.folder, self.chains.first)
+
+    def explorer(self, *more, **how):
+        run = Explorer(self.node, self.cookie, self.folder, *more, **how)
+        self.addCleanup(run.kill)
+        return run
+
+    def faults(self, *lines):
+        """What is wrong with the program from now on."""
+        (self.folder / FAULT).write_text("".join(f"{it}\n" for it in lines))
+
+    def ends(self, run, status, *told):
+        """It ends by itself with this status, and says this."""
+        found, said = run.ended()
+        self.assertEqual(found, status, said)
+        for it in told:
+            self.assertIn(it, said)
+        self.assertNotIn("Traceback", said)
+
+    def names_at(self, tip):
+        """The rows of the names of a chain."""
+        model = Listed(self.chains.first)
+        for hash in self.chains.path(tip):
+            model.connect(self.chains.blocks[hash].data)
+        self.assertEqual(model.tip, tip)
+        return list(model.names())
+
+    def has_names(self, names, more=0):
+        """The node has a chain with these names, and so many blocks behind. Its tip's height."""
+        tip = self.chains.grow(self.chains.opening(self.node.tip, names), more)
+        self.node.move(tip)
+        return self.chains.blocks[tip].height
+
+
+__all__ = ["BUILT", "CHILD", "EXPLORER", "FEEDER", "IS_BUILT", "OVER", "Case", "Explorer", "Named", "Page", "SECONDS"]
+__all__ += ["as_shown", "initialised", "name_of", "raw", "request", "text_of", "unittest"]
