@@ -12,7 +12,7 @@ use Rattle.nmc_base.specs.declared.chain_ends.Base.{Base}
 use Rattle.name_store.specs.Host.{IsHostOf}
 use Rattle.bridge_commands.specs.Words.{IsNumber, IsHeight, IsPort, AreTurns, AreBlocks, IsSeed, IsPlain, IsHash, AreFields, AreNumbers, AreTrial, Asks, AsksForFiles, start_word}
 use Rattle.bridge_commands.specs.declared.words.Command.{Command}
-use Rattle.bridge_commands.specs.declared.words.Command.TheVariants.{Replay, Dump, Init, Serve, SelfTest}
+use Rattle.bridge_commands.specs.declared.words.Command.TheVariants.{Replay, Listing, Dump, Init, Serve, SelfTest}
 use Rattle.bridge_commands.specs.declared.words.Plan.{Plan}
 use Rattle.bridge_commands.specs.declared.words.Start.{Start}
 use Rattle.bridge_commands.specs.declared.words.Start.TheVariants.{Empty, Snapshot}
@@ -84,6 +84,7 @@ same_start Snapshot Snapshot e = refl
 pub not_asked : (words : List (List ℕ)) (has : HasFields words) → ((start : Start) → has.form ≡ start_word start → ⊥) → (asked : Command) → Asks words asked → ⊥
 not_asked words has none Replay is = omega (arith, has.long, ap length is)
 not_asked words has none Dump is = omega (arith, has.long, ap length is)
+not_asked words has none (Listing size) is = omega (arith, has.long, ap length is.words_are)
 not_asked words has none (Serve plan) is = omega (arith, has.long, ap length is.words_are)
 not_asked words has none (SelfTest trial) is = omega (arith, has.long, ap length is.words_are)
 not_asked words has none (Init start base name) is = none start (form_word words has start base name is)
@@ -99,6 +100,7 @@ pub asked_by : (words : List (List ℕ)) (has : HasFields words) (start : Start)
     → (asked : Command) → Asks words asked → init_of start found ≡ Some asked
 asked_by words has start form found one Replay is = absurd (omega (arith, has.long, ap length is))
 asked_by words has start form found one Dump is = absurd (omega (arith, has.long, ap length is))
+asked_by words has start form found one (Listing size) is = absurd (omega (arith, has.long, ap length is.words_are))
 asked_by words has start form found one (Serve plan) is = absurd (omega (arith, has.long, ap length is.words_are))
 asked_by words has start form found one (SelfTest trial) is = absurd (omega (arith, has.long, ap length is.words_are))
 asked_by words has start form found one (Init other base name) is =
@@ -136,6 +138,7 @@ pub served_by : (words : List (List ℕ)) (has : HasNumbers words) (found : Opti
     → (asked : Command) → Asks words asked → serve_of found ≡ Some asked
 served_by words has found one Replay is = absurd (omega (arith, has.long, ap length is))
 served_by words has found one Dump is = absurd (omega (arith, has.long, ap length is))
+served_by words has found one (Listing size) is = absurd (omega (arith, has.long, ap length is.words_are))
 served_by words has found one (Init start base name) is = absurd (omega (arith, has.long, ap length is.words_are))
 served_by words has found one (SelfTest trial) is = absurd (omega (arith, has.long, ap length is.words_are))
 served_by words has found one (Serve plan) is = ap serve_of (
@@ -169,6 +172,7 @@ pub tested_by : (words : List (List ℕ)) (has : HasTrial words) (found : Option
     → (asked : Command) → Asks words asked → test_of found ≡ Some asked
 tested_by words has found one Replay is = absurd (omega (arith, has.long, ap length is))
 tested_by words has found one Dump is = absurd (omega (arith, has.long, ap length is))
+tested_by words has found one (Listing size) is = absurd (omega (arith, has.long, ap length is.words_are))
 tested_by words has found one (Init start base name) is = absurd (omega (arith, has.long, ap length is.words_are))
 tested_by words has found one (Serve plan) is = absurd (omega (arith, has.long, ap length is.words_are))
 tested_by words has found one (SelfTest trial) is = ap test_of (
