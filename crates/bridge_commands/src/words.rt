@@ -4,9 +4,7 @@ ghost use Rattle.name_store.specs.Host.{IsHostOf};
 ghost use Rattle.nmc_base.specs.declared.chain_ends.Profile.{Profile};
 ghost use Rattle.bridge_commands.specs.Words.{Asks, AreFields, AreNumbers, AreTrial, IsHash, profile_word, start_word};
 
-use crate::numbers::{
-    read_blocks, read_height, read_page_size, read_port, read_seed, read_turns,
-};
+use crate::numbers::{read_blocks, read_height, read_page_size, read_port, read_seed, read_turns};
 use domain_text::{Name, absolute_name};
 use nmc_base::{Base, Hash32, Profile, Words};
 

@@ -1,5 +1,5 @@
 -- The rows of a page, and which of them are served.
-use Rattle.std.proofs.Common.{◌≡◌, ℕ, zero, suc, ◌+◌, ◌<◌, ◌≤◌, arith, Bool, true, false, cond, not, List, [], ◌∷◌, ◌++◌, length, take, drop, Option, Some, None, refl, sym, ap, subst, ◌∙◌, append_assoc}
+use Rattle.std.proofs.Common.{◌≡◌, ℕ, zero, suc, ◌+◌, arith, Bool, true, false, not, List, [], ◌∷◌, ◌++◌, length, take, drop, Option, Some, None, refl, sym, ap, ◌∙◌, append_assoc}
 use Rattle.std.specs.Prelude.{nat_le}
 use Rattle.std.specs.Int.{w32, to_le_bytes}
 use Rattle.std.specs.List.{AllByRecursion, flat_map, slice_get}
@@ -13,7 +13,6 @@ use Rattle.chain_names.specs.Coins.{entry_of}
 use Rattle.chain_names.specs.Index.{served_item, value_of}
 use Rattle.chain_names.specs.declared.coin.Item.{Item}
 use Rattle.chain_commands.specs.Chain.{Chain, height_of}
-use Rattle.kept_rows.specs.Rows.{row_in}
 use Rattle.kept_rows.proofs.RowLemmas.{found_at}
 use Rattle.pin_views.specs.Rows.{row_of}
 use Rattle.pin_views.specs.declared.rows.Row.{Row}

@@ -1,5 +1,5 @@
 -- What is held of sessions, place by place.
-use Rattle.std.proofs.Common.{◌≡◌, inl, inr, ℕ, zero, suc, ◌+◌, ◌<◌, ◌≤◌, arith, Bool, true, false, List, [], ◌∷◌, length, set, take, drop, Option, Some, None, refl, sym, ap, subst, ◌∙◌}
+use Rattle.std.proofs.Common.{◌≡◌, inl, inr, ℕ, zero, suc, ◌+◌, ◌<◌, ◌≤◌, arith, true, false, List, [], ◌∷◌, length, set, take, drop, Option, Some, None, refl, sym, ap, subst, ◌∙◌}
 use Rattle.std.specs.Prelude.{◌≢◌, ◌⊎◌, nat_eq}
 use Rattle.std.specs.List.{AllByRecursion, slice_get}
 use Rattle.std.proofs.lemmas.Bool.{cases_Bool, eqb-true, eqb-false}
@@ -10,7 +10,7 @@ use Rattle.pin_views.specs.declared.rows.Row.{Row}
 use Rattle.nmc_base.specs.declared.chain_ends.Profile.{Profile}
 use Rattle.listing_sessions.specs.Listing.{is_served, page_text}
 use Rattle.listing_sessions.specs.Pages.{Pinned, pinned, is_live, GivesPage}
-use Rattle.listing_sessions.specs.Pinned.{held_at, listing_at, IsHeldAt, IsLeastEmpty, IsPinnedTo, IsTakenFrom, AreTakenFrom, GivesPageAt, StandsForOne, StandFor, Moves}
+use Rattle.listing_sessions.specs.Pinned.{held_at, listing_at, IsHeldAt, IsLeastEmpty, IsPinnedTo, IsTakenFrom, GivesPageAt, StandsForOne, StandFor, Moves}
 use Rattle.listing_sessions.specs.Sessions.{Session, session, Sessions, most_sessions, none_open, with_session, opened_reply, too_many_reply, no_session_reply, closed_reply, IsLeastFree, AreAllOpen, Opens, opens, too_many, lacks_memory, Pages, gives_page, Closes, closes}
 use Rattle.listing_sessions.specs.Sessions as steps
 use Rattle.listing_sessions.proofs.PageLemmas.{pages_alike}

@@ -8,7 +8,9 @@ ghost use Rattle.listing_sessions.specs.declared.page.TheConstants.{LARGEST_PAGE
 
 use crate::listing::Listing;
 use crate::page::LONGEST_PAGE;
-use crate::replies::{lack_memory, refuse_more, refuse_number, tell_closed, tell_number, tell_page};
+use crate::replies::{
+    lack_memory, refuse_more, refuse_number, tell_closed, tell_number, tell_page,
+};
 use frame_loop::ReplyBuf;
 use kept_rows::Rows;
 use nmc_base::{NoMemory, Profile};
@@ -88,12 +90,7 @@ fn take_at(held: &mut Vec<Option<Listing>>, number: usize) -> Option<Listing>
 }
 
 /// Writes the next page of what is held under the number, of so many rows at most, in place of the text; or answers that there is none.
-fn turn_at(
-    held: &mut Vec<Option<Listing>>,
-    number: usize,
-    size: u32,
-    text: &mut Vec<u8>,
-) -> bool
+fn turn_at(held: &mut Vec<Option<Listing>>, number: usize, size: u32, text: &mut Vec<u8>) -> bool
     requires size { size ≤ LARGEST_PAGE }
     requires room { LONGEST_PAGE ≤ vec_capacity text.old }
     ensures turns { TurnsAt size held.old.items number text.new.items result held.new.items }
@@ -130,13 +127,7 @@ impl Sessions {
     /// Opens a session on the chain of these rows, with its profile and the height of its tip, under the least number that isn't open.
     /// Code 0 and the number in 4 bytes, low byte first; code 31 where as many are open as may be; or code FE, want of memory, which it
     /// is too where no rows are there.
-    pub fn open(
-        &mut self,
-        rows: Option<&Rows>,
-        profile: Profile,
-        height: u32,
-        reply: &mut ReplyBuf,
-    )
+    pub fn open(&mut self, rows: Option<&Rows>, profile: Profile, height: u32, reply: &mut ReplyBuf)
         requires low { height ≤ highest }
         ensures { (chain : Chain) → AreTakenFrom chain (option_map (λ r. r.now) rows.entry) profile height → MakesStep (Opens chain) self.old reply.new self.new }
     {

@@ -1,5 +1,5 @@
 -- A listing run goes on by one turn, or a fault of the disk ends it.
-use Rattle.std.proofs.Common.{◌≡◌, ℕ, Bool, List, [], ◌∷◌, ◌++◌, map, refl, sym, ap, subst, ◌∙◌}
+use Rattle.std.proofs.Common.{◌≡◌, ℕ, Bool, List, [], ◌∷◌, ◌++◌, map, sym, ap, subst, ◌∙◌}
 use Rattle.std.specs.Prelude.{IsTrue}
 use Rattle.disk_model.specs.DiskSeen.{DiskSeen}
 use Rattle.feed_frames.specs.Frames.{Frame}
@@ -8,13 +8,12 @@ use Rattle.frame_loop.specs.Turns.{GoesOn, GoesOut}
 use Rattle.chain_commands.specs.Event.{Event, event_frame}
 use Rattle.chain_commands.specs.RunState.{RunState}
 use Rattle.name_store.specs.Stored.{IsOn}
-use Rattle.bridge_core.specs.Bridge.{AnswersEvent, fault_reply}
+use Rattle.bridge_core.specs.Bridge.{fault_reply}
 use Rattle.bridge_core.specs.Bridged.{Bridged}
 use Rattle.bridge_core.specs.Reached.{Begins, IsReached, IsBroken}
-use Rattle.bridge_core.specs.declared.bridge.Turned.TheVariants as bridge
 use Rattle.bridge_core.proofs.ReachedLemmas.{reached_by, broken_by, frames_push}
 use Rattle.name_lister.specs.Answers.{AnswersList, StandsAside}
-use Rattle.name_lister.specs.Event.{ListEvent, Plain, Open, Page, Close, list_frame, AreAmong, one_plain, one_opened, one_paged, one_closed}
+use Rattle.name_lister.specs.Event.{ListEvent, Plain, Open, Page, Close, list_frame, one_plain, one_opened, one_paged, one_closed}
 use Rattle.name_lister.specs.Lister.{Listed}
 use Rattle.name_lister.specs.Reached.{ListBeginning, LeadsTo, IsListReached, IsListBroken, IsReady, Ready, Reached, Broken}
 use Rattle.name_lister.specs.Step.{ListStep, beginning}

@@ -16,14 +16,13 @@ use Rattle.chain_names.specs.Sound.{IsSound}
 use Rattle.nmc_base.specs.Heights.{highest}
 use Rattle.nmc_base.specs.declared.chain_ends.Profile.{Profile}
 use Rattle.chain_state.specs.Standing.{StandsForChain}
-use Rattle.chain_commands.specs.Chain.{Chain, with_block, without_newest}
-use Rattle.chain_commands.specs.Event.{Event, Connect, Disconnect, Do, Ask, Save}
+use Rattle.chain_commands.specs.Chain.{Chain, with_block}
+use Rattle.chain_commands.specs.Event.{Event, Connect, Disconnect, Do}
 use Rattle.chain_commands.specs.RunState.{RunState, chain_of, accepted}
 use Rattle.index_commands.specs.Standing as chains
 use Rattle.kept_rows.specs.Rows.{names_back, names_now, names_before}
 use Rattle.kept_rows.proofs.IndexRows.{below_follows}
 use Rattle.machine.specs.Step.{Step}
-use Rattle.machine.specs.Leaving.{IsDoneBy}
 use Rattle.machine.proofs.RunLemmas.{step_leaves}
 use Rattle.bridge_core.specs.Bridge.{AnswersEvent}
 use Rattle.bridge_core.specs.Bridged as bridges
@@ -35,9 +34,8 @@ use Rattle.listing_sessions.specs.Sessions.{Opens, Pages, Closes}
 use Rattle.pin_views.specs.declared.rows.Row.{Row}
 use Rattle.name_lister.specs.Answers.{AnswersList}
 use Rattle.name_lister.specs.Event.{Plain, Open, Page, Close}
-use Rattle.name_lister.specs.Lister.{Listed, listed, StandsFor}
+use Rattle.name_lister.specs.Lister.{Listed, listed}
 use Rattle.name_lister.specs.Rows.{AreRowsBy}
-use Rattle.name_lister.specs.Step.{ListState}
 use Rattle.name_lister.specs.declared.lister.ListTurned.TheVariants.{On, Ended}
 
 -- ---- rows by other histories

@@ -7,4 +7,5 @@ pub mod Opening
 pub mod Answers
 pub mod Costs
 pub mod Reached
+pub mod Pinning
 pub mod Listing

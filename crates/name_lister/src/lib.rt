@@ -3,10 +3,12 @@
 
 mod answering;
 mod event;
+mod laws;
 mod lister;
 mod listing;
 mod rows;
 
 pub use event::ListEvent;
+pub use laws::{pinned_pages, plain_run};
 pub use lister::{ListTurned, Lister};
 pub use listing::list;

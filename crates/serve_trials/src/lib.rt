@@ -15,6 +15,8 @@ mod first_block;
 #[cfg(test)]
 mod fronts;
 #[cfg(test)]
+mod listings;
+#[cfg(test)]
 mod outside;
 #[cfg(test)]
 mod polls;

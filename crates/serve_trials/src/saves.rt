@@ -63,7 +63,7 @@ fn port_with_feed(alloc: Global) -> Result<MemoryPort, NoMemory> {
 }
 
 /// New files with the name.
-fn is_named(alloc: Global, outside: &mut Outside) -> Result<bool, NoMemory> {
+pub(crate) fn is_named(alloc: Global, outside: &mut Outside) -> Result<bool, NoMemory> {
     outside.port = port_with_feed(alloc)?;
     let is_made = end_of(alloc, outside, INIT) == Status::Done;
     Ok(is_made && end_of(alloc, outside, "serve 53 8336 1") == Status::Done)

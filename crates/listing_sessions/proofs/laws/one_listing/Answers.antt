@@ -1,14 +1,5 @@
-use Rattle.std.proofs.Common.{◌≡◌, List, ℕ, sym, ap, ◌∙◌}
-use Rattle.std.specs.Cmp.Lexicographic.{slice_cmp, nat_list_cmp_total}
-use Rattle.std.specs.Ordering.{nat_cmp, is_eq}
-use Rattle.std.specs.declared.cmp.Ordering.TheVariants.{Equal}
-use Rattle.std.proofs.lemmas.Map.Text.{is_eq-slice_cmp}
-use Rattle.chain_names.proofs.Changed.{bytes_eq-true}
-use Rattle.pin_views.proofs.Lookups.{same_pairs}
+use Rattle.listing_sessions.proofs.ListingLemmas.{one_listing}
 use Rattle.listing_sessions.proofs.laws.one_listing.Goals as goal
 
-alike : (x y : List ℕ) → slice_cmp nat_cmp x y ≡ Equal → x ≡ y
-alike x y e = bytes_eq-true x y (sym (is_eq-slice_cmp x y) ∙ ap is_eq e)
-
 pub returns : goal.returns
-returns c = λ chain a b one other. same_pairs nat_list_cmp_total alike a b one.order other.order (λ name. one.row name ∙ sym (other.row name))
+returns c = one_listing

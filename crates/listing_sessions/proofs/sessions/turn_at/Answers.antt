@@ -1,5 +1,4 @@
-use Rattle.std.proofs.Common.{◌≡◌, List, Option, Some, ap, subst, ◌∙◌}
-use Rattle.std.specs.Prelude.{slice_get}
+use Rattle.std.proofs.Common.{List, Option, subst}
 use Rattle.listing_sessions.specs.Pages.{Pinned}
 use Rattle.listing_sessions.specs.Pinned.{IsHeldAt}
 use Rattle.listing_sessions.proofs.SessionLemmas.{turned}

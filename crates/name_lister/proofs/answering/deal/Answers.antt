@@ -1,5 +1,4 @@
 use Rattle.std.proofs.Common.{sym, subst}
-use Rattle.disk_model.specs.DiskSeen.{DiskSeen}
 use Rattle.frame_loop.specs.Turns.{GoesOn, GoesOut}
 use Rattle.name_lister.specs.Event.{list_frame}
 use Rattle.name_lister.specs.Reached.{IsReady, Ready, Reached, Broken}

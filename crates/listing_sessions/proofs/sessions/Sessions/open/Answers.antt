@@ -1,6 +1,4 @@
-use Rattle.std.proofs.Common.{◌≡◌, List, Option, Some, None, set, sym, ap, subst, ◌∙◌}
-use Rattle.chain_commands.specs.Chain.{Chain}
-use Rattle.pin_views.specs.declared.rows.Row.{Row}
+use Rattle.std.proofs.Common.{List, Option, Some, None, set, sym, ap, subst, ◌∙◌}
 use Rattle.listing_sessions.specs.Pages.{Pinned}
 use Rattle.listing_sessions.specs.Pinned.{AreTakenFrom, IsLeastEmpty, StandFor, Moves}
 use Rattle.listing_sessions.specs.Sessions.{Opens}

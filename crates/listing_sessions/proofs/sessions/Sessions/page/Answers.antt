@@ -1,5 +1,4 @@
-use Rattle.std.proofs.Common.{◌≡◌, ℕ, Bool, true, false, List, Option, sym, ap, subst, ◌∙◌}
-use Rattle.feed_frames.specs.Replies.{Reply}
+use Rattle.std.proofs.Common.{ℕ, Bool, false, List, Option, sym, ap, subst, ◌∙◌}
 use Rattle.listing_sessions.specs.Pages.{Pinned}
 use Rattle.listing_sessions.specs.Pinned.{StandFor, Moves, TurnsAt}
 use Rattle.listing_sessions.specs.Sessions.{Pages}

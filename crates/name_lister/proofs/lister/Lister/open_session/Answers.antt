@@ -25,7 +25,7 @@ returns g c =
     let height : c.height_of-height.result ≡ index.tip.height = c.height_of-height.ensures.same ∙ ap (λ (i : Indexed). i.tip.height) c.chain-chain.ensures in
     subst (λ (o : Listed). AnswersList tells seen o disk Open c.open.new.reply (On new) disk) c.lister.view_is
     (opened tells seen old disk c.open.new.reply c.open.new.self (λ chain taken.
-        c.open.ensures chain
-        (subst (λ (p : Profile). AreTakenFrom chain rows p c.height_of-height.result) (sym profile)
-        (subst (λ (h : ℕ). AreTakenFrom chain rows index.base.profile h) (sym height)
-        (subst (λ (r : Option (List (List ℕ × Row))). AreTakenFrom chain r index.base.profile index.tip.height) (sym c.as_ref.ensures.value) taken)))))
+    c.open.ensures chain
+    (subst (λ (p : Profile). AreTakenFrom chain rows p c.height_of-height.result) (sym profile)
+    (subst (λ (h : ℕ). AreTakenFrom chain rows index.base.profile h) (sym height)
+    (subst (λ (r : Option (List (List ℕ × Row))). AreTakenFrom chain r index.base.profile index.tip.height) (sym c.as_ref.ensures.value) taken)))))

@@ -1,7 +1,7 @@
-use Rattle.std.proofs.Common.{◌≡◌, refl, sym, ap, subst}
+use Rattle.std.proofs.Common.{refl, sym, ap, subst}
 use Rattle.std.specs.Prelude.{IsTrue}
 use Rattle.chain_commands.specs.Event.{Ask}
-use Rattle.chain_commands.specs.RunState.{RunState, chain_of}
+use Rattle.chain_commands.specs.RunState.{chain_of}
 use Rattle.name_store.specs.Stored.{IsOn}
 use Rattle.bridge_core.specs.Views.{carrier_of}
 use Rattle.bridge_core.proofs.AnsweringLemmas.{asked_answers}

@@ -1,4 +1,4 @@
-use Rattle.std.proofs.Common.{◌≡◌, refl, subst}
+use Rattle.std.proofs.Common.{refl, subst}
 use Rattle.chain_commands.specs.Event.{Save}
 use Rattle.chain_commands.proofs.SavingLemmas.{save_leaves_chain}
 use Rattle.name_lister.specs.Answers.{AnswersList}
