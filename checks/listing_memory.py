@@ -1,7 +1,8 @@
 """Listing sessions where memory is wanting: with each call for memory of a run failing in turn, and with less and less of it.
 
 A frame that finds none is answered so and did nothing; a run that finds none for its start ends with status 8. A page and the closing
-of a session want none. Behind a connect whose rows found none no session is opened any more, while those that are open go on.
+of a session want none. Behind a connect or a disconnect whose rows found none no session is opened any more, while those that are
+open go on.
 """
 from answer_cases import Frames as Written
 from common import Run, pieces, run_in
@@ -55,7 +56,7 @@ def may_come(files, size, frames):
     for at, item in enumerate(frames):
         if item[:1] not in (PAGE, CLOSING):
             found[f"frame {at}"] = came_of(files, size, frames, wanting=at)
-        if item[:1] == CONNECT:
+        if item[:1] in (CONNECT, DISCONNECT):
             found[f"no map behind {at}"] = came_of(files, size, frames, without_map=at)
     return found
 
@@ -96,11 +97,11 @@ def failing_calls(tally):
     frames, end = [*blocks, *sessions, *again], len(blocks)
     # The block that opens the names, the one that updates the first, its disconnect, and the same block again.
     needed = [f"frame {at}" for at in (0, end - 1, end + 2, end + 6, end + 14)]
-    needed += [f"no map behind {at}" for at in (end - 1, end + 2, end + 14)]
+    needed += [f"no map behind {at}" for at in (end - 1, end + 2, end + 6, end + 14)]
     with failing_heap() as heap:
         files = listed(tally, heap, "sessions over new files", texts_of(made(INIT)), 1, frames, ["the start", *needed])
         above = [OPEN, back(last), page(0), OPEN, *[OPEN] * MOST_SESSIONS, last, page(1), OPEN, close(4), OPEN, page(4)]
-        needed = ["the start", "frame 1", f"frame {4 + MOST_SESSIONS}", f"no map behind {4 + MOST_SESSIONS}"]
+        needed = ["the start", *(f"{what} {at}" for what in ("frame", "no map behind") for at in (1, 4 + MOST_SESSIONS))]
         listed(tally, heap, "sessions over saved files", files, 2, above, needed)
         store = made(INIT)
         for item in blocks:
