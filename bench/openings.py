@@ -37,6 +37,11 @@ def processor_of(process):
     return sum(map(int, fields[11:13])) / os.sysconf("SC_CLK_TCK")
 
 
+def worked_of(process):
+    """The same by the system's scheduler, to the nanosecond."""
+    return int(pathlib.Path(f"/proc/{process}/schedstat").read_text().split()[0]) / 1e9
+
+
 class Opened:
     """A program that has opened something, and told so."""
 
