@@ -53,6 +53,13 @@ def files_of(folder):
     return [path.read_bytes() if path.is_file() else None for path in paths]
 
 
+def write_files(folder, files):
+    """Makes the files in a folder, of these bytes each; None makes no file."""
+    for name, text in zip(FILES, files):
+        if text is not None:
+            (folder / name).write_bytes(text)
+
+
 def gates_of(files):
     """The places of the first gates in the three files: behind the header, and behind the images."""
     header, *areas = files

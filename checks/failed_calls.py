@@ -7,7 +7,7 @@ from common import Run, made_folder, reply
 from answers_model import failure_to
 from blocks import QUERY
 from failing_heap import each_call
-from stores import FILES, empty_folder
+from stores import empty_folder, write_files
 
 NO_MEMORY = reply(0xFE)
 OUT_OF_MEMORY = Run(b"", 8, "out of memory")
@@ -35,8 +35,7 @@ def folder_of(files):
             yield folder
         return
     with empty_folder() as folder:
-        for name, text in zip(FILES, files):
-            (folder / name).write_bytes(text)
+        write_files(folder, files)
         yield folder
 
 

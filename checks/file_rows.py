@@ -11,7 +11,7 @@ import typing
 from common import BAD_WORDS, DATA, Run, bytes_of, empty_folder, rows, run_in
 from files_model import run_of
 
-from stores import FILES, files_of, gates_of, records_of
+from stores import files_of, gates_of, records_of, write_files
 
 REPORT = "dump"
 
@@ -69,8 +69,7 @@ def compare_program(tally, table):
             if row.is_folder:
                 stack.close()
                 folder = stack.enter_context(empty_folder())
-                for name, text in zip(FILES, row.files):
-                    (folder / name).write_bytes(text)
+                write_files(folder, row.files)
                 continue
             before = files_of(folder)
             tally.same(f"{table}, row {row.number}", run_in(folder, row.words.split(" "), row.given), row.wanted)

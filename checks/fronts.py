@@ -3,7 +3,7 @@ import typing
 
 from files_model import Store, made
 
-from stores import FILES, INIT, what_counts
+from stores import INIT, what_counts
 
 
 class Front(typing.NamedTuple):
@@ -29,8 +29,3 @@ def fronts_of(frames, files=None):
 
 def replies_of(fronts):
     return b"".join(it.reply for it in fronts)
-
-
-def written(folder, files):
-    for name, text in zip(FILES, files):
-        (folder / name).write_bytes(text)

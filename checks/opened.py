@@ -6,7 +6,7 @@ from concurrent.futures import ThreadPoolExecutor
 from common import empty_folder, run_in
 from files_model import run_of
 
-from stores import FILES, files_of
+from stores import files_of, write_files
 
 AT_ONCE = len(os.sched_getaffinity(0))
 DUMP, REPLAY = ["dump"], ["replay"]
@@ -24,9 +24,7 @@ class Row(typing.NamedTuple):
 def opened(row):
     """What the program says, and the files behind it."""
     with empty_folder() as folder:
-        for name, text in zip(FILES, row.files):
-            if text is not None:
-                (folder / name).write_bytes(text)
+        write_files(folder, row.files)
         return run_in(folder, row.words, row.given), files_of(folder)
 
 

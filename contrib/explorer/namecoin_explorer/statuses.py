@@ -1,19 +1,12 @@
 """How the program ends."""
 import enum
 
+from namecoin_feeder.troubles import Status as FeederStatus
+
 INTERRUPTED = 130
 
-
-class Status(enum.IntEnum):
-    """The exit statuses. 1 is left to Python; 2 to 6 are the feeder's too."""
-
-    DONE = 0
-    WORDS = 2
-    REFUSED = 3
-    OTHER_CHAIN = 4
-    NODE = 5
-    SERVER = 6
-    PROGRAM = 7
+# The exit statuses: the feeder's, and that of a program that has ended.
+Status = enum.IntEnum("Status", [*((it.name, it.value) for it in FeederStatus), ("PROGRAM", 7)])
 
 
 class Over(Exception):

@@ -18,10 +18,12 @@ import unittest
 
 from . import EXPLORER, FEEDER
 from .fed import Chains, FakeNode, first_out, name_of
-from .model_program import FAULT, Listed, initialised
+from .model_program import FAULT, initialised
 from blocks import FIRST, NEW, name_script, named, outpoint
 from common import HERE, free_port
 from digests import hash160
+from listings_model import rows_of
+from model import Model
 from stores import PROGRAM
 
 SECONDS, MEMORY, MATURITY = 30, "/dev/shm", 12
@@ -210,11 +212,11 @@ class Case(unittest.TestCase):
 
     def names_at(self, tip):
         """The rows of the names of a chain."""
-        model = Listed(self.chains.first)
+        model = Model(0, hash=self.chains.first)
         for hash in self.chains.path(tip):
             model.connect(self.chains.blocks[hash].data)
         self.assertEqual(model.tip, tip)
-        return list(model.names())
+        return rows_of(model)
 
     def has_names(self, names, more=0):
         """The node has a chain with these names, and so many blocks behind. Its tip's height."""

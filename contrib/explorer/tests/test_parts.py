@@ -47,6 +47,15 @@ class Asking(unittest.TestCase):
         self.addCleanup(lambda: self.assertEqual((asker.end(10), faults), (True, [])))
         return asker
 
+    def asks_behind_a_block(self, asker):
+        """Begins to ask once the follower waits with a block; until that is asked."""
+        thread = threading.Thread(target=lambda: asker.ask_for_follower(BLOCK))
+        thread.start()
+        while asker.frame is None:
+            time.sleep(0.001)
+        asker.start()
+        thread.join()
+
     def test_one_block_between(self):
         """Jobs that wait when a block is asked are all done before the next; those of one user a few at a time."""
         program = Slow(0.02)
@@ -83,12 +92,7 @@ class Asking(unittest.TestCase):
         program = Slow()
         asker = self.asker(program)
         asker.add(Job(1, lambda: asker.ask(b"\x03"), lambda _: None))
-        thread = threading.Thread(target=lambda: asker.ask_for_follower(BLOCK))
-        thread.start()
-        while asker.frame is None:
-            time.sleep(0.001)
-        asker.start()
-        thread.join()
+        self.asks_behind_a_block(asker)
         self.assertEqual(program.frames, [b"\x03", BLOCK])
 
     def test_what_waits_is_bounded(self):
@@ -114,12 +118,7 @@ class Asking(unittest.TestCase):
         dropped = Job(2, lambda: order.append("dropped"), lambda _: None)
         dropped.is_dropped = True
         asker.add(dropped)
-        thread = threading.Thread(target=lambda: asker.ask_for_follower(BLOCK))
-        thread.start()
-        while asker.frame is None:
-            time.sleep(0.001)
-        asker.start()
-        thread.join()
+        self.asks_behind_a_block(asker)
         while len([it for it in order if isinstance(it, int)]) < 20:
             time.sleep(0.001)
         self.assertEqual(order[: SHARE + 1], [*range(SHARE), "another"])

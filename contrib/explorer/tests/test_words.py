@@ -12,6 +12,7 @@ from namecoin_explorer import __version__, front, listings
 from namecoin_explorer.command_line import main, words
 from namecoin_explorer.statuses import INTERRUPTED, Status
 from pip_installed import version_told
+from told_words import same_words
 
 PAGE = (EXPLORER / "README.md").read_text()
 
@@ -33,10 +34,7 @@ class Words(unittest.TestCase):
     def test_page(self):
         """The page has all words, statuses and limits, and no other."""
         told = words().format_help()
-        self.assertEqual(set(re.findall(r"--[a-z][a-z-]+", PAGE)), set(re.findall(r"--[a-z][a-z-]+", told)))
-        statuses = set(map(int, re.findall(r"^  (\d+) ", told, re.MULTILINE)))
-        self.assertEqual(statuses, {*map(int, Status), INTERRUPTED})
-        self.assertEqual(set(map(int, re.findall(r"^\| (\d+) \|", PAGE, re.MULTILINE))), statuses)
+        same_words(self, PAGE, told, [*Status, INTERRUPTED])
         for limit in (front.MOST_LINES, f"{front.MOST_HEAD:,}", front.MOST_HEADERS, f"{front.MOST_TARGET:,}", f"{listings.MOST_PAGE_BYTES:,}"):
             self.assertIn(f"{limit} ", PAGE)
         self.assertIn(f"**{listings.MOST_KEPT} pages**", PAGE)

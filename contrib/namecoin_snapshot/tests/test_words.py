@@ -15,6 +15,7 @@ from namecoin_snapshot.profiles import PROFILES
 from namecoin_snapshot.progress import Progress
 from namecoin_snapshot.statuses import INTERRUPTED
 from pip_installed import version_told
+from told_words import same_words
 
 PAGE = (SNAPSHOT / "README.md").read_text()
 
@@ -75,11 +76,7 @@ class Words(Case):
 
     def test_page(self):
         """The page has all words and statuses, and no other; and each profile's node and cookie."""
-        told = words().format_help()
-        self.assertEqual(set(re.findall(r"--[a-z][a-z-]+", PAGE)), set(re.findall(r"--[a-z][a-z-]+", told)))
-        statuses = set(map(int, re.findall(r"^  (\d+) ", told, re.MULTILINE)))
-        self.assertEqual(statuses, {*map(int, Status), INTERRUPTED})
-        self.assertEqual(set(map(int, re.findall(r"^\| (\d+) \|", PAGE, re.MULTILINE))), statuses)
+        same_words(self, PAGE, words().format_help(), [*Status, INTERRUPTED])
         for profile in PROFILES.values():
             self.assertTrue(profile.node in PAGE and profile.cookie in PAGE)
 
