@@ -9,6 +9,7 @@ use Rattle.undo_records.specs.declared.version.Version.TheVariants.{Two}
 use Rattle.image_grammar.specs.Text.{IsStateText}
 use Rattle.feed_frames.specs.Replies.{Reply}
 use Rattle.chain_commands.specs.Chain.{Chain}
+use Rattle.chain_commands.specs.Event.{Command}
 use Rattle.chain_commands.specs.RunState.{RunState, chain_of, saved_chain}
 use Rattle.chain_commands.specs.Refusals.{Refusals, Answers}
 
@@ -69,6 +70,18 @@ saved_by run text = record {
   start = run.start;
   saved = run.since ++ run.saved;
   since = [];
+  selections = run.selections + 1;
+  text = text;
+}
+
+-- The commands but for the newest ones are saved, by this text, and those are kept behind it.
+abbrev pub saved_before : RunState → (newer older : List Command) → List ℕ → RunState
+saved_before run newer older text = record {
+  base = run.base;
+  host = run.host;
+  start = run.start;
+  saved = older ++ run.saved;
+  since = newer;
   selections = run.selections + 1;
   text = text;
 }

@@ -15,7 +15,7 @@ pub const LONGEST_MESSAGE: usize = 65_535;
 pub const LONGEST_PAYLOAD: usize = LONGEST_BLOCK;
 
 /// The kinds of frames, by their numbers from 1 on. Who reads frames reads those up to a number; a kind more is one row more.
-pub const KINDS: [Kind; 7] = [
+pub const KINDS: [Kind; 9] = [
     // a block that is to join the chain
     Kind {
         byte: 1,
@@ -55,6 +55,18 @@ pub const KINDS: [Kind; 7] = [
     // the number of a listing, which is to be closed
     Kind {
         byte: 7,
+        least: 4,
+        greatest: 4,
+    },
+    // a save in slices is to begin
+    Kind {
+        byte: 8,
+        least: 0,
+        greatest: 0,
+    },
+    // how many bytes the next slice of that save may have
+    Kind {
+        byte: 9,
         least: 4,
         greatest: 4,
     },
