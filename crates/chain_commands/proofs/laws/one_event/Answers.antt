@@ -18,7 +18,9 @@ some_event frame (low, inr (inr (inr (inl h)))) = (Save, framed_save frame h.of_
 some_event frame (low, inr (inr (inr (inr (inl h))))) = absurd (omega (arith, low, h.of_kind))
 some_event frame (low, inr (inr (inr (inr (inr (inl h)))))) = absurd (omega (arith, low, h.of_kind))
 some_event frame (low, inr (inr (inr (inr (inr (inr (inl h))))))) = absurd (omega (arith, low, h.of_kind))
-some_event frame (low, inr (inr (inr (inr (inr (inr (inr h))))))) = absurd h
+some_event frame (low, inr (inr (inr (inr (inr (inr (inr (inl h)))))))) = absurd (omega (arith, low, h.of_kind))
+some_event frame (low, inr (inr (inr (inr (inr (inr (inr (inr (inl h))))))))) = absurd (omega (arith, low, h.of_kind))
+some_event frame (low, inr (inr (inr (inr (inr (inr (inr (inr (inr h))))))))) = absurd h
 
 payload_of : (a b : Frame) → a ≡ b → a.payload ≡ b.payload
 payload_of a b e = ap (λ (f : Frame). f.payload) e
