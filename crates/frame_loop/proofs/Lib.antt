@@ -2,4 +2,4 @@ pub mod DeliveryLemmas
 pub mod DeskLemmas
 pub mod StreamLemmas
 pub mod DeterminedLemmas
-mod FillingLemmas
+pub mod FillingLemmas
