@@ -90,7 +90,7 @@ impl<K: Ord + Drop, V: Drop> SharedMap<K, V> {
     {
         match search(&self.pairs, key) {
             Ok(at) => {
-                self.pairs = self.pairs.removed(alloc, at)?;
+                self.pairs.remove(alloc, at)?;
                 Ok(true)
             }
             Err(_) => Ok(false),

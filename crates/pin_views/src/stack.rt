@@ -50,6 +50,13 @@ impl<T> SharedStack<T> {
         true
     }
 
+    /// The number of items.
+    pub fn len(&self) -> usize
+        ensures { result ≡ length self.now }
+    {
+        self.count
+    }
+
     /// The i-th item, counted from 0, the one at the top last, or None exactly past the end.
     pub fn at(&self, i: usize) -> Option<&T>
         ensures { option_copied result ≡ slice_get self.now i }

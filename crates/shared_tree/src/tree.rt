@@ -386,16 +386,116 @@ impl<T: Drop> Tree<T> {
         ensures err { OnErr result (self.new ≡ self.old) }
     {
         let tree = self.inserted(alloc, i, item.clone()?)?;
-        if tree.height() != self.height() {
-            return Ok(false);
-        }
-        *self = tree;
-        Ok(true)
+        Ok(self.become_level(tree))
     }
 
-    /// The list without the i-th item. It shares the nodes with this one that aren't on the way to the item.
+    // The other list in this one's place, where it is as high; else nothing changes.
+    fn become_level(&mut self, tree: Tree<T>) -> bool
+        ensures done { result ≡ true → (self.new ≡ tree) × (tree.height ≡ self.old.height) }
+        ensures same { result ≡ false → self.new ≡ self.old }
+    {
+        if tree.height() != self.height() {
+            return false;
+        }
+        *self = tree;
+        true
+    }
+
+    /// Takes the i-th item out: in place where no node is shared and no height changes, and by new nodes elsewhere. Where memory
+    /// runs out, nothing changes.
+    pub fn remove(&mut self, alloc: Global, i: usize) -> Result<(), NoMemory>
+        requires { i < length self.old.items }
+        ensures ok { OnOk result (self.new.items ≡ remove self.old.items i) }
+        ensures err { OnErr result (self.new ≡ self.old) }
+    {
+        let depth = self.depth_at_balance(i);
+        let done = self.remove_below(alloc, depth, i)?;
+        if done {
+            return Ok(());
+        }
+        let tree = self.removed(alloc, i)?;
+        *self = tree;
+        Ok(())
+    }
+
+    // How deep the last node stands on the way to the item whose sides are equally high: above it no height changes.
+    fn depth_at_balance(&self, i: usize) -> usize {
+        let mut tree = self;
+        let mut i = i;
+        let mut depth = 0usize;
+        let mut rest = 0usize;
+        while let Some(node) = &tree.root {
+            let node = node.as_ref();
+            if node.left.height() == node.right.height() {
+                rest = depth;
+            }
+            if i == node.before {
+                return rest;
+            }
+            depth = depth.saturating_add(1);
+            if i < node.before {
+                tree = &node.left;
+            } else {
+                i = i.saturating_sub(node.before).saturating_sub(1);
+                tree = &node.right;
+            }
+        }
+        rest
+    }
+
+    // Takes the item out, in place down to that depth and by new nodes below it, if the height stays; else nothing changes.
+    #[tactic(auto, using(crate::proofs::Middle::remove_left, crate::proofs::Middle::remove_right, crate::proofs::Heights::fewest_level))]
+    fn remove_below(&mut self, alloc: Global, depth: usize, i: usize) -> Result<bool, NoMemory>
+        requires { i < length self.old.items }
+        ensures done { IfOk result (λ done. done ≡ true → Keeps self.old self.new (remove self.old.items i)) }
+        ensures same { IfOk result (λ done. done ≡ false → self.new ≡ self.old) }
+        ensures err { OnErr result (self.new ≡ self.old) }
+    {
+        if depth > 0 {
+            if let Some(node) = &mut self.root {
+                if let Some(node) = Rc::get_mut(node) {
+                    let before = node.before;
+                    let size = node.size;
+                    if i < before {
+                        if node.left.remove_below(alloc, depth - 1, i)? {
+                            // Both sides say that they have enough items.
+                            let _sides = (node.left.len(), node.right.len());
+                            node.before = before - 1;
+                            node.size = size - 1;
+                            return Ok(true);
+                        }
+                        return Ok(false);
+                    }
+                    // No way that ends here is as deep.
+                    if i == before {
+                        return Ok(false);
+                    }
+                    if node.right.remove_below(alloc, depth - 1, i - before - 1)? {
+                        let _sides = (node.left.len(), node.right.len());
+                        node.size = size - 1;
+                        return Ok(true);
+                    }
+                    return Ok(false);
+                }
+            }
+        }
+        self.remove_anew(alloc, i)
+    }
+
+    // The same by new nodes alone.
+    fn remove_anew(&mut self, alloc: Global, i: usize) -> Result<bool, NoMemory>
+        requires { i < length self.old.items }
+        ensures done { IfOk result (λ done. done ≡ true → Keeps self.old self.new (remove self.old.items i)) }
+        ensures same { IfOk result (λ done. done ≡ false → self.new ≡ self.old) }
+        ensures err { OnErr result (self.new ≡ self.old) }
+    {
+        let tree = self.removed(alloc, i)?;
+        Ok(self.become_level(tree))
+    }
+
+    // The list without the i-th item. It shares the nodes with this one that aren't on the way to the item.
     #[tactic(auto, using(crate::proofs::Middle::remove_left, crate::proofs::Middle::remove_middle, crate::proofs::Middle::remove_right))]
-    pub fn removed(&self, alloc: Global, i: usize) -> Result<Tree<T>, NoMemory>
+    fn removed(&self, alloc: Global, i: usize) -> Result<Tree<T>, NoMemory>
         requires { i < length self.now.items }
         ensures { IfOk result (λ t. Shrinks self.now t (remove self.now.items i)) }
     {
