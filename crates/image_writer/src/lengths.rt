@@ -17,14 +17,16 @@ use chain_names::{Change, Coin, HeldCoin, Item, KeptOp, OpParts, Undo};
 use nmc_base::{Boxed, OutPoint};
 use undo_records::widths::{read_coin, read_item, read_point};
 
-fn add_name(total: u64, name: &[u8]) -> u64
+/// A name behind its length.
+pub fn add_name(total: u64, name: &[u8]) -> u64
     ensures { result ≡ capped (total + length (name_text name.now)) }
 {
     total.saturating_add(1).saturating_add(name.len() as u64)
 }
 
+/// An item.
 #[tactic(auto, using(crate::proofs::LengthLemmas::item_length))]
-fn add_item(total: u64, item: &Item) -> u64
+pub fn add_item(total: u64, item: &Item) -> u64
     ensures { result ≡ capped (total + length (item_text Two item.now)) }
 {
     read_item(item);
@@ -32,8 +34,9 @@ fn add_item(total: u64, item: &Item) -> u64
     total.saturating_add(46).saturating_add(value.len() as u64)
 }
 
+/// A coin behind its outpoint.
 #[tactic(auto, using(crate::proofs::LengthLemmas::new_length, crate::proofs::LengthLemmas::named_length))]
-pub(crate) fn add_held(total: u64, at: OutPoint, coin: &Coin) -> u64
+pub fn add_held(total: u64, at: OutPoint, coin: &Coin) -> u64
     ensures { let held : HeldCoin = record { at = at; coin = coin.now } in result ≡ capped (total + length (held_text held)) }
 {
     read_coin(at, coin);
@@ -101,8 +104,9 @@ fn add_expired(total: u64, expired: &[HeldCoin]) -> u64
     sum
 }
 
+/// A record.
 #[tactic(auto, using(crate::proofs::LengthLemmas::undo_length))]
-fn add_undo(total: u64, undo: &Undo) -> u64
+pub fn add_undo(total: u64, undo: &Undo) -> u64
     ensures { result ≡ capped (total + length (undo_text Two (seen_undo undo.now))) }
 {
     read_hash(undo.block);
@@ -135,6 +139,7 @@ fn add_items(total: u64, items: &[Item]) -> u64
     sum
 }
 
+/// A name with its items.
 #[tactic(auto, using(crate::proofs::LengthLemmas::history_length))]
 pub(crate) fn add_history(total: u64, name: &[u8], items: &[Item]) -> u64
     ensures { let history : History = record { name = name.now; items = items.now } in result ≡ capped (total + length (history_text Two history)) }

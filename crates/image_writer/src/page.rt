@@ -4,11 +4,11 @@ ghost use Rattle.image_writer.specs.declared.page.TheConstants.{PAGE};
 use std::marker::Model;
 
 /// No value of an image is longer: an update has 1,660 bytes at most, with the coin of a name, a name and the item before.
-pub(crate) const PAGE: usize = 2048;
+pub const PAGE: usize = 2048;
 
 /// The bytes of one value. Contracts see them.
 #[derive(Drop)]
-pub(crate) struct Page {
+pub struct Page {
     bytes: [u8; PAGE],
     len: usize,
 }
@@ -26,7 +26,7 @@ impl Model for Page {
 
 impl Page {
     /// No bytes.
-    pub(crate) fn new() -> Page
+    pub fn new() -> Page
         ensures { result ≡ [] }
     {
         Page {
@@ -36,14 +36,14 @@ impl Page {
     }
 
     /// Takes all bytes away.
-    pub(crate) fn clear(&mut self)
+    pub fn clear(&mut self)
         ensures { self.new ≡ [] }
     {
         self.len = 0;
     }
 
     /// Puts a piece behind the bytes.
-    pub(crate) fn put(&mut self, piece: &[u8])
+    pub fn put(&mut self, piece: &[u8])
         requires { length self.old + length piece.now ≤ PAGE }
         ensures { self.new ≡ self.old ++ piece.now }
     {
@@ -53,7 +53,7 @@ impl Page {
     }
 
     /// The bytes.
-    pub(crate) fn as_slice(&self) -> &[u8]
+    pub fn as_slice(&self) -> &[u8]
         ensures { result.now ≡ self.now }
     {
         &self.bytes[..self.len]

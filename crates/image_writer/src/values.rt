@@ -34,7 +34,7 @@ pub(crate) fn put_u32(page: &mut Page, number: u32)
 }
 
 /// The low four bytes of a count. The text of an image has no more of it.
-pub(crate) fn put_count(page: &mut Page, count: usize)
+pub fn put_count(page: &mut Page, count: usize)
     requires { length page.old + 4 ≤ PAGE }
     ensures text { page.new ≡ page.old ++ to_le_bytes w32 count }
     ensures grows { Grows 4 page.old page.new }
@@ -53,7 +53,7 @@ fn profile_number(profile: Profile) -> u8
 }
 
 /// What an image begins with: a mark, the version, and the base.
-pub(crate) fn put_head(page: &mut Page, base: &Base)
+pub fn put_head(page: &mut Page, base: &Base)
     requires { length page.old + 42 ≤ PAGE }
     ensures text { page.new ≡ page.old ++ head_text Two base.now }
     ensures grows { Grows 42 page.old page.new }
@@ -76,7 +76,7 @@ fn put_point(page: &mut Page, point: &OutPoint)
 }
 
 /// A name behind its length, which is one byte.
-pub(crate) fn put_name(page: &mut Page, name: &[u8])
+pub fn put_name(page: &mut Page, name: &[u8])
     requires name { IsWritableName name.now }
     requires room { length page.old + 256 ≤ PAGE }
     ensures text { page.new ≡ page.old ++ name_text name.now }
@@ -122,7 +122,7 @@ fn put_value(page: &mut Page, value: &[u8])
 
 /// An item of a history, with its registration height.
 #[tactic(auto, unfolding(undo_records::specs::Text::item_text))]
-pub(crate) fn put_item(page: &mut Page, item: &Item)
+pub fn put_item(page: &mut Page, item: &Item)
     requires value { length item.now.value ≤ LONGEST_VALUE }
     requires room { length page.old + 1069 ≤ PAGE }
     ensures text { page.new ≡ page.old ++ item_text Two item.now }
@@ -171,7 +171,7 @@ fn put_change(page: &mut Page, tag: u8, made: &OutPoint, change: &Change)
 
 /// What undoes a name operation, behind its tag.
 #[tactic(auto, unfolding(undo_records::specs::Text::op_text))]
-pub(crate) fn put_op(page: &mut Page, op: &KeptOp)
+pub fn put_op(page: &mut Page, op: &KeptOp)
     requires op { IsWithinLimitsOp op.now }
     requires room { length page.old + 1660 ≤ PAGE }
     ensures text { page.new ≡ page.old ++ op_text Two op.now }
@@ -189,7 +189,7 @@ pub(crate) fn put_op(page: &mut Page, op: &KeptOp)
 
 /// A coin behind its outpoint.
 #[tactic(auto, unfolding(undo_records::specs::Text::held_text))]
-pub(crate) fn put_held(page: &mut Page, at: &OutPoint, coin: &Coin)
+pub fn put_held(page: &mut Page, at: &OutPoint, coin: &Coin)
     requires name { HasShortName coin.now }
     requires room { length page.old + 297 ≤ PAGE }
     ensures text { let held : HeldCoin = record { at = at.now; coin = coin.now } in page.new ≡ page.old ++ held_text held }

@@ -12,7 +12,8 @@ use name_tables::Parts;
 use nmc_base::{Base, Hash32};
 use undo_records::widths::read_record;
 
-pub(crate) fn read_hash(hash: Hash32)
+/// The width of a hash.
+pub fn read_hash(hash: Hash32)
     ensures { length hash.0 ≡ 32 }
 {}
 

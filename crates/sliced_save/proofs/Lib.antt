@@ -1,0 +1,10 @@
+pub mod PairLemmas
+pub mod CoinLemmas
+pub mod UndoLemmas
+pub mod NameLemmas
+pub mod FillLemmas
+pub mod LoopLemmas
+pub mod ForthLemmas
+pub mod IndexMirror
+pub mod StateLemmas
+pub mod StageLemmas

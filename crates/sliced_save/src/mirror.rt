@@ -1,0 +1,220 @@
+ghost use Rattle.std.specs.Prelude.{◌≡◌, ℕ, ◌+◌, ◌<◌, ◌≤◌, List, length, IfOk, OnOk};
+ghost use Rattle.std.specs.Option.{option_map};
+ghost use Rattle.chain_names.specs.Limits.{IsWithinLimits};
+ghost use Rattle.chain_names.specs.Seen.{seen_undo};
+ghost use Rattle.chain_names.specs.Tables.{coins_in, names_in};
+ghost use Rattle.image_grammar.specs.Text.{image_text, IsStateText};
+ghost use Rattle.image_writer.specs.Whole.{IsReadAgain};
+ghost use Rattle.name_tables.specs.Parts.{newest_first};
+ghost use Rattle.name_tables.specs.Tables.{maps_by};
+ghost use Rattle.undo_records.specs.declared.version.Version.TheVariants.{Two};
+ghost use Rattle.chain_state.specs.Chain.{Indexed, IsIndexed};
+ghost use Rattle.sliced_save.specs.Changes.{AreShortCoins, AreFitNames};
+ghost use Rattle.sliced_save.specs.Kept.{IsKept};
+ghost use Rattle.sliced_save.specs.Mirror.{MirrorsIndex, MirrorsBefore, mirror_image};
+ghost use Rattle.sliced_save.specs.Steps.{IsForth, IsBack, newest_of};
+
+use crate::back::{put_back, undo_ops};
+use crate::coins::MirrorCoins;
+use crate::filling::{coins_of, names_of, undos_of};
+use crate::forth::{grow_ops, refresh_helds, refresh_ops};
+use crate::names::MirrorNames;
+use crate::slices::Slices;
+use crate::undos::MirrorUndos;
+use chain_names::Undo;
+use chain_state::Chain;
+use image_writer::widths::read_hash;
+use name_tables::Parts;
+use nmc_base::{Base, NoMemory, Steps};
+use std::alloc::Global;
+use std::marker::{Brand, Model};
+use std::sync::ledger::{Blank, Ledger};
+
+/// The whole index of a chain once more, over maps whose pins share their nodes: its base, its records, its coins, and its names with
+/// their items.
+///
+/// Contracts see all these as lists.
+#[derive(Drop)]
+pub struct Mirror {
+    pub(crate) base: Base,
+    pub(crate) undos: MirrorUndos,
+    pub(crate) coins: MirrorCoins,
+    pub(crate) names: MirrorNames,
+}
+
+impl Model for Mirror {
+    ghost use Rattle.sliced_save.specs.Mirror.{Mirrored};
+
+    ghost Value = { Mirrored };
+
+    ghost view = { λ m. record { base = m.base; undos = m.undos; coins = m.coins; names = m.names } };
+}
+
+/// The newest of these records, that of the oldest block standing first.
+fn newest(undos: &[Undo]) -> Option<&Undo>
+    ensures { option_map (λ u. seen_undo u.now) result ≡ newest_of (newest_first undos.now) }
+{
+    match undos.last() {
+        Some(undo) => Some(undo),
+        None => None,
+    }
+}
+
+impl Mirror {
+    /// The mirror of a chain's index. Each coin and each name of the tables is looked at once. It takes the memory of the index once
+    /// more, and that of the nodes of its maps. It is refused where memory runs out, and where the records, the coins or the names
+    /// alone have more than 2^62 bytes in an image.
+    pub fn of<L: Ledger>(
+        alloc: Global,
+        chain: &Chain,
+        steps: &mut Steps<L>,
+    ) -> Result<Mirror, NoMemory>
+        ensures mirror { IfOk result (MirrorsIndex chain.now) }
+        // Each coin and each name is a step.
+        ensures least { IfOk result (λ _. steps.old + (length chain.now.tables.coins + length chain.now.tables.names) ≤ steps.new) }
+        ensures cost { steps.new ≤ steps.old + (length chain.now.tables.coins + length chain.now.tables.names + 2) }
+    {
+        let parts = chain.parts();
+        let undos = undos_of(alloc, parts.undos.as_slice())?;
+        let coins = coins_of(alloc, &parts.coins, steps)?;
+        let names = names_of(alloc, &parts.names, steps)?;
+        Ok(Mirror {
+            base: *chain.base(),
+            undos,
+            coins,
+            names,
+        })
+    }
+
+    /// The chain's newest block has joined it: each outpoint that the block touched is looked up, and so is each name that it gave a
+    /// value, whose items of before stay where they are. Where it is refused, as `of` is, nothing is left of it.
+    pub fn connected(self, alloc: Global, chain: &Chain) -> Result<Mirror, NoMemory>
+        ensures { IfOk result (λ m. MirrorsBefore chain.now self → MirrorsIndex chain.now m) }
+    {
+        let mut mirror = self;
+        let parts = chain.parts();
+        match newest(parts.undos.as_slice()) {
+            None => Ok(mirror),
+            Some(undo) => {
+                mirror.bring_in::<Brand>(alloc, parts, undo, Blank::new(1))?;
+                Ok(mirror)
+            }
+        }
+    }
+
+    /// The mirror as it is once the chain's newest block has left it, by the block's record alone. This one stays as it is. It is
+    /// refused as `of` is.
+    pub fn disconnecting(&self, alloc: Global, chain: &Chain) -> Result<Mirror, NoMemory>
+        ensures { IfOk result (λ m. MirrorsIndex chain.now self.now → MirrorsBefore chain.now m) }
+    {
+        let mut mirror = self.pin()?;
+        match newest(chain.parts().undos.as_slice()) {
+            None => Ok(mirror),
+            Some(undo) => {
+                mirror.take_back(alloc, undo)?;
+                Ok(mirror)
+            }
+        }
+    }
+
+    /// An equal mirror, which stays as it is whatever becomes of this one. It takes no memory: it is refused only where a node can
+    /// count no further holder.
+    pub fn pin(&self) -> Result<Mirror, NoMemory>
+        ensures { IfOk result (λ m. m ≡ self.now) }
+    {
+        let undos = self.undos.pin()?;
+        let coins = self.coins.pin()?;
+        let names = self.names.pin()?;
+        let base = self.base;
+        Ok(Mirror {
+            base,
+            undos,
+            coins,
+            names,
+        })
+    }
+
+    /// How many bytes the image of what it mirrors has, in version 2. It takes no walk and no memory.
+    pub fn text_len(&self) -> u64
+        ensures length { result ≡ length (image_text Two (mirror_image self.now)) }
+        ensures state { (index : Indexed) (text : List ℕ) → MirrorsIndex index self.now → IsStateText Two index.base index.undos (maps_by index.tables) text → result ≡ length text }
+    {
+        self.keeps();
+        self.counted()
+    }
+
+    /// The bytes of all parts, and of what stands around them.
+    fn counted(&self) -> u64
+        ensures { result ≡ length (image_text Two (mirror_image self.now)) }
+    {
+        read_hash(self.base.hash);
+        // The head has 42 bytes, and each of the three counts has 4.
+        54 + self.undos.text_len() + self.coins.text_len() + self.names.text_len()
+    }
+
+    /// The text of its image, in version 2, as it is now: whatever becomes of this mirror, the text stays. It takes no memory: it is
+    /// refused only where a node can count no further holder.
+    pub fn begin(&self) -> Result<Slices, NoMemory>
+        ensures given { IfOk result (λ s. s.given ≡ 0) }
+        ensures whole { IfOk result (λ s. s.text ≡ image_text Two (mirror_image self.now)) }
+        ensures text { IfOk result (λ s. (index : Indexed) → MirrorsIndex index self.now → IsStateText Two index.base index.undos (maps_by index.tables) s.text) }
+        // A text that isn't too long is read again.
+        ensures again { IfOk result (λ s. (index : Indexed) → IsIndexed index → MirrorsIndex index self.now → IsReadAgain index.base index.undos (maps_by index.tables) s.text) }
+    {
+        self.keeps();
+        let mirror = self.pin()?;
+        Ok(Slices::of(mirror))
+    }
+
+    /// What is known of its parts.
+    fn keeps(&self)
+        ensures { IsKept self.now }
+    {
+        read_hash(self.base.hash);
+        self.undos.text_len();
+        self.coins.text_len();
+        self.names.text_len();
+    }
+
+    /// What the block of this record, the newest in the parts, does. Nobody reads the steps that it takes.
+    fn bring_in<L: Ledger>(
+        &mut self,
+        alloc: Global,
+        parts: &Parts,
+        undo: &Undo,
+        blank: Blank,
+    ) -> Result<(), NoMemory>
+        requires name { blank.name ≡ L.name }
+        requires parts { blank.parts ≡ L.parts }
+        requires some { 0 < blank.parts }
+        requires limits { IsWithinLimits (seen_undo undo.now) }
+        requires coins { AreShortCoins (coins_in parts.now.coins) }
+        requires names { AreFitNames (names_in parts.now.names) }
+        ensures { OnOk result (IsForth self.old parts.now.coins parts.now.names (seen_undo undo.now) self.new) }
+    {
+        let mut steps = Steps::<L>::new(blank);
+        let ops = undo.ops.as_slice();
+        refresh_ops(alloc, &mut self.coins, ops, &parts.coins, &mut steps)?;
+        refresh_helds(
+            alloc,
+            &mut self.coins,
+            undo.expired.as_slice(),
+            &parts.coins,
+            &mut steps,
+        )?;
+        grow_ops(alloc, &mut self.names, ops, &parts.names, &mut steps)?;
+        self.undos.push(alloc, undo)?;
+        Ok(())
+    }
+
+    /// What takes the block of this record back.
+    fn take_back(&mut self, alloc: Global, undo: &Undo) -> Result<(), NoMemory>
+        requires { IsWithinLimits (seen_undo undo.now) }
+        ensures { OnOk result (IsBack self.old (seen_undo undo.now) self.new) }
+    {
+        put_back(alloc, &mut self.coins, undo.expired.as_slice())?;
+        undo_ops(alloc, &mut self.coins, &mut self.names, undo.ops.as_slice())?;
+        self.undos.pop();
+        Ok(())
+    }
+}
