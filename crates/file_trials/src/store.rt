@@ -6,4 +6,5 @@ mod life;
 mod making;
 mod memory;
 mod saved_bytes;
+mod slices;
 mod stops;

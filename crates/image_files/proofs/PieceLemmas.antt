@@ -1,10 +1,15 @@
 -- What a piece leaves of a draft and of its text.
-use Rattle.std.proofs.Common.{◌≡◌, ℕ, List, [], ◌++◌, take, drop, refl, sym, ◌∙◌, ap, subst, append_assoc}
+use Rattle.std.proofs.Common.{◌≡◌, ℕ, List, [], ◌∷◌, ◌++◌, length, take, drop, Ok, Err, refl, sym, ◌∙◌, ap, subst, arith, append_assoc}
+use Rattle.std.specs.Prelude.{Result, OnOk}
+use Rattle.std.specs.Int.{w64, to_le_bytes}
 use Rattle.std.proofs.lemmas.List.{append-nil, take-append-drop}
 use Rattle.disk_model.specs.Moments.{Moments, EachMoment}
 use Rattle.disk_model.specs.Changes.{LeavesOthers}
 use Rattle.disk_model.proofs.MomentLemmas.{weaken, join, last_moment}
-use Rattle.image_slots.specs.Drafted.{Drafted, DraftHolds}
+use Rattle.disk_model.specs.FileState.{FileState}
+use Rattle.gate_journal.proofs.RecordLemmas.{none_fit}
+use Rattle.image_slots.specs.Drafted.{Drafted, DraftHolds, DraftHoldsArea}
+use Rattle.image_files.specs.Saving.{HasImage, HasArea}
 use Rattle.image_files.specs.Pieces.{IsDrafted}
 
 -- the pieces and this one more
@@ -20,6 +25,23 @@ written_on image old text file is count new after holds = record {
 pub all_written : (image : List ℕ) (draft : Drafted) (text file : List ℕ) → IsDrafted image draft text file → text ≡ [] → DraftHolds draft image file
 all_written image draft text file is none =
     subst (λ (l : List ℕ). DraftHolds draft l file) (sym (append-nil is.pieces) ∙ ap (λ (l : List ℕ). is.pieces ++ l) (sym none) ∙ is.whole) is.holds
+
+-- a draft whose pieces are an image, and all of it, is one without records
+pub image_area : (draft : Drafted) (image bytes : List ℕ) → DraftHolds draft image bytes → draft.written ≡ draft.image → DraftHoldsArea draft image [] bytes
+image_area draft image bytes holds all = record {
+  holds = subst (λ (l : List ℕ). DraftHolds draft l bytes) (sym (append-nil image)) holds;
+  size = omega (arith, all, holds.written);
+  fit = none_fit;
+}
+
+pub image_whole : {T E : Type 0} (result : Result T E) (draft : Drafted) (image : List ℕ) (file : FileState) → draft.image ≡ length image
+    → OnOk result (file.bytes ≡ (to_le_bytes w64 draft.image ++ image) ++ 0 ∷ []) → OnOk result (HasArea image [] file) → OnOk result (HasImage image file)
+image_whole (Ok value) draft image file size whole has = record {
+  settled = has.settled;
+  bytes = whole ∙ ap (λ (n : ℕ). (to_le_bytes w64 n ++ image) ++ 0 ∷ []) size;
+  area = has.area;
+}
+image_whole (Err fault) draft image file size whole has = tt
 
 -- no other file has changed in one call, and none in the next
 pub others_then : (file : ℕ) (old mid new : Moments) → EachMoment (LeavesOthers file old.now) old mid → EachMoment (LeavesOthers file mid.now) mid new → EachMoment (LeavesOthers file old.now) old new

@@ -1,11 +1,12 @@
 //! Writing an image to a draft, and drafting one in the area that is not selected.
-ghost use Rattle.std.specs.Prelude.{◌≡◌, ◌<◌, ◌≤◌, List, ℕ, [], length, IsTrue, OnOk, IfOk};
+ghost use Rattle.std.specs.Prelude.{◌≡◌, ◌<◌, ◌≤◌, List, ℕ, [], ◌∷◌, ◌++◌, length, IsTrue, OnOk, IfOk};
+ghost use Rattle.std.specs.Int.{w64, to_le_bytes};
 ghost use Rattle.disk_model.specs.Moments.{EachMoment};
 ghost use Rattle.disk_model.specs.Changes.{LeavesOthers};
 ghost use Rattle.disk_model.specs.DiskSeen.{Ends, bytes_in, file_in};
 ghost use Rattle.image_slots.specs.Selections.{drafted_by};
-ghost use Rattle.image_slots.specs.Drafted.{DraftHolds};
-ghost use Rattle.image_files.specs.Saving.{HasImage};
+ghost use Rattle.image_slots.specs.Drafted.{DraftHolds, DraftHoldsArea};
+ghost use Rattle.image_files.specs.Saving.{HasImage, HasArea};
 
 use crate::pieces::write_pieces;
 use disk_model::{Disk, Failed};
@@ -30,13 +31,15 @@ fn begin<D: Disk>(disk: &mut D, slots: &mut Slots, size: u64) -> Result<Draft, F
     }
 }
 
-/// Ends a draft that is whole.
-fn finish<D: Disk>(disk: &mut D, draft: Draft) -> Result<Ready, Failed>
-    requires all { draft.written ≡ draft.image }
-    requires holds { IsTrue D.tells → (image : List ℕ) × DraftHolds draft image (bytes_in (D.seen disk.old) draft.file) }
+/// Ends a draft, whose image is all there.
+pub fn finish<D: Disk>(disk: &mut D, draft: Draft) -> Result<Ready, Failed>
+    requires all { draft.image ≤ draft.written }
+    requires holds { IsTrue D.tells → (pieces : List ℕ) × DraftHolds draft pieces (bytes_in (D.seen disk.old) draft.file) }
     ensures ok { IfOk result (λ ready. ready ≡ draft.file) }
-    ensures holds { IsTrue D.tells → (image : List ℕ) → DraftHolds draft image (bytes_in (D.seen disk.old) draft.file)
-        → OnOk result (HasImage image (file_in (D.seen disk.new) draft.file)) }
+    ensures whole { IsTrue D.tells → (pieces : List ℕ) → DraftHolds draft pieces (bytes_in (D.seen disk.old) draft.file)
+        → OnOk result (bytes_in (D.seen disk.new) draft.file ≡ (to_le_bytes w64 draft.image ++ pieces) ++ 0 ∷ []) }
+    ensures area { IsTrue D.tells → (image : List ℕ) (records : List (List ℕ)) → DraftHoldsArea draft image records (bytes_in (D.seen disk.old) draft.file)
+        → OnOk result (HasArea image records (file_in (D.seen disk.new) draft.file)) }
     ensures others { IsTrue D.tells → EachMoment (LeavesOthers draft.file (D.seen disk.old).moments.now) (D.seen disk.old).moments (D.seen disk.new).moments }
     ensures ends { Ends (D.seen disk.old) (D.seen disk.new) result }
 {

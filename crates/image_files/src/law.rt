@@ -18,10 +18,10 @@ ghost use Rattle.image_files.specs.Indexes.{IsIndexBy, BeginsWith, HasBadImage};
 ghost use Rattle.image_files.specs.SavedTexts.{IsSavedText, IsIndexOfState};
 
 /// The law of saves. A crash at a moment of a save leaves the old selections and the old area that they select, or one selection more
-/// and the whole image in the area that it names.
+/// and in the area that it names the whole image and the records behind it.
 pub fn images_of_a_save()
-    ensures { (front : List ℕ) (slots : Slotted) (image : List ℕ) (old files : Files)
-        → AreOn front slots (old selections_file) → SavesAt front slots.count image old files → LeavesOldOrNew front slots.count image old files }
+    ensures { (front : List ℕ) (slots : Slotted) (image : List ℕ) (records : List (List ℕ)) (old files : Files)
+        → AreOn front slots (old selections_file) → SavesAt front slots.count image records old files → LeavesOldOrNew front slots.count image records old files }
 {}
 
 /// The law of damage: there is one place of it, and none where the area begins with an index of this base.

@@ -20,3 +20,4 @@ pub use making::make_image;
 pub use reading::read_image;
 pub use saved::{SaveFault, Saved};
 pub use saving::save_index;
+pub use writing::select_draft;

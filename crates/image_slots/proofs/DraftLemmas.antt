@@ -9,11 +9,10 @@ use Rattle.disk_model.specs.Changes.{Changes, LeavesOthers}
 use Rattle.disk_model.specs.DiskSeen.{DiskSeen}
 use Rattle.disk_model.proofs.MomentLemmas.{weaken, join, last_moment}
 use Rattle.gate_journal.specs.Gate.{ClosedAfter}
-use Rattle.gate_journal.specs.Records.{IsArea, image_front}
-use Rattle.gate_journal.proofs.RecordLemmas.{none_fit}
+use Rattle.gate_journal.specs.Records.{IsArea, image_front, records_text}
 use Rattle.gate_journal.proofs.AppendLemmas.{closed_front}
 use Rattle.image_slots.specs.Slotted.{Slotted}
-use Rattle.image_slots.specs.Drafted.{Drafted, DraftHolds}
+use Rattle.image_slots.specs.Drafted.{Drafted, DraftHolds, DraftHoldsArea}
 use Rattle.image_slots.specs.Answers.{RefusalAnswer}
 use Rattle.image_slots.specs.Calls.{Begins}
 use Rattle.image_slots.specs.declared.faults.DraftFault.{DraftFault}
@@ -47,17 +46,20 @@ module _ (draft : Drafted) (pieces bytes : List ℕ) (holds : DraftHolds draft p
     written = omega (arith, holds.written, length-append pieces piece);
   }
 
-  pub whole_is : (new : List ℕ) → draft.written ≡ draft.image → new ≡ put bytes (8 + draft.image) (0 ∷ []) → new ≡ image_front pieces ++ 0 ∷ []
-  whole_is new all wrote =
-      let size : draft.image ≡ length pieces = omega (arith, all, holds.written) in
-      wrote ∙ put_end bytes (0 ∷ []) (8 + draft.image) (omega (arith, end_is, all)) ∙ ap (λ (l : List ℕ). l ++ 0 ∷ []) (holds.bytes ∙ ap (λ (n : ℕ). to_le_bytes w64 n ++ pieces) size)
+  pub whole_is : (new : List ℕ) → new ≡ put bytes (8 + draft.written) (0 ∷ []) → new ≡ (to_le_bytes w64 draft.image ++ pieces) ++ 0 ∷ []
+  whole_is new wrote = wrote ∙ put_end bytes (0 ∷ []) (8 + draft.written) end_is ∙ ap (λ (l : List ℕ). l ++ 0 ∷ []) holds.bytes
 
--- an image and a closed gate are an area
-pub area_is : (pieces new : List ℕ) → new ≡ image_front pieces ++ 0 ∷ [] → IsArea pieces [] new
-area_is pieces new is = record {
-  closed = subst (λ (l : List ℕ). ClosedAfter l new) (sym (append-nil (image_front pieces))) (subst (ClosedAfter (image_front pieces)) (sym is) (closed_front (image_front pieces) [] 0 (omega arith)));
-  fit = none_fit;
-}
+-- an image, records and a closed gate are an area
+pub area_is : (draft : Drafted) (image : List ℕ) (records : List (List ℕ)) (bytes new : List ℕ) → DraftHoldsArea draft image records bytes
+    → new ≡ (to_le_bytes w64 draft.image ++ (image ++ records_text records)) ++ 0 ∷ [] → IsArea image records new
+area_is draft image records bytes new has is =
+    let text = image_front image ++ records_text records in
+    let same : to_le_bytes w64 draft.image ++ (image ++ records_text records) ≡ text =
+    ap (λ (n : ℕ). to_le_bytes w64 n ++ (image ++ records_text records)) has.size ∙ sym (append_assoc (to_le_bytes w64 (length image)) image (records_text records)) in
+    record {
+      closed = subst (ClosedAfter text) (sym (is ∙ ap (λ (l : List ℕ). l ++ 0 ∷ []) same)) (closed_front text [] 0 (omega arith));
+      fit = has.fit;
+    }
 
 -- where a limit is passed, nothing is done
 pub refused : (tells : Bool) (slots : Slotted) (image : ℕ) (disk : DiskSeen) (fault : DraftFault) (result : Result Drafted DraftFault) → RefusalAnswer slots.limits slots.count image fault

@@ -1,14 +1,15 @@
 -- What each call of slots and of a draft does, to these and to the disk.
 use Rattle.std.specs.Prelude.{◌≡◌, ℕ, ◌+◌, ◌≤◌, Bool, IsTrue, List, [], ◌∷◌, ◌++◌, length, take, Result, OnOk, OnErr, IfOk, IfErr, MatchResult}
+use Rattle.std.specs.Int.{w64, to_le_bytes}
 use Rattle.disk_model.specs.FileState.{IsFileImage, IsSettled}
 use Rattle.disk_model.specs.Moments.{EachMoment}
 use Rattle.disk_model.specs.Changes.{LeavesOthers, Unchanged}
 use Rattle.disk_model.specs.DiskSeen.{DiskSeen, Ends, EndsWith, file_in, bytes_in}
-use Rattle.gate_journal.specs.Records.{IsArea, image_front}
+use Rattle.gate_journal.specs.Records.{IsArea}
 use Rattle.gate_journal.specs.Stand.{Stand, IsReadable, gate_of}
 use Rattle.image_slots.specs.Selections.{HasSelections, drafted_by, selections_file}
 use Rattle.image_slots.specs.Slotted.{Slotted, AreOn, KeepsOrSelects, with_one_more}
-use Rattle.image_slots.specs.Drafted.{Drafted, DraftHolds}
+use Rattle.image_slots.specs.Drafted.{Drafted, DraftHolds, DraftHoldsArea}
 use Rattle.image_slots.specs.Answers.{FaultAnswer, SelectionAnswer, BeginAnswer}
 use Rattle.image_slots.specs.declared.limits.SlotLimits.{SlotLimits}
 use Rattle.image_slots.specs.declared.faults.SlotFault.{SlotFault}
@@ -53,7 +54,7 @@ pub record Begins (tells : Bool) (slots : Slotted) (image : ℕ) (old new : Disk
   pub others : IsTrue tells → EachMoment (LeavesOthers (drafted_by slots.count) old.moments.now) old.moments new.moments
   pub ends : EndsWith DiskFault old new result
 
--- A piece of the image was added to the draft's area.
+-- A piece of the image, or of what is behind it, was added to the draft's area.
 pub record AddsPiece {T : Type 0} (tells : Bool) (old new : Drafted) (piece : List ℕ) (before after : DiskSeen) (result : Result T DraftFault) : Type 0 where
   pub ok : OnOk result (new ≡ record old { written = old.written + length piece })
   pub err : OnErr result (new ≡ old)
@@ -62,12 +63,12 @@ pub record AddsPiece {T : Type 0} (tells : Bool) (old new : Drafted) (piece : Li
   pub alone : IfErr result (λ fault. fault ≡ DiskFault)
   pub ends : Ends before after result
 
--- A draft was finished: its area has the image and a closed gate, and a crash leaves them.
+-- A draft was finished: its area has the image, the records behind it and a closed gate, and a crash leaves them.
 pub record Finishes (tells : Bool) (draft : Drafted) (old new : DiskSeen) (result : Result ℕ DraftFault) : Type 0 where
   pub ok : IfOk result (λ ready. ready ≡ draft.file)
   pub settled : IsTrue tells → OnOk result (IsSettled (file_in new draft.file))
-  pub whole : IsTrue tells → (pieces : List ℕ) → DraftHolds draft pieces (bytes_in old draft.file) → OnOk result (bytes_in new draft.file ≡ image_front pieces ++ 0 ∷ [])
-  pub area : IsTrue tells → (pieces : List ℕ) → DraftHolds draft pieces (bytes_in old draft.file) → OnOk result (IsArea pieces [] (bytes_in new draft.file))
+  pub whole : IsTrue tells → (pieces : List ℕ) → DraftHolds draft pieces (bytes_in old draft.file) → OnOk result (bytes_in new draft.file ≡ (to_le_bytes w64 draft.image ++ pieces) ++ 0 ∷ [])
+  pub area : IsTrue tells → (image : List ℕ) (records : List (List ℕ)) → DraftHoldsArea draft image records (bytes_in old draft.file) → OnOk result (IsArea image records (bytes_in new draft.file))
   pub others : IsTrue tells → EachMoment (LeavesOthers draft.file old.moments.now) old.moments new.moments
   pub alone : IfErr result (λ fault. fault ≡ DiskFault)
   pub ends : Ends old new result

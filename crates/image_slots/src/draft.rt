@@ -3,7 +3,7 @@ ghost use Rattle.disk_model.specs.Moments.{EachMoment};
 ghost use Rattle.disk_model.specs.Changes.{LeavesOthers};
 ghost use Rattle.disk_model.specs.DiskSeen.{Ends, bytes_in};
 ghost use Rattle.image_slots.specs.Slotted.{farthest};
-ghost use Rattle.image_slots.specs.Drafted.{DraftHolds};
+ghost use Rattle.image_slots.specs.Drafted.{DraftHolds, longest_draft};
 ghost use Rattle.image_slots.specs.Calls.{AddsPiece, Finishes};
 
 use crate::faults::DraftFault;
@@ -16,7 +16,7 @@ const LENGTH_SIZE: u64 = 8;
 /// A closed gate.
 const CLOSED: u8 = 0;
 
-/// An image that is being written to the area that is not selected. Dropped, it leaves the old selection.
+/// An image that is being written to the area that is not selected, and the records behind it. Dropped, it leaves the old selection.
 ///
 /// After a fault of the disk, give it up.
 #[derive(Drop)]
@@ -29,13 +29,13 @@ pub struct Draft {
 impl Model for Draft {
     ghost use Rattle.std.specs.Prelude.{◌<◌, ◌≤◌};
     ghost use Rattle.image_slots.specs.Slotted.{farthest};
-    ghost use Rattle.image_slots.specs.Drafted.{Drafted};
+    ghost use Rattle.image_slots.specs.Drafted.{Drafted, longest_draft};
 
     ghost Value = { Drafted };
 
     ghost view = { λ d. record { file = d.file; image = d.image; written = d.written } };
 
-    ghost invariant = { λ d. (d.file < 3) × (d.image ≤ farthest) × (d.written ≤ d.image) };
+    ghost invariant = { λ d. (d.file < 3) × (d.image ≤ farthest) × (d.written ≤ longest_draft) };
 }
 
 /// A draft whose area is whole and settled. Contracts see the number of its file.
@@ -75,11 +75,9 @@ pub fn begin_draft<D: Disk>(disk: &mut D, file: u8, image: u64) -> Result<Draft,
 }
 
 impl Draft {
-    /// Adds the next piece of the image, which has room for it. Nothing else wrote the draft's area since its beginning.
-    ///
-    /// The one error is `DiskFault`. No file but the draft's area changes at any moment.
-    pub fn piece<D: Disk>(&mut self, disk: &mut D, bytes: &[u8]) -> Result<(), DraftFault>
-        requires room { self.old.written + length bytes.now ≤ self.old.image }
+    /// Writes bytes behind what was written.
+    fn add<D: Disk>(&mut self, disk: &mut D, bytes: &[u8]) -> Result<(), DraftFault>
+        requires room { 9 + (self.old.written + length bytes.now) ≤ longest_draft }
         requires holds { IsTrue D.tells → (pieces : List ℕ) × DraftHolds self.old pieces (bytes_in (D.seen disk.old) self.old.file) }
         ensures { AddsPiece D.tells self.old self.new bytes.now (D.seen disk.old) (D.seen disk.new) result }
     {
@@ -88,16 +86,57 @@ impl Draft {
         Ok(())
     }
 
-    /// Ends the image, whose pieces are all there: writes a closed gate behind it, and syncs the area. Nothing else wrote the area since
-    /// the draft's beginning.
+    /// Adds the next piece of the image, which has room for it. Nothing else wrote the draft's area since its beginning.
+    ///
+    /// The one error is `DiskFault`. No file but the draft's area changes at any moment.
+    pub fn piece<D: Disk>(&mut self, disk: &mut D, bytes: &[u8]) -> Result<(), DraftFault>
+        requires room { self.old.written + length bytes.now ≤ self.old.image }
+        requires holds { IsTrue D.tells → (pieces : List ℕ) × DraftHolds self.old pieces (bytes_in (D.seen disk.old) self.old.file) }
+        ensures { AddsPiece D.tells self.old self.new bytes.now (D.seen disk.old) (D.seen disk.new) result }
+    {
+        let _ = &self.image;
+        self.add(disk, bytes)
+    }
+
+    /// Adds bytes behind the image, whose pieces are all there: the next of the records that are to stand behind it. Nothing else wrote
+    /// the draft's area since its beginning.
+    ///
+    /// The one error is `DiskFault`. No file but the draft's area changes at any moment.
+    pub fn tail<D: Disk>(&mut self, disk: &mut D, bytes: &[u8]) -> Result<(), DraftFault>
+        requires all { self.old.image ≤ self.old.written }
+        requires room { 9 + (self.old.written + length bytes.now) ≤ longest_draft }
+        requires holds { IsTrue D.tells → (pieces : List ℕ) × DraftHolds self.old pieces (bytes_in (D.seen disk.old) self.old.file) }
+        ensures { AddsPiece D.tells self.old self.new bytes.now (D.seen disk.old) (D.seen disk.new) result }
+    {
+        self.add(disk, bytes)
+    }
+
+    /// How many bytes the image is to have.
+    pub fn image(&self) -> u64
+        ensures value { result ≡ self.now.image }
+        ensures short { result ≤ farthest }
+    {
+        self.image
+    }
+
+    /// How many bytes were written: those of the image, and then those behind it.
+    pub fn written(&self) -> u64
+        ensures value { result ≡ self.now.written }
+        ensures short { result ≤ longest_draft }
+    {
+        self.written
+    }
+
+    /// Ends the draft, whose image is all there: writes a closed gate behind what was written, and syncs the area. Nothing else wrote the
+    /// area since the draft's beginning.
     ///
     /// The one error is `DiskFault`. No file but the draft's area changes at any moment.
     pub fn finish<D: Disk>(self, disk: &mut D) -> Result<Ready, DraftFault>
-        requires all { self.written ≡ self.image }
+        requires all { self.image ≤ self.written }
         requires holds { IsTrue D.tells → (pieces : List ℕ) × DraftHolds self pieces (bytes_in (D.seen disk.old) self.file) }
         ensures { Finishes D.tells self (D.seen disk.old) (D.seen disk.new) result }
     {
-        disk.write_at(self.file, LENGTH_SIZE + self.image, &[CLOSED])?;
+        disk.write_at(self.file, LENGTH_SIZE + self.written, &[CLOSED])?;
         disk.sync(self.file)?;
         Ok(Ready { file: self.file })
     }

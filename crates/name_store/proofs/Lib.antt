@@ -12,4 +12,10 @@ pub mod SpellingLemmas
 pub mod RunLemmas
 pub mod DamageLaws
 pub mod FollowLaws
+pub mod TextLemmas
+pub mod RunDraftLemmas
+pub mod DraftingLemmas
+pub mod SliceStepLemmas
+pub mod SelectLemmas
 pub mod SaveLemmas
+pub mod SliceLemmas

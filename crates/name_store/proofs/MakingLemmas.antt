@@ -9,13 +9,13 @@ use Rattle.disk_model.specs.Changes.{Changes, Unchanged, LeavesOthers}
 use Rattle.disk_model.proofs.MomentLemmas.{weaken, join, last_moment}
 use Rattle.disk_model.proofs.ImageLemmas.{IsSettled-image}
 use Rattle.gate_journal.specs.Gate.{ClosedAfter}
+use Rattle.gate_journal.specs.Records.{IsArea, image_front}
 use Rattle.gate_journal.proofs.AppendLemmas.{closed_front}
 use Rattle.gate_journal.proofs.RecordLemmas.{none_fit}
 use Rattle.chain_commands.specs.RunState.{RunState}
 use Rattle.chain_commands.specs.Saving.{IsSavedText, of_start}
 use Rattle.chain_commands.specs.Saving.{none_yet as nothing_saved}
 use Rattle.image_slots.specs.Selections.{HasSelections}
-use Rattle.image_slots.proofs.DraftLemmas.{area_is}
 use Rattle.undo_records.specs.declared.version.Version.{Version}
 use Rattle.undo_records.specs.declared.version.Version.TheVariants.{Two}
 use Rattle.image_grammar.specs.Image.{Image}
@@ -84,6 +84,13 @@ module _ (run : RunState) (d0 d1 : Moments) (empty : IsEmpty (d0.now 0)) (looked
 
 no_selections : (front : List ℕ) (file : List ℕ) → ClosedAfter front file → HasSelections front 0 file
 no_selections front file closed = record { closed = subst (λ (l : List ℕ). ClosedAfter l file) (sym (append-nil front)) closed; fit = none_fit }
+
+-- an image and a closed gate are an area
+area_is : (text file : List ℕ) → file ≡ area_with text → IsArea text [] file
+area_is text file is = record {
+  closed = subst (λ (l : List ℕ). ClosedAfter l file) (sym (append-nil (image_front text))) (subst (ClosedAfter (image_front text)) (sym is) (closed_front (image_front text) [] 0 (omega arith)));
+  fit = none_fit;
+}
 
 module _ (base : Base) (host : List ℕ) (start : Log) (text : List ℕ) (state : IsRunState (begun_from base host start text)) where
   abbrev run : RunState

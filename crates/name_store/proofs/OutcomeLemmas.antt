@@ -1,11 +1,14 @@
 -- The outcomes of a command, of each kind.
-use Rattle.std.proofs.Common.{◌≡◌, ℕ, ◌+◌, ◌<◌, ◌≤◌, Bool, List, length, Ok, Err, refl, sym, ◌∙◌, ap, subst, arith}
+use Rattle.std.proofs.Common.{◌≡◌, ℕ, ◌+◌, ◌-◌, ◌<◌, ◌≤◌, Bool, List, [], ◌∷◌, ◌++◌, length, take, Ok, Err, refl, sym, ◌∙◌, ap, subst, arith, length-append}
 use Rattle.std.specs.Prelude.{IsTrue, Result}
 use Rattle.nmc_base.specs.declared.limits.TheConstants.{LONGEST_BLOCK}
 use Rattle.disk_model.specs.Moments.{Files, start}
 use Rattle.disk_model.specs.Changes.{LeavesOthers}
+use Rattle.gate_journal.specs.Gate.{record_text}
+use Rattle.gate_journal.specs.Records.{records_text, image_front}
+use Rattle.gate_journal.proofs.RecordLemmas.{front-push}
 use Rattle.image_slots.specs.Slotted.{Slotted}
-use Rattle.disk_model.specs.DiskSeen.{DiskSeen}
+use Rattle.disk_model.specs.DiskSeen.{DiskSeen, bytes_in}
 use Rattle.disk_model.specs.declared.disk.Failed.{Failed}
 use Rattle.chain_state.specs.Chain.{Indexed, SameIndex, StagedIndex, IsConnected, IsAbandoned}
 use Rattle.chain_state.specs.StageBack.{IsDisconnected}
@@ -174,3 +177,21 @@ module _ {T R : Type 0} (tells : Bool) (before after : DiskSeen) (old : Stored) 
     still_on = λ told. on_next tells told old before after (on told) record_is new.area kept new alike;
     others = kept.others;
   }
+
+-- ---- the bytes of the selected area behind a command that was kept
+
+-- the area's text and the record stand before the new gate
+pub adds_record : (tells : Bool) (told : IsTrue tells) (old : Stored) (before after : DiskSeen) (on : IsOn old before.moments.now) (record_is : List ℕ) (area : ℕ)
+    → Keeps tells (area_file old) old.area record_is before after (Ok area)
+    → take (area - 1) (bytes_in after (area_file old)) ≡ take (old.area - 1) (bytes_in before (area_file old)) ++ record_text record_is
+adds_record tells told old before after on record_is area kept =
+    let front = image_front on.image in
+    let text = front ++ records_text on.records in
+    let was = bytes_in before (area_file old) in
+    let now = bytes_in after (area_file old) in
+    let is = kept.added told on.image on.records on.holds in
+    let whole : front ++ records_text (on.records ++ record_is ∷ []) ≡ text ++ record_text record_is = front-push front on.records record_is in
+    let new_size : area - 1 ≡ length (front ++ records_text (on.records ++ record_is ∷ [])) =
+    omega (arith, kept.longer, on.holds.length_is, ap length whole, length-append text (record_text record_is)) in
+    let old_size : old.area - 1 ≡ length text = omega (arith, on.holds.length_is) in
+    ap (λ (n : ℕ). take n now) new_size ∙ is.closed.begins ∙ whole ∙ ap (λ (l : List ℕ). l ++ record_text record_is) (sym (ap (λ (n : ℕ). take n was) old_size ∙ on.holds.is_area.closed.begins))

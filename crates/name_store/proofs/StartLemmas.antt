@@ -32,7 +32,7 @@ use Rattle.name_store.specs.Starting.{IsStartIndex, start_index, HasCoin, IsStar
 use Rattle.name_store.specs.declared.faults.CreateFromFault.{CreateFromFault}
 use Rattle.name_store.specs.declared.faults.CreateFromFault.TheVariants.{DiskFault}
 use Rattle.command_areas.proofs.ReadingLemmas.{never_fell, failed_since}
-use Rattle.name_store.proofs.SaveLemmas.{text_of, read_again}
+use Rattle.name_store.proofs.TextLemmas.{text_of, read_again}
 
 -- ---- the coins of a start list
 

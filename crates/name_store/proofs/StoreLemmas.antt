@@ -63,14 +63,6 @@ done_is run command store tip stands same = record {
 }
 
 module _ (tells : Bool) (told : IsTrue tells) (old : Stored) (before after : DiskSeen) (on : IsOn old before.moments.now) where
-  -- ---- what a crash leaves of files that are settled
-
-  same_header : (image : Bytes) → IsImage before.moments.now image → image 0 ≡ bytes_in before 0
-  same_header image is = IsSettled-image (file_in before 0) (image 0) on.slots.settled (is 0 (omega arith))
-
-  same_area : (image : Bytes) → IsImage before.moments.now image → image (area_file old) ≡ bytes_in before (area_file old)
-  same_area image is = IsSettled-image (file_in before (area_file old)) (image (area_file old)) on.settled_area (is (area_file old) (area_low old))
-
   -- ---- of a run state that store and files stand for
 
   module _ (run : RunState) (s : StandsFor old run) (stands : Stands (bytes_in before) run) where
@@ -86,12 +78,17 @@ module _ (tells : Bool) (told : IsTrue tells) (old : Stored) (before after : Dis
         let holds = holds_commands run (bytes_in before (area_file old)) stands.is_state (at_store (bytes_in before) (IsArea run.text (records_of run.since)) stands.area) in
         record { is_area = holds.is_area; length_is = s.area ∙ holds.length_is }
 
-    pub stands_again : (image : Bytes) → IsImage before.moments.now image → Stands image run
-    stands_again image is = record {
-      selections = subst (HasSelections (header_text run.base run.host) run.selections) (sym (same_header image is)) stands.selections;
-      area = at_run image (IsArea run.text (records_of run.since)) (subst (IsArea run.text (records_of run.since)) (sym (same_area image is)) holds_run.is_area);
+    -- an image of its two files is enough
+    pub stands_left : (image : Bytes) → IsFileImage (file_in before 0) (image 0) → IsFileImage (file_in before (area_file old)) (image (area_file old)) → Stands image run
+    stands_left image header area = record {
+      selections = subst (HasSelections (header_text run.base run.host) run.selections) (sym (IsSettled-image (file_in before 0) (image 0) on.slots.settled header)) stands.selections;
+      area = at_run image (IsArea run.text (records_of run.since))
+          (subst (IsArea run.text (records_of run.since)) (sym (IsSettled-image (file_in before (area_file old)) (image (area_file old)) on.settled_area area)) holds_run.is_area);
       is_state = stands.is_state;
     }
+
+    pub stands_again : (image : Bytes) → IsImage before.moments.now image → Stands image run
+    stands_again image is = stands_left image (is 0 (omega arith)) (is (area_file old) (area_low old))
 
     -- nothing was done
     pub stands_still : (next : RunState) → EachMoment (EachStandsForEither run next) before.moments before.moments

@@ -15,3 +15,7 @@ pub mod ByIndex
 pub mod Connecting
 pub mod Disconnecting
 pub mod Saves
+pub mod Growing
+pub mod Drafting
+pub mod Slicing
+pub mod SliceSteps

@@ -1,6 +1,7 @@
 //! The store: an index of names whose commands and saves are kept in files that outlive a crash.
 #![tactic(auto)]
 
+mod drafting;
 mod faults;
 mod header;
 mod host;
@@ -13,14 +14,19 @@ mod making_header;
 mod making_steps;
 mod opening;
 mod saving;
+mod slice_steps;
+mod slicing;
 mod starting;
 mod starting_area;
 mod store;
 
+pub use drafting::{DraftOutcome, SlicedDraft};
 pub use faults::{CreateFault, CreateFromFault, OpenFault};
 pub use initialised::is_initialised;
-pub use law::{images_of_a_store, one_damage, one_kind_of_files};
+pub use law::{drafts_stay, images_of_a_store, one_damage, one_kind_of_files};
 pub use making::create;
 pub use saving::SaveRefusal;
+pub use slice_steps::LONGEST_SLICE;
+pub use slicing::SliceOutcome;
 pub use starting::create_from;
 pub use store::{Outcome, Store};

@@ -20,7 +20,7 @@ pub enum SaveRefusal {
 }
 
 /// Lets go of a store, in a place of its own: such a place is dear to prove.
-fn let_go(_store: Store) {}
+pub(crate) fn let_go(_store: Store) {}
 
 impl Store {
     /// Saves the index: writes its image to the area that isn't selected, syncs that and selects it. From then on the files need none

@@ -7,6 +7,7 @@ ghost use Rattle.name_store.specs.Stored.{IsOn, area_file};
 ghost use Rattle.index_commands.specs.Stages.{IsFullWith};
 ghost use Rattle.name_store.specs.ByIndex.{ConnectsOn, DisconnectsOn};
 ghost use Rattle.name_store.specs.Outcomes.{Adds, IfUndone, LeavesDisk, KeepsOn};
+ghost use Rattle.name_store.specs.Growing.{Grows, AddsRecord};
 ghost use Rattle.name_store.specs.declared.limits.TheConstants.{EMPTY_AREA, SLOT_LIMITS};
 ghost use Rattle.name_store.specs.Connecting as connecting;
 ghost use Rattle.name_store.specs.Disconnecting as disconnecting;
@@ -124,6 +125,8 @@ impl Store {
         ensures undone { IfUndone (disk.new ≡ disk.old) result }
         ensures leaves { LeavesDisk D.tells (LeavesOthers (area_file self)) (D.seen disk.old) (D.seen disk.new) result }
         ensures kept { KeepsOn D.tells self (Adds (Connect bytes.now)) (D.seen disk.old) (D.seen disk.new) result }
+        ensures grows { Grows (Connect bytes.now) self result }
+        ensures adds { IsTrue D.tells → AddsRecord (Connect bytes.now) self (D.seen disk.old) (D.seen disk.new) result }
         ensures cost { connecting.IsCheapIfDone bytes.now result steps.old steps.new }
     {
         let Store {
@@ -178,6 +181,8 @@ impl Store {
         ensures undone { IfUndone (disk.new ≡ disk.old) result }
         ensures leaves { LeavesDisk D.tells (LeavesOthers (area_file self)) (D.seen disk.old) (D.seen disk.new) result }
         ensures kept { KeepsOn D.tells self (Adds (Disconnect hash.0)) (D.seen disk.old) (D.seen disk.new) result }
+        ensures grows { Grows (Disconnect hash.0) self result }
+        ensures adds { IsTrue D.tells → AddsRecord (Disconnect hash.0) self (D.seen disk.old) (D.seen disk.new) result }
         ensures cost { disconnecting.IsCheapIfDone self.index result steps.old steps.new }
     {
         let Store {

@@ -17,7 +17,7 @@ use std::process::Abort;
 use std::test::Fail;
 
 /// Whether the file has these bytes, and no more.
-fn has<D: Disk>(disk: &mut D, file: u8, bytes: &[u8]) -> Result<bool, Failed>
+pub(super) fn has<D: Disk>(disk: &mut D, file: u8, bytes: &[u8]) -> Result<bool, Failed>
     requires { file < 3 }
 {
     let mut found = [0; 400];

@@ -1,9 +1,9 @@
-use Rattle.std.proofs.Common.{rules, List, ℕ, sym, subst}
+use Rattle.std.proofs.Common.{rules, List, ℕ, [], sym, subst}
 use Rattle.std.specs.Prelude.{IsTrue}
-use Rattle.image_slots.specs.Selections.{selections_file}
+use Rattle.image_slots.specs.Selections.{selections_file, drafted_by}
 use Rattle.image_slots.specs.Slotted.{Slotted, AreOn}
 use Rattle.image_files.specs.Selecting.{Selects}
-use Rattle.image_files.proofs.SaveLemmas.{saves_drafting, keeps_drafting, on_still, saves_selecting, keeps_selecting, has_still, on_ok, on_err}
+use Rattle.image_files.proofs.SaveLemmas.{saves_drafting, keeps_drafting, on_still, saves_selecting, keeps_selecting, area_of_image, image_still, on_ok, on_err}
 use Rattle.image_files.proofs.writing.write_image.Goals as goal
 
 pub returns-in_err-ready : goal.returns-in_err-ready
@@ -16,7 +16,7 @@ returns-in_err-ready g c =
       err = on_err c.from_residual.result c.draft_image.ensures.same;
       on_disk = search rules;
       area = search rules;
-      any_moment = λ tells front on. saves_drafting count before mid (c.draft_image.ensures.others tells) front c.args.text;
+      any_moment = λ tells front on. saves_drafting count before mid (c.draft_image.ensures.others tells) front c.args.text [];
       selected = λ tells. keeps_drafting count before mid (c.draft_image.ensures.others tells);
       ends = search rules;
     }
@@ -38,6 +38,7 @@ returns g c =
     let after = g.D.Disk.seen c.select.new.disk in
     let drafts = λ (tells : IsTrue g.D.Disk.tells). c.draft_image.ensures.others tells in
     let has = λ (tells : IsTrue g.D.Disk.tells). c.in_ok-ready.ensures.holds tells in
+    let area = λ (tells : IsTrue g.D.Disk.tells). area_of_image c.args.text (mid.moments.now (drafted_by count)) (has tells) in
     let did = subst (λ (s : Slotted). Selects g.D.Disk.tells s c.select.new.slots mid after c.select.result) c.draft_image.ensures.same c.select.ensures in
     let still = λ (tells : IsTrue g.D.Disk.tells) (front : List ℕ). on_still count before mid.moments (drafts tells) front slots in
     record {
@@ -46,10 +47,11 @@ returns g c =
       on_disk = λ tells front on. did.adds.on_disk tells front (still tells front on);
       area = λ tells.
           let held = c.requires.on_disk tells in
-          on_ok c.select.result (has_still count before mid.moments (drafts tells) held.0 c.args.text (has tells) after.moments (did.adds.any_moment tells held.0 (still tells held.0 held.1)));
-      any_moment = λ tells front on. saves_selecting count before mid.moments (drafts tells) front c.args.text (has tells) after.moments (did.adds.any_moment tells front (still tells front on));
+          on_ok c.select.result (image_still count held.0 c.args.text mid.moments after.moments (did.adds.any_moment tells held.0 (still tells held.0 held.1)) (has tells));
+      any_moment = λ tells front on.
+          saves_selecting count before mid.moments (drafts tells) front c.args.text [] (area tells) after.moments (did.adds.any_moment tells front (still tells front on));
       selected = λ tells.
           let held = c.requires.on_disk tells in
-          keeps_selecting count before mid.moments (drafts tells) held.0 c.args.text (has tells) after.moments (did.adds.any_moment tells held.0 (still tells held.0 held.1));
+          keeps_selecting count before mid.moments (drafts tells) held.0 c.args.text [] (area tells) after.moments (did.adds.any_moment tells held.0 (still tells held.0 held.1));
       ends = search rules;
     }

@@ -1,10 +1,13 @@
 use Rattle.std.proofs.Common.{rules, ◌≡◌, ◌+◌, ◌∷◌, length, refl, sym, ◌∙◌, subst, arith, ℕ, Ok, Err}
 use Rattle.chain_commands.specs.Event.{Disconnect}
+use Rattle.nmc_base.specs.declared.chain_ends.Tip.{Tip}
+use Rattle.chain_state.specs.declared.back.BackRefusal.{BackRefusal}
 use Rattle.chain_commands.specs.RunState.{longest_area}
 use Rattle.name_store.specs.Stored.{Stored, IsOn, area_file}
 use Rattle.index_commands.specs.Stages.{IsFullWith}
 use Rattle.index_commands.proofs.FollowLemmas.{disconnected_from}
 use Rattle.name_store.specs.ByIndex.{DisconnectsOn}
+use Rattle.name_store.specs.Growing.{AddsRecord}
 use Rattle.name_store.specs.Outcomes.{Adds, KeepsOn, LeavesDisk}
 use Rattle.name_store.specs.Disconnecting.{Disconnects}
 use Rattle.name_store.specs.declared.store.Outcome.TheVariants.{Done, Refused, NoMemory, Faulted}
@@ -12,7 +15,7 @@ use Rattle.index_commands.specs.Views.{back_refusal_of}
 use Rattle.index_commands.proofs.ByIndexLemmas.{refused_hash_base}
 use Rattle.disk_model.specs.Changes.{LeavesOthers}
 use Rattle.command_areas.specs.Keeping.{Keeps}
-use Rattle.name_store.proofs.OutcomeLemmas.{a_hash, leaves_refused, leaves_lacking, keeps_refused, keeps_lacking, keeps_faulted, answers_done, keeps_done, leaves_faulted, leaves_done}
+use Rattle.name_store.proofs.OutcomeLemmas.{a_hash, leaves_refused, leaves_lacking, keeps_refused, keeps_lacking, keeps_faulted, answers_done, keeps_done, leaves_faulted, leaves_done, adds_record}
 use Rattle.name_store.proofs.store.Store.disconnect.Goals as goal
 
 pub returns-in-Refused-clause-leaves : goal.returns-in-Refused-clause-leaves
@@ -109,3 +112,14 @@ returns-in-Ok-clause-on_index g c =
     subst (λ r. DisconnectsOn (IsFullWith c.args.self.area longest_area (Disconnect hash.0)) c.args.self.index hash r) (sym {b = Done new c.commit.result.tip} c.done.ensures)
     (subst (λ (x : Stored). DisconnectsOn (IsFullWith x.area longest_area (Disconnect hash.0)) x.index hash (Done new c.commit.result.tip)) c.self.view_is
     (record { takes = disconnected_from c.self.inside.chain c.in-StagedBack.staged c.commit.result hash c.in-StagedBack.ensures.on_index long c.commit.ensures.disconnected; tip_is = refl }))
+
+pub returns-in-Ok-clause-adds : goal.returns-in-Ok-clause-adds
+returns-in-Ok-clause-adds g c = λ told.
+    let before = g.D.Disk.seen c.args.disk.now in
+    let after = g.D.Disk.seen c.keep.new.disk in
+    let old : Stored = record { index = c.self.inside.chain; host = c.self.inside.host; slots = c.self.inside.slots; area = c.self.inside.area } in
+    let new : Stored = record { index = c.commit.result; host = c.self.inside.host; slots = c.self.inside.slots; area = c.in-Ok.area } in
+    let on = subst (λ (x : Stored). IsOn x before.moments.now) (sym c.self.view_is) (c.requires.on_disk told) in
+    let kept = subst (λ (f : ℕ). Keeps g.D.Disk.tells f c.self.inside.area (2 ∷ c.args.hash.0) before after (Ok c.in-Ok.area)) c.selected-file.ensures c.in-Ok.ensures in
+    subst (λ r. AddsRecord {T = Tip} {R = BackRefusal} (Disconnect c.args.hash.0) c.args.self before after r) (sym {b = Done new c.commit.result.tip} c.done.ensures)
+    (subst (λ (x : Stored). AddsRecord {T = Tip} {R = BackRefusal} (Disconnect c.args.hash.0) x before after (Done new c.commit.result.tip)) c.self.view_is (adds_record g.D.Disk.tells told old before after on (2 ∷ c.args.hash.0) c.in-Ok.area kept))

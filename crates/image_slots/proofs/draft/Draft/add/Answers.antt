@@ -5,7 +5,7 @@ use Rattle.disk_model.specs.Changes.{Changes, AfterWrite}
 use Rattle.disk_model.specs.DiskSeen.{bytes_in}
 use Rattle.image_slots.specs.Drafted.{Drafted, DraftHolds}
 use Rattle.image_slots.proofs.DraftLemmas.{leaves, holds_more}
-use Rattle.image_slots.proofs.draft.Draft.piece.Goals as goal
+use Rattle.image_slots.proofs.draft.Draft.add.Goals as goal
 
 pub returns-in_err-write_at : goal.returns-in_err-write_at
 returns-in_err-write_at g c =
