@@ -3,6 +3,7 @@ pub mod BridgedLemmas
 pub mod DoneLemmas
 pub mod FileLemmas
 pub mod TurnLemmas
+pub mod RunLemmas
 pub mod ReachedLemmas
 pub mod QueryingLemmas
 pub mod AnsweringLemmas

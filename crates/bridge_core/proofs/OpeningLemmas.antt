@@ -16,12 +16,18 @@ use Rattle.name_store.specs.Opening.{IsSynced, OpenAnswer, OpensFor}
 use Rattle.name_store.specs.declared.faults.OpenFault.{OpenFault}
 use Rattle.name_store.specs.declared.faults.OpenFault.TheVariants as faults
 use Rattle.name_store.specs.Stands.{Stands}
+use Rattle.name_store.specs.Stored.{Stored, StandsFor}
 use Rattle.bridge_core.specs.Bridge.{AreFilesOf}
 use Rattle.bridge_core.specs.Opening.{status_of_fault, HasOpened, WritesNothing, IsUnbegun, uninitialised, damaged, disk_fault, no_memory, EndsWell, lacks_memory}
-use Rattle.bridge_core.specs.Reached.{Beginning, Begins, Passes, none_yet, asked, LeavesOldOrFront, LeadsTo, IsReached}
+use Rattle.bridge_core.specs.Bridged as bridges
+use Rattle.bridge_core.specs.Bridged.{Bridged}
+use Rattle.bridge_core.specs.Reached.{bridge_machine, start_of, Beginning, Begins, LeadsTo, IsReached}
+use Rattle.bridge_core.specs.Runs as runs
+use Rattle.bridge_core.specs.Runs.{Machine, Start, none_yet, asked, LeavesOldOrFront, IsMachine}
 use Rattle.bridge_core.proofs.BridgedLemmas.{stands_first}
 use Rattle.bridge_core.proofs.FileLemmas.{files_of}
-use Rattle.bridge_core.proofs.ReachedLemmas.{front_of_all}
+use Rattle.bridge_core.proofs.ReachedLemmas.{is_machine}
+use Rattle.bridge_core.proofs.RunLemmas.{front_of_all}
 
 -- ---- a bridge that was opened
 
@@ -33,32 +39,48 @@ stands_alike old new run synced stands = record {
   is_state = stands.is_state;
 }
 
-module _ {D : Type 0} (tells : Bool) (seen : D → DiskSeen) (begun : Beginning D) (o : HasOpened tells begun.before (seen begun.opened) begun.bridge) where
-  files_first : (run : RunState) → Begins tells begun run → IsTrue tells → AreFilesOf run (seen begun.opened).moments.now
+-- What answers the events of any machine begins with the store of a bridge that was opened, and stands for the state that each run
+-- begins at.
+module _ {S E X D : Type 0} (m : Machine S E X D) (laws : IsMachine m) (begun : Start X D) (bridge : Bridged) (o : HasOpened m.tells begun.before (m.seen begun.opened) bridge)
+    (same : m.store_of begun.first ≡ bridge.store) (stands : (run : RunState) → runs.Begins m begun run → m.StandsFor begun.first (m.begin run)) where
+  files_first : (run : RunState) → runs.Begins m begun run → IsTrue m.tells → AreFilesOf (m.run_of (m.begin run)) (m.seen begun.opened).moments.now
   files_first run b told =
-      files_of begun.bridge.store (seen begun.opened) (o.opened told).on_disk run b.stands (stands_alike begun.before (seen begun.opened) run (o.synced told) (b.files told))
+      subst (λ (at : RunState). AreFilesOf at (m.seen begun.opened).moments.now) (sym (laws.begins_at run))
+      (files_of bridge.store (m.seen begun.opened) (o.opened told).on_disk run (subst (λ (store : Stored). StandsFor store run) same b.stands)
+      (stands_alike begun.before (m.seen begun.opened) run (o.synced told) (b.files told)))
 
-  abbrev no_turn : Passes tells seen begun [] [] begun.bridge begun.opened
+  abbrev no_turn : runs.Passes m begun [] [] begun.first begun.opened
   no_turn = none_yet
 
-  pub leads_first : (run : RunState) → Begins tells begun run → LeadsTo no_turn run
-  leads_first run b = record {
-    new = run;
-    runs = refl;
-    stands = stands_first begun.bridge run o.empty b.stands;
+  pub first_led : (run : RunState) → runs.Begins m begun run → runs.LeadsTo m no_turn run
+  first_led run b = record {
+    new = m.begin run;
+    runs = laws.no_step (m.begin run);
+    stands = stands run b;
     files = λ told. files_first run b told;
-    any_moment = λ told. weaken (LeavesOldOrFront begun.before run (asked [] [] None)) (λ files kept image_is is. inl (KeepsSettled-images begun.before.moments.now files image_is kept is)) (o.writes_nothing.any_moment told);
-    acknowledged = λ told. moments.start (λ image_is is. inl (front_of_all run {events = []} {replies = []} 0 (omega arith) refl ((files_first run b told).each image_is is)));
+    any_moment = λ told. weaken (LeavesOldOrFront m begun.before run (asked [] [] None)) (λ files kept image_is is. inl (KeepsSettled-images begun.before.moments.now files image_is kept is)) (o.writes_nothing.any_moment told);
+    acknowledged = λ told. moments.start (λ image_is is. inl (front_of_all m run 0 (omega arith) (laws.no_step (m.begin run)) ((files_first run b told).each image_is is)));
   }
 
-  pub first_reached : IsReached tells seen begun [] [] begun.bridge begun.opened
-  first_reached = record {
+  pub first_behind : runs.IsReached m begun [] [] begun.first begun.opened
+  first_behind = record {
     events = [];
     frames_are = refl;
     passes = no_turn;
     later = o.later;
-    each = λ run b. leads_first run b;
+    each = λ run b. first_led run b;
   }
+
+-- so a bridge does
+module _ {D : Type 0} (tells : Bool) (seen : D → DiskSeen) (begun : Beginning D) (o : HasOpened tells begun.before (seen begun.opened) begun.bridge) where
+  stands_behind : (run : RunState) → Begins tells begun run → bridges.StandsFor begun.bridge run
+  stands_behind run b = stands_first begun.bridge run o.empty b.stands
+
+  pub leads_first : (run : RunState) → Begins tells begun run → LeadsTo tells seen begun none_yet run
+  leads_first run b = first_led (bridge_machine tells seen) (is_machine tells seen) (start_of begun) begun.bridge o refl stands_behind run b
+
+  pub first_reached : IsReached tells seen begun [] [] begun.bridge begun.opened
+  first_reached = first_behind (bridge_machine tells seen) (is_machine tells seen) (start_of begun) begun.bridge o refl stands_behind
 
 -- ---- files that weren't opened
 

@@ -1,6 +1,7 @@
 pub mod Views
 pub mod Bridged
 pub mod Bridge
+pub mod Runs
 pub mod Reached
 pub mod Statuses
 pub mod Reporting
@@ -8,3 +9,5 @@ pub mod Opening
 pub mod Determined
 pub mod Streaming
 pub mod Replaying
+pub mod Growing
+pub mod Slicing

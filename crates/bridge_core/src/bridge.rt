@@ -14,6 +14,7 @@ ghost use Rattle.name_store.specs.Stored as stores;
 ghost use Rattle.name_store.specs.Stored.{IsOn};
 ghost use Rattle.bridge_core.specs.Bridged.{StandsFor};
 ghost use Rattle.bridge_core.specs.Bridge.{AnswersEvent, AnswersQuery, IsCheapTurn};
+ghost use Rattle.bridge_core.specs.Growing.{GrowsOn, AddsOn};
 ghost use Rattle.bridge_core.specs.Opening.{store_in};
 ghost use Rattle.bridge_core.specs.Reporting.{reported_of};
 ghost use Rattle.bridge_core.specs.Views.{carrier_of, command_of, IsWithinLimits};
@@ -40,8 +41,8 @@ use std::sync::ledger::Ledger;
 /// that it keeps. It holds no disk.
 #[derive(Drop)]
 pub struct Bridge {
-    store: Store,
-    desk: Desk,
+    pub(crate) store: Store,
+    pub(crate) desk: Desk,
 }
 
 impl Model for Bridge {
@@ -120,6 +121,8 @@ impl Bridge {
         requires short { length bytes.now ≤ LONGEST_BLOCK }
         requires on_disk { IsTrue D.tells → IsOn self.store (D.seen disk.old).moments.now }
         ensures answers { AnswersEvent D.tells D.seen self disk.old (Do (Connect bytes.now)) reply.new result disk.new }
+        ensures grows { GrowsOn (Connect bytes.now) self.store reply.new result }
+        ensures adds { IsTrue D.tells → AddsOn (Connect bytes.now) self.store (D.seen disk.old) (D.seen disk.new) reply.new result }
         ensures cost { IsCheapTurn self.store (Connect bytes.now) reply.new result steps.old steps.new }
     {
         let Bridge { store, mut desk } = self;
@@ -156,6 +159,8 @@ impl Bridge {
     ) -> Turned
         requires on_disk { IsTrue D.tells → IsOn self.store (D.seen disk.old).moments.now }
         ensures answers { AnswersEvent D.tells D.seen self disk.old (Do (Disconnect hash.0)) reply.new result disk.new }
+        ensures grows { GrowsOn (Disconnect hash.0) self.store reply.new result }
+        ensures adds { IsTrue D.tells → AddsOn (Disconnect hash.0) self.store (D.seen disk.old) (D.seen disk.new) reply.new result }
         ensures cost { IsCheapTurn self.store (Disconnect hash.0) reply.new result steps.old steps.new }
     {
         let Bridge { store, mut desk } = self;
@@ -204,6 +209,8 @@ impl Bridge {
         requires within { IsWithinLimits command }
         requires on_disk { IsTrue D.tells → IsOn self.store (D.seen disk.old).moments.now }
         ensures answers { AnswersEvent D.tells D.seen self disk.old (Do (command_of command.entry)) reply.new result disk.new }
+        ensures grows { GrowsOn (command_of command.entry) self.store reply.new result }
+        ensures adds { IsTrue D.tells → AddsOn (command_of command.entry) self.store (D.seen disk.old) (D.seen disk.new) reply.new result }
         ensures cost { IsCheapTurn self.store (command_of command.entry) reply.new result steps.old steps.new }
     {
         match command {

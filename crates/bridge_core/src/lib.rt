@@ -11,6 +11,7 @@ mod querying;
 mod replaying;
 mod replies;
 mod reply_room;
+mod slicing;
 mod status;
 
 pub use answering::{Request, act};
@@ -21,4 +22,6 @@ pub use kept_answers::Cache;
 pub use name_store::OpenFault;
 pub use opening::{let_go, unopened};
 pub use replaying::{replay, status_of};
+pub use replies::{lack_memory, refuse_save, tell_fault};
+pub use slicing::{DraftTurned, SliceTurned};
 pub use status::Status;

@@ -56,7 +56,7 @@ pub(crate) fn tell_saved(reply: &mut ReplyBuf, number: u64)
 }
 
 /// The code of a save's refusal.
-pub(crate) fn refuse_save(reply: &mut ReplyBuf, refusal: SaveRefusal)
+pub fn refuse_save(reply: &mut ReplyBuf, refusal: SaveRefusal)
     ensures { reply.new ≡ save_refusal_reply (save_refusal_of refusal) }
 {
     match refusal {
@@ -66,14 +66,14 @@ pub(crate) fn refuse_save(reply: &mut ReplyBuf, refusal: SaveRefusal)
 }
 
 /// Code FE, want of memory.
-pub(crate) fn lack_memory(reply: &mut ReplyBuf)
+pub fn lack_memory(reply: &mut ReplyBuf)
     ensures { reply.new ≡ no_memory_reply }
 {
     reply.set(codes::NO_MEMORY, &[], &[]);
 }
 
 /// Code FD, a fault of the disk.
-pub(crate) fn tell_fault(reply: &mut ReplyBuf)
+pub fn tell_fault(reply: &mut ReplyBuf)
     ensures { reply.new ≡ fault_reply }
 {
     reply.set(codes::DISK_FAULT, &[], &[]);
