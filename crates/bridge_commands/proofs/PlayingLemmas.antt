@@ -12,7 +12,8 @@ use Rattle.machine.specs.Leaving.{accepted_saves}
 use Rattle.bridge_core.specs.Bridge.{AnswersEvent}
 use Rattle.bridge_core.specs.Bridged.{Bridged}
 use Rattle.bridge_core.specs.Opening.{HasOpened}
-use Rattle.bridge_core.specs.Reached.{Beginning, Begins, Passes, none_yet, one_more, LeadsTo, IsReached}
+use Rattle.bridge_core.specs.Reached.{Beginning, Begins, Passes, LeadsTo, IsReached}
+use Rattle.bridge_core.specs.Runs.{none_yet, one_more}
 use Rattle.bridge_core.specs.Views.{request_of}
 use Rattle.bridge_core.specs.declared.answering.Request.{Request}
 use Rattle.bridge_core.specs.declared.answering.Request.TheVariants as requests
@@ -150,7 +151,7 @@ module _ {D : Type 0} (tells : Bool) (seen : D → DiskSeen) (start : Beginning 
 
     -- the machine gives the same replies, of each run state that it begins at
     pub leads_all : {events : List Event} {replies : List Reply} {bridge : Bridged} {disk : D} (passes : Passes tells seen start events replies bridge disk)
-        → (run : RunState) → Begins tells start run → LeadsTo passes run
+        → (run : RunState) → Begins tells start run → LeadsTo tells seen start passes run
     leads_all none_yet run b = leads_first tells seen start o run b
     leads_all (one_more {events = events} {replies = replies} {old = old} {before = before} event reply new after p by) run b =
         let reached : IsReached tells seen start (map event_frame events) replies old before =

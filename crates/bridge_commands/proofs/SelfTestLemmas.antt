@@ -25,7 +25,8 @@ use Rattle.name_store.specs.Stands.{begun_on}
 use Rattle.name_store.specs.Stored.{IsOn}
 use Rattle.bridge_core.specs.Bridged.{Bridged}
 use Rattle.bridge_core.specs.Opening.{HasOpened}
-use Rattle.bridge_core.specs.Reached.{Beginning, Begins, Passes, none_yet}
+use Rattle.bridge_core.specs.Reached.{Beginning, Begins, Passes}
+use Rattle.bridge_core.specs.Runs.{none_yet}
 use Rattle.bridge_core.proofs.AnsweringLemmas.{asked_answers}
 use Rattle.bridge_commands.specs.Playing.{AnswersEach, AreTaken, AsksTwice, PlaysAll, PlaysOn, PlaysRound, StopsIn, answers_in, counted_if, is_answered, requests_of, status_of_stop}
 use Rattle.bridge_commands.specs.SelfTest.{BeginsAt, HasPlayed, Plays, StopsWith, no_memory, refused}

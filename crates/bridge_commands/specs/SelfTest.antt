@@ -54,7 +54,7 @@ pub record BeginsAt {D : Type 0} (tells : Bool) (seen : D → DiskSeen) (start :
 -- the run state of the base without a command, and the bridge stands for what they lead to.
 pub record Plays {D : Type 0} (tells : Bool) (seen : D → DiskSeen) (start : Beginning D) (trial : Trial) (rounds : ℕ) (replies : List Reply) (bridge : Bridged) (disk : D) : Type 0 where
   pub passes : Passes tells seen start (events_behind trial rounds) replies bridge disk
-  pub leads : LeadsTo passes (begun_on run_base run_host)
+  pub leads : LeadsTo tells seen start passes (begun_on run_base run_host)
   pub taken : AreTaken (events_behind trial rounds) replies
 
 -- All rounds were played, and this was counted. Of each block's two questions the first is no hit, as the block outdates the answers that

@@ -1,5 +1,13 @@
 pub mod RunLemmas
+pub mod KeptLemmas
+pub mod SaverLemmas
 pub mod TurnLemmas
+pub mod FileLemmas
+pub mod BeginLemmas
+pub mod PieceLemmas
+pub mod SliceLemmas
+pub mod StayLemmas
+pub mod AcceptingLemmas
 pub mod ReachLemmas
 pub mod ListLemmas
 pub mod PinLemmas

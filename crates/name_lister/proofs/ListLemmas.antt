@@ -10,17 +10,18 @@ use Rattle.bridge_core.specs.Opening.{HasOpened}
 use Rattle.bridge_core.specs.Reached.{Beginning}
 use Rattle.bridge_core.proofs.BridgedLemmas.{stands_first}
 use Rattle.bridge_core.proofs.DeterminedLemmas.{Answering}
-use Rattle.bridge_core.proofs.OpeningLemmas.{first_reached}
-use Rattle.name_lister.specs.Event.{last_list_kind, none_yet}
+use Rattle.bridge_core.proofs.OpeningLemmas.{first_behind}
+use Rattle.name_lister.specs.Event.{last_list_kind}
 use Rattle.name_lister.specs.Lister.{Listed, StandsFor}
-use Rattle.name_lister.specs.Reached.{HasReached, Reached, Broken, ListBeginning, IsListReached, with_pages}
+use Rattle.name_lister.specs.Reached.{HasReached, Reached, Broken, ListBeginning, IsFirst, IsListReached, list_machine, start_at, with_pages}
 use Rattle.name_lister.specs.Step.{beginning}
 use Rattle.name_lister.specs.declared.lister.ListTurned.{ListTurned}
 use Rattle.name_lister.specs.declared.lister.ListTurned.TheVariants.{On, Ended}
+use Rattle.name_lister.proofs.ReachLemmas.{is_list_machine}
 
 abbrev pub reached_later : {D : Type 0} (tells : Bool) (seen : D → DiskSeen) (start : ListBeginning D) (frames : List Frame) (replies : List Reply) (last : ListTurned) (disk : D)
     → HasReached tells seen start frames replies last disk → NeverFell start.begun.before.faults (seen disk).faults
-reached_later tells seen start frames replies (On lister) disk r = r.plain.later
+reached_later tells seen start frames replies (On lister) disk r = r.reached.later
 reached_later tells seen start frames replies Ended disk r = absurd r
 
 abbrev pub lister_answers : {D : Type 0} (size : ℕ) (tells : Bool) (seen : D → DiskSeen) → Answering D ListTurned
@@ -30,8 +31,8 @@ lister_answers size tells seen = record {
   Broken = λ begun. Broken tells seen (with_pages size begun);
   seen = seen;
   reached_later = λ begun frames replies now r. reached_later tells seen (with_pages size begun) frames replies now.0 now.1 r;
-  broken_later = λ begun frames replies now b. b.plain.later;
-  broken_rose = λ begun frames replies now b. b.plain.rose.rose;
+  broken_later = λ begun frames replies now b. b.broken.later;
+  broken_rose = λ begun frames replies now b. b.broken.rose.rose;
 }
 
 module _ {D : Type 0} (tells : Bool) (seen : D → DiskSeen) (size : ℕ) (before : DiskSeen) (opened : D) (lister : Listed) where
@@ -41,13 +42,11 @@ module _ {D : Type 0} (tells : Bool) (seen : D → DiskSeen) (size : ℕ) (befor
   -- no frame was read yet
   pub first_list_reached : HasOpened tells before (seen opened) lister.bridge → lister.page ≡ size
       → ((run : RunState) → bridges.StandsFor lister.bridge run → StandsFor lister (beginning run)) → IsListReached tells seen (with_pages size begun_at) [] [] lister opened
-  first_list_reached o page begins = record {
-    events = [];
-    frames_are = refl;
-    plain_events = [];
-    answered = [];
-    among = none_yet;
-    plain = first_reached tells seen begun_at o;
-    size_is = page;
-    each = λ run b. record { new = beginning run; runs = refl; stands = begins run (stands_first lister.bridge run o.empty b.stands) };
-  }
+  first_list_reached o page begins =
+      let first : IsFirst (with_pages size begun_at) lister = record { bridge_is = refl; page_is = page; stands = begins } in
+      record {
+        first = lister;
+        is_first = first;
+        reached = first_behind (list_machine size tells seen) (is_list_machine size tells seen) (start_at (with_pages size begun_at) lister) lister.bridge o refl
+            (λ run b. record { page = page; stands = begins run (stands_first lister.bridge run o.empty b.stands) });
+      }

@@ -10,7 +10,7 @@ use Rattle.listing_sessions.specs.Sessions.{Session, Sessions, session, with_ses
 use Rattle.listing_sessions.specs.Sessions as sessions
 use Rattle.listing_sessions.proofs.ListingLemmas.{one_listing}
 use Rattle.pin_views.specs.declared.rows.Row.{Row}
-use Rattle.name_lister.specs.Event.{ListEvent, Plain, Open, Page, Close}
+use Rattle.name_lister.specs.Event.{ListEvent, Plain, Open, Page, Close, Begin, Slice}
 use Rattle.name_lister.specs.Pinning.{StaysOpen, pages_of, pages_told}
 use Rattle.name_lister.specs.Step.{ListState, ListRun}
 
@@ -105,6 +105,10 @@ module _ (size number : ℕ) (chain : Chain) (rows : List (List ℕ × Row)) (li
       pinned position run.0 new events replies (ap (λ (s : Sessions). s number) run.1.sessions ∙ at) stays run.2
   pinned position old new (Open ∷ events) (reply ∷ replies) at stays run =
       pinned position run.0 new events replies (behind_opening number (session chain position) old.sessions at (chain_of old.run) reply run.0.sessions run.1.sessions) stays run.2
+  pinned position old new (Begin ∷ events) (reply ∷ replies) at stays run =
+      pinned position run.0 new events replies (ap (λ (s : Sessions). s number) run.1.sessions ∙ at) stays run.2
+  pinned position old new (Slice asked ∷ events) (reply ∷ replies) at stays run =
+      pinned position run.0 new events replies (ap (λ (s : Sessions). s number) run.1.sessions ∙ at) stays run.2
   pinned position old new (Close other ∷ events) (reply ∷ replies) at stays run =
       pinned position run.0 new events replies (behind_close number (session chain position) old.sessions at other reply run.0.sessions stays.0 run.1.sessions) stays.1 run.2
   pinned position old new (Page other ∷ events) (reply ∷ replies) at stays run =

@@ -1,140 +1,186 @@
--- A turn of a lister by what came of the event in its bridge and in its rows.
-use Rattle.std.proofs.Common.{◌≡◌, ℕ, ◌≤◌, List, [], ◌∷◌, drop, Option, Some, None, refl, sym, ap, subst, ◌∙◌, inl, inr}
-use Rattle.std.specs.Prelude.{◌≢◌, ◌⊎◌, Bool}
+-- A turn of a lister by what came of the event in its bridge and in what is kept.
+use Rattle.std.proofs.Common.{◌≡◌, ℕ, ◌≤◌, List, [], ◌∷◌, Option, Some, None, refl, sym, ap, subst, inl, inr}
+use Rattle.std.specs.Prelude.{◌≢◌, ◌⊎◌, Bool, IsTrue}
 use Rattle.std.proofs.lemmas.Bool.{cases_eq}
+use Rattle.fault_counts.proofs.FaultLemmas.{NeverFell_refl}
 use Rattle.disk_model.specs.DiskSeen.{DiskSeen}
+use Rattle.disk_model.specs.Moments.{start}
 use Rattle.feed_frames.specs.Replies.{Reply}
 use Rattle.nmc_base.specs.declared.chain_ends.Base.{Base}
-use Rattle.chain_names.specs.Coins.{Maps, history_of}
-use Rattle.chain_names.specs.Log.{Log, log_of}
+use Rattle.chain_names.specs.Coins.{Maps}
+use Rattle.chain_names.specs.Sound.{IsSound}
 use Rattle.chain_names.specs.Undo.{UndoRecord}
-use Rattle.chain_names.specs.UndoOf.{AreUndos}
-use Rattle.chain_names.specs.declared.coin.Item.{Item}
 use Rattle.name_tables.specs.Tables.{maps_by}
 use Rattle.chain_state.specs.Chain.{Indexed, IsIndexed}
-use Rattle.chain_names.specs.Sound.{IsSound}
 use Rattle.nmc_base.specs.Heights.{highest}
 use Rattle.nmc_base.specs.declared.chain_ends.Profile.{Profile}
-use Rattle.chain_state.specs.Standing.{StandsForChain}
 use Rattle.chain_commands.specs.Chain.{Chain, with_block}
-use Rattle.chain_commands.specs.Event.{Event, Connect, Disconnect, Do}
+use Rattle.chain_commands.specs.Event.{Event, Connect, Disconnect, Do, Ask, Save}
 use Rattle.chain_commands.specs.RunState.{RunState, chain_of, accepted}
 use Rattle.index_commands.specs.Standing as chains
-use Rattle.kept_rows.specs.Rows.{names_back, names_now, names_before}
-use Rattle.kept_rows.proofs.IndexRows.{below_follows}
-use Rattle.machine.specs.Step.{Step}
+use Rattle.machine.specs.Step as machine
 use Rattle.machine.proofs.RunLemmas.{step_leaves}
-use Rattle.bridge_core.specs.Bridge.{AnswersEvent}
+use Rattle.bridge_core.specs.Bridge.{AnswersEvent, AreFilesOf}
 use Rattle.bridge_core.specs.Bridged as bridges
+use Rattle.bridge_core.specs.Reached.{bridge_machine}
+use Rattle.bridge_core.specs.Runs as runs
+use Rattle.bridge_core.specs.Runs.{KeepsFiles}
 use Rattle.bridge_core.specs.declared.bridge.Turned.TheVariants as bridge
+use Rattle.bridge_core.proofs.ReachedLemmas.{is_machine}
 use Rattle.listing_sessions.specs.Listing.{histories}
 use Rattle.listing_sessions.specs.Pages.{Pinned}
 use Rattle.listing_sessions.specs.Pinned.{AreTakenFrom, MakesStep, StandFor}
 use Rattle.listing_sessions.specs.Sessions.{Opens, Pages, Closes}
 use Rattle.pin_views.specs.declared.rows.Row.{Row}
-use Rattle.name_lister.specs.Answers.{AnswersList}
+use Rattle.name_lister.specs.Answers.{AnswersList, AsksPlain}
 use Rattle.name_lister.specs.Event.{Plain, Open, Page, Close}
-use Rattle.name_lister.specs.Lister.{Listed, listed}
-use Rattle.name_lister.specs.Rows.{AreRowsBy}
+use Rattle.name_lister.specs.Kept.{AreViewsOf, AreViewsNow, AreViewsBefore, AreRowsBy}
+use Rattle.name_lister.specs.Lister.{Listed, listed, IsListOn}
+use Rattle.name_lister.specs.Saver.{Saver}
+use Rattle.name_lister.specs.Saving.{SavesFor, IsSavingOn}
+use Rattle.name_lister.specs.Step.{PlainStep, IsAllowed}
 use Rattle.name_lister.specs.declared.lister.ListTurned.TheVariants.{On, Ended}
+use Rattle.name_lister.specs.declared.saving.Saving.{Saving}
+use Rattle.name_lister.specs.declared.views.Views.{Views}
+use Rattle.name_lister.proofs.KeptLemmas.{views_on, views_now, views_before, views_without}
+use Rattle.name_lister.proofs.SaverLemmas.{IsAsked, saver_follows}
 
--- ---- rows by other histories
+-- ---- what is kept behind an event
 
-pub rows_by : (one other : List ℕ → List Item) (rows : Option (List (List ℕ × Row))) → one ≡ other → AreRowsBy one rows → AreRowsBy other rows
-rows_by one other rows same are = subst (λ (h : List ℕ → List Item). AreRowsBy h rows) same are
-
--- an index that stands for a chain says of names what its log says
-pub names_on : (chain : Chain) (c : Indexed) → chains.StandsFor c chain → names_now c ≡ histories chain
-names_on chain c s = ap (λ (m : Maps). m.names) s.maps
-
--- and said before its newest block what the log below says
-names_below : (chain : Chain) (block : List ℕ) (c : Indexed) → chains.StandsFor c (with_block chain block) → names_before c ≡ histories chain
-names_below chain block c s = below_follows chain.base chain.start block chain.blocks c s
-
-none_back : (base : Base) (start : Log) (c : Indexed) (undos : List UndoRecord) → AreUndos base.profile start base.height [] undos → names_back undos (maps_by c.tables) ≡ names_now c
-none_back base start c [] are = refl
-none_back base start c (undo ∷ undos) are = absurd are
-
--- and before the newest of any blocks
-names_without : (base : Base) (start : Log) (blocks : List (List ℕ)) (c : Indexed) → StandsForChain base start blocks c → names_before c ≡ history_of (log_of start base.height (drop 1 blocks))
-names_without base start [] c s = none_back base start c c.undos s.undos ∙ ap (λ (m : Maps). m.names) s.maps
-names_without base start (block ∷ blocks) c s = below_follows base start block blocks c s
-
--- ---- what the rows are behind an event
-
--- of every step that the bridge's stores stand for: rows of the old chain's names become rows of the new one's
-abbrev pub FollowRows : Listed → Event → Reply → Listed → Type 0
-FollowRows old event reply new =
-    (run next : RunState) → Step run event reply next → bridges.StandsFor old.bridge run → bridges.StandsFor new.bridge next
-    → AreRowsBy (histories (chain_of run)) old.rows → AreRowsBy (histories (chain_of next)) new.rows
+-- of every step that the bridge's stores stand for: what was kept of the old chain becomes what is kept of the new one
+abbrev pub FollowViews : Listed → Event → Reply → Listed → Type 0
+FollowViews old event reply new =
+    (run next : RunState) → machine.Step run event reply next → bridges.StandsFor old.bridge run → bridges.StandsFor new.bridge next
+    → AreViewsOf (chain_of run) old.views → AreViewsOf (chain_of next) new.views
 
 module _ (old new : Listed) (reply : Reply) where
-  -- the chain stays, and so do the rows
-  pub stay_rows : (event : Event) → ((run next : RunState) → Step run event reply next → chain_of next ≡ chain_of run) → new.rows ≡ old.rows → FollowRows old event reply new
-  stay_rows event stays same = λ run next step s t are.
-      subst (λ (rows : Option (List (List ℕ × Row))). AreRowsBy (histories (chain_of next)) rows) (sym same)
-      (rows_by (histories (chain_of run)) (histories (chain_of next)) old.rows (ap histories (sym (stays run next step))) are)
+  -- the chain stays, and so does what is kept of it
+  pub stay_views : (event : Event) → ((run next : RunState) → machine.Step run event reply next → chain_of next ≡ chain_of run) → new.views ≡ old.views → FollowViews old event reply new
+  stay_views event stays same = λ run next step s t are.
+      subst (λ (views : Views). AreViewsOf (chain_of next) views) (sym same) (subst (λ (chain : Chain). AreViewsOf chain old.views) (sym (stays run next step)) are)
 
-  pub connected_rows : (block : List ℕ)
-      → (reply.code ≡ 0 → AreRowsBy (names_before new.bridge.store.index) old.rows → AreRowsBy (names_now new.bridge.store.index) new.rows) → (reply.code ≢ 0 → new.rows ≡ old.rows)
-      → FollowRows old (Do (Connect block)) reply new
-  connected_rows block done same = λ run next step s t are. by run next step s t are (cases_eq reply.code 0) where
-    by : (run next : RunState) → Step run (Do (Connect block)) reply next → bridges.StandsFor old.bridge run → bridges.StandsFor new.bridge next
-        → AreRowsBy (histories (chain_of run)) old.rows → (reply.code ≡ 0) ⊎ (reply.code ≢ 0) → AreRowsBy (histories (chain_of next)) new.rows
-    by run next step s t are (inl is_zero) =
+  pub connected_views : (block : List ℕ)
+      → (reply.code ≡ 0 → AreViewsBefore new.bridge.store.index old.views → AreViewsNow new.bridge.store.index new.views) → (reply.code ≢ 0 → new.views ≡ old.views)
+      → FollowViews old (Do (Connect block)) reply new
+  connected_views block done same = λ run next step s t are. by run next step t are (cases_eq reply.code 0) where
+    by : (run next : RunState) → machine.Step run (Do (Connect block)) reply next → bridges.StandsFor new.bridge next
+        → AreViewsOf (chain_of run) old.views → (reply.code ≡ 0) ⊎ (reply.code ≢ 0) → AreViewsOf (chain_of next) new.views
+    by run next step t are (inl is_zero) =
         let is : next ≡ accepted run (Connect block) = (step_leaves run next (Do (Connect block)) reply step).done is_zero in
         let index = new.bridge.store.index in
         let stands : chains.StandsFor index (with_block (chain_of run) block) = subst (λ (r : RunState). chains.StandsFor index (chain_of r)) is t.store.index in
-        rows_by (names_now index) (histories (chain_of next)) new.rows (names_on (chain_of next) index t.store.index)
-        (done is_zero (rows_by (histories (chain_of run)) (names_before index) old.rows (sym (names_below (chain_of run) block index stands)) are))
-    by run next step s t are (inr other) =
+        views_on (chain_of next) index new.views t.store.index (done is_zero (views_before (chain_of run) index old.views block stands are))
+    by run next step t are (inr other) =
         let is : next ≡ run = (step_leaves run next (Do (Connect block)) reply step).undone other in
-        subst (λ (rows : Option (List (List ℕ × Row))). AreRowsBy (histories (chain_of next)) rows) (sym (same other))
-        (rows_by (histories (chain_of run)) (histories (chain_of next)) old.rows (ap (λ (r : RunState). histories (chain_of r)) (sym is)) are)
+        subst (λ (views : Views). AreViewsOf (chain_of next) views) (sym (same other)) (subst (λ (r : RunState). AreViewsOf (chain_of r) old.views) (sym is) are)
 
-  pub disconnected_rows : (hash : List ℕ)
-      → (reply.code ≡ 0 → AreRowsBy (names_now old.bridge.store.index) old.rows → AreRowsBy (names_before old.bridge.store.index) new.rows) → (reply.code ≢ 0 → new.rows ≡ old.rows)
-      → FollowRows old (Do (Disconnect hash)) reply new
-  disconnected_rows hash done same = λ run next step s t are. by run next step s are (cases_eq reply.code 0) where
-    by : (run next : RunState) → Step run (Do (Disconnect hash)) reply next → bridges.StandsFor old.bridge run
-        → AreRowsBy (histories (chain_of run)) old.rows → (reply.code ≡ 0) ⊎ (reply.code ≢ 0) → AreRowsBy (histories (chain_of next)) new.rows
+  pub disconnected_views : (hash : List ℕ)
+      → (reply.code ≡ 0 → AreViewsNow old.bridge.store.index old.views → AreViewsBefore old.bridge.store.index new.views) → (reply.code ≢ 0 → new.views ≡ old.views)
+      → FollowViews old (Do (Disconnect hash)) reply new
+  disconnected_views hash done same = λ run next step s t are. by run next step s are (cases_eq reply.code 0) where
+    by : (run next : RunState) → machine.Step run (Do (Disconnect hash)) reply next → bridges.StandsFor old.bridge run
+        → AreViewsOf (chain_of run) old.views → (reply.code ≡ 0) ⊎ (reply.code ≢ 0) → AreViewsOf (chain_of next) new.views
     by run next step s are (inl is_zero) =
         let is : next ≡ accepted run (Disconnect hash) = (step_leaves run next (Do (Disconnect hash)) reply step).done is_zero in
         let index = old.bridge.store.index in
-        let chain = chain_of run in
-        rows_by (names_before index) (histories (chain_of next)) new.rows
-        (names_without chain.base chain.start chain.blocks index s.store.index ∙ ap (λ (r : RunState). histories (chain_of r)) (sym is))
-        (done is_zero (rows_by (histories chain) (names_now index) old.rows (sym (names_on chain index s.store.index)) are))
+        subst (λ (r : RunState). AreViewsOf (chain_of r) new.views) (sym is)
+        (views_without (chain_of run) index new.views s.store.index (done is_zero (views_now (chain_of run) index old.views s.store.index are)))
     by run next step s are (inr other) =
         let is : next ≡ run = (step_leaves run next (Do (Disconnect hash)) reply step).undone other in
-        subst (λ (rows : Option (List (List ℕ × Row))). AreRowsBy (histories (chain_of next)) rows) (sym (same other))
-        (rows_by (histories (chain_of run)) (histories (chain_of next)) old.rows (ap (λ (r : RunState). histories (chain_of r)) (sym is)) are)
+        subst (λ (views : Views). AreViewsOf (chain_of next) views) (sym (same other)) (subst (λ (r : RunState). AreViewsOf (chain_of r) old.views) (sym is) are)
 
--- ---- a turn
+-- ---- what any run may be asked
+
+-- so it is in the machine
+plain_step : (saving : Option Saving) (saver : Option Saver) (event : Event) (reply : Reply) (run next : RunState) → IsAsked saving event → SavesFor run saving saver
+    → machine.Step run event reply next → PlainStep saver run event reply next
+plain_step None None event reply run next is s step = step
+plain_step None (Some saver) event reply run next is s step = absurd s
+plain_step (Some saving) None event reply run next is s step = absurd s
+plain_step (Some saving) (Some saver) (Do command) reply run next is s step = step
+plain_step (Some saving) (Some saver) (Ask carrier message) reply run next is s step = step
+plain_step (Some saving) (Some saver) Save reply run next is s step = absurd is
+
+plain_allowed : (saving : Option Saving) (saver : Option Saver) (event : Event) (run : RunState) → IsAsked saving event → SavesFor run saving saver → IsAllowed saver event
+plain_allowed None None event run is s = tt
+plain_allowed None (Some saver) event run is s = absurd s
+plain_allowed (Some saving) None event run is s = absurd s
+plain_allowed (Some saving) (Some saver) (Do command) run is s = tt
+plain_allowed (Some saving) (Some saver) (Ask carrier message) run is s = tt
+plain_allowed (Some saving) (Some saver) Save run is s = absurd is
 
 module _ {D : Type 0} (tells : Bool) (seen : D → DiskSeen) (old : Listed) (before after : D) (event : Event) (reply : Reply) where
-  -- the bridge went on, the rows followed, and the rest stays
-  pub plain_on : (new : Listed) → AnswersEvent tells seen old.bridge before event reply (bridge.On new.bridge) after → FollowRows old event reply new → new.held ≡ old.held → new.page ≡ old.page
+  plain_asked_on : (new : Listed) (saving : Option Saving) (e : Event) → IsAsked saving e → AnswersEvent tells seen old.bridge before e reply (bridge.On new.bridge) after
+      → AsksPlain tells seen old saving before e reply (On new) after
+  plain_asked_on new None e is by = by
+  plain_asked_on new (Some saving) (Do command) is by = by
+  plain_asked_on new (Some saving) (Ask carrier message) is by = by
+  plain_asked_on new (Some saving) Save is by = absurd is
+
+  plain_asked_ended : (saving : Option Saving) (e : Event) → IsAsked saving e → AnswersEvent tells seen old.bridge before e reply bridge.Ended after
+      → AsksPlain tells seen old saving before e reply Ended after
+  plain_asked_ended None e is by = by
+  plain_asked_ended (Some saving) (Do command) is by = by
+  plain_asked_ended (Some saving) (Ask carrier message) is by = by
+  plain_asked_ended (Some saving) Save is by = absurd is
+
+  -- the rest of a lister stays
+  pub record IsBeside (new : Listed) : Type 0 where
+    pub held : new.held ≡ old.held
+    pub page : new.page ≡ old.page
+    pub saving : new.saving ≡ old.saving
+    -- the draft of the save that runs is on the disk still
+    pub still : IsTrue tells → IsSavingOn new.bridge.store new.saving (seen after).moments.now
+
+  -- the bridge went on, what is kept followed, and the rest stays
+  pub plain_on : (new : Listed) → IsAsked old.saving event → AnswersEvent tells seen old.bridge before event reply (bridge.On new.bridge) after → FollowViews old event reply new → IsBeside new
       → AnswersList tells seen old before (Plain event) reply (On new) after
-  plain_on new by follow held page = record {
-    step = λ state s.
-        let made = by.step state.run s.bridge in
-        record {
-          new = record { run = made.new; sessions = state.sessions };
-          step = record { run = made.step; sessions = refl };
-          stands = record {
-            bridge = made.stands;
-            rows = follow state.run made.new made.step s.bridge made.stands s.rows;
-            sessions = subst (λ (h : List (Option Pinned)). StandFor h state.sessions) (sym held) s.sessions;
-          };
-        };
-    bridge = by;
-    page = page;
-  }
+  plain_on new is by follow beside =
+      let turn : runs.Turns (bridge_machine tells seen) old.bridge before event reply new.bridge after = (is_machine tells seen).turns old.bridge before event reply new.bridge after by in
+      record {
+        step = λ state s.
+            let made : runs.Moves (bridge_machine tells seen) state.run before event reply new.bridge after = turn.moves state.run s.bridge in
+            record {
+              new = record { run = made.new; sessions = state.sessions; saver = state.saver };
+              step = record { moves = (plain_step old.saving state.saver event reply state.run made.new is s.saving made.step, refl); sessions = refl };
+              stands = record {
+                bridge = made.stands;
+                views = follow state.run made.new made.step s.bridge made.stands s.views;
+                sessions = subst (λ (h : List (Option Pinned)). StandFor h state.sessions) (sym beside.held) s.sessions;
+                saving = subst (λ (saving : Option Saving). SavesFor made.new saving state.saver) (sym beside.saving)
+                    (saver_follows old.saving state.saver event reply state.run made.new is s.saving made.step);
+              };
+              follow = made.keeps;
+            };
+        later = turn.later;
+        ends = λ told. record { store = by.leaves.still_on told; saving = beside.still told };
+        untouched = by.untouched;
+        others = by.leaves.others;
+        bridge = plain_asked_on new old.saving event is by;
+        page = beside.page;
+      }
 
   -- a fault of the disk ended it
-  pub plain_ended : AnswersEvent tells seen old.bridge before event reply bridge.Ended after → AnswersList tells seen old before (Plain event) reply Ended after
-  plain_ended by = record { step = λ state s. by.step state.run s.bridge; bridge = by; page = tt }
+  pub plain_ended : IsAsked old.saving event → AnswersEvent tells seen old.bridge before event reply bridge.Ended after → AnswersList tells seen old before (Plain event) reply Ended after
+  plain_ended is by =
+      let failure : runs.Fails (bridge_machine tells seen) old.bridge before event after =
+      (is_machine tells seen).fails old.bridge before event after (subst (λ (r : Reply). AnswersEvent tells seen old.bridge before event r bridge.Ended after) by.told by) in
+      record {
+        step = λ state s.
+            let cut : runs.CutsShort (bridge_machine tells seen) state.run before event after = failure.cuts state.run s.bridge in
+            record {
+              valid = (plain_allowed old.saving state.saver event state.run is s.saving, cut.valid);
+              keeps = cut.keeps;
+            };
+        later = failure.later;
+        ends = (by.told, failure.failed);
+        untouched = by.untouched;
+        others = by.leaves.others;
+        bridge = plain_asked_ended old.saving event is by;
+        page = tt;
+      }
+
+-- ---- what is asked of sessions
 
 -- rows of the chain are taken from it
 taken_from : (chain : Chain) (rows : Option (List (List ℕ × Row))) (c : Indexed) → chains.StandsFor c chain → AreRowsBy (histories chain) rows
@@ -142,46 +188,65 @@ taken_from : (chain : Chain) (rows : Option (List (List ℕ × Row))) (c : Index
 taken_from chain None c s are = (ap (λ (b : Base). b.profile) s.base_is, s.height)
 taken_from chain (Some rows) c s are = record { listing = are; profile_is = ap (λ (b : Base). b.profile) s.base_is; height_is = s.height }
 
--- what is asked of a session leaves the bridge, its rows and the disk
-module _ {D : Type 0} (tells : Bool) (seen : D → DiskSeen) (old : Listed) (disk : D) (reply : Reply) (held : List (Option Pinned)) where
-  abbrev pub behind : Listed
-  behind = listed old.bridge old.rows held old.page
+-- the run state stays, and so do the files
+pub files_stay : {D : Type 0} (seen : D → DiskSeen) (disk : D) (run : RunState) → AreFilesOf run (seen disk).moments.now → KeepsFiles run run (seen disk) (seen disk)
+files_stay seen disk run stood = record { files = stood; any_moment = start (λ image_is is. inl (stood.each image_is is)) }
 
-  pub opened : ((chain : Chain) → AreTakenFrom chain old.rows old.bridge.store.index.base.profile old.bridge.store.index.tip.height → MakesStep (Opens chain) old.held reply held)
+-- it leaves the bridge, what is kept, the save that runs, and the disk
+module _ {D : Type 0} (tells : Bool) (seen : D → DiskSeen) (old : Listed) (disk : D) (on : IsTrue tells → IsListOn old (seen disk).moments.now) (reply : Reply) (held : List (Option Pinned)) where
+  abbrev pub behind : Listed
+  behind = listed old.bridge old.views held old.page old.saving
+
+  pub opened : ((chain : Chain) → AreTakenFrom chain old.views.rows old.bridge.store.index.base.profile old.bridge.store.index.tip.height → MakesStep (Opens chain) old.held reply held)
       → AnswersList tells seen old disk Open reply (On behind) disk
   opened opens = record {
     step = λ state s.
         let chain = chain_of state.run in
         let index = s.bridge.store.index in
-        let moved = opens chain (taken_from chain old.rows old.bridge.store.index index s.rows) state.sessions s.sessions in
+        let moved = opens chain (taken_from chain old.views.rows old.bridge.store.index index s.views.rows) state.sessions s.sessions in
         record {
-          new = record { run = state.run; sessions = moved.new };
-          step = record { run = refl; sessions = moved.step };
-          stands = record { bridge = s.bridge; rows = s.rows; sessions = moved.stands };
+          new = record { run = state.run; sessions = moved.new; saver = state.saver };
+          step = record { moves = (refl, refl); sessions = moved.step };
+          stands = record { bridge = s.bridge; views = s.views; sessions = moved.stands; saving = s.saving };
+          follow = λ told stood. files_stay seen disk state.run stood;
         };
-    bridge = record { bridge_stays = refl; untouched = refl };
+    later = NeverFell_refl (seen disk).faults;
+    ends = λ told. record { store = (on told).store; saving = (on told).saving };
+    untouched = λ asks. refl;
+    others = λ told. start refl;
+    bridge = refl;
     page = refl;
   }
 
   pub paged : (number : ℕ) → MakesStep (Pages old.page number) old.held reply held → AnswersList tells seen old disk (Page number) reply (On behind) disk
   paged number pages = record {
     step = λ state s. let moved = pages state.sessions s.sessions in record {
-      new = record { run = state.run; sessions = moved.new };
-      step = record { run = refl; sessions = moved.step };
-      stands = record { bridge = s.bridge; rows = s.rows; sessions = moved.stands };
+      new = record { run = state.run; sessions = moved.new; saver = state.saver };
+      step = record { moves = (refl, refl); sessions = moved.step };
+      stands = record { bridge = s.bridge; views = s.views; sessions = moved.stands; saving = s.saving };
+      follow = λ told stood. files_stay seen disk state.run stood;
     };
-    bridge = record { bridge_stays = refl; untouched = refl };
+    later = NeverFell_refl (seen disk).faults;
+    ends = λ told. record { store = (on told).store; saving = (on told).saving };
+    untouched = λ asks. refl;
+    others = λ told. start refl;
+    bridge = refl;
     page = refl;
   }
 
   pub closed : (number : ℕ) → MakesStep (Closes number) old.held reply held → AnswersList tells seen old disk (Close number) reply (On behind) disk
   closed number closes = record {
     step = λ state s. let moved = closes state.sessions s.sessions in record {
-      new = record { run = state.run; sessions = moved.new };
-      step = record { run = refl; sessions = moved.step };
-      stands = record { bridge = s.bridge; rows = s.rows; sessions = moved.stands };
+      new = record { run = state.run; sessions = moved.new; saver = state.saver };
+      step = record { moves = (refl, refl); sessions = moved.step };
+      stands = record { bridge = s.bridge; views = s.views; sessions = moved.stands; saving = s.saving };
+      follow = λ told stood. files_stay seen disk state.run stood;
     };
-    bridge = record { bridge_stays = refl; untouched = refl };
+    later = NeverFell_refl (seen disk).faults;
+    ends = λ told. record { store = (on told).store; saving = (on told).saving };
+    untouched = λ asks. refl;
+    others = λ told. start refl;
+    bridge = refl;
     page = refl;
   }
 

@@ -1,9 +1,8 @@
 -- What a listing run is asked to do: one whole frame each.
-use Rattle.std.specs.Prelude.{ℕ, List, [], ◌∷◌, ◌++◌}
+use Rattle.std.specs.Prelude.{ℕ, []}
 use Rattle.std.specs.Int.{w32, to_le_bytes}
 use Rattle.chain_commands.specs.Event.{Event, event_frame}
 use Rattle.feed_frames.specs.Frames.{Frame}
-use Rattle.feed_frames.specs.Replies.{Reply}
 
 pub data ListEvent : Type 0 where
   -- what any run may be asked
@@ -14,26 +13,20 @@ pub data ListEvent : Type 0 where
   Page : ℕ → ListEvent
   -- it is to be closed
   Close : ℕ → ListEvent
+  -- a save in slices is to begin
+  Begin : ListEvent
+  -- the next slice of that save, of so many bytes
+  Slice : ℕ → ListEvent
 
 -- the kinds of frames that are such events are those up to this number
 abbrev pub last_list_kind : ℕ
-last_list_kind = 7
+last_list_kind = 9
 
--- a session's number takes 4 bytes, low byte first
+-- a session's number and the bytes of a slice take 4 bytes, low byte first
 abbrev pub list_frame : ListEvent → Frame
 list_frame (Plain event) = event_frame event
 list_frame Open = record { kind = 5; payload = [] }
 list_frame (Page number) = record { kind = 6; payload = to_le_bytes w32 number }
 list_frame (Close number) = record { kind = 7; payload = to_le_bytes w32 number }
-
--- the plain ones among the events, each with its reply, in their order
-pub data AreAmong : List ListEvent → List Reply → List Event → List Reply → Type 0 where
-  none_yet : AreAmong [] [] [] []
-  one_plain : {events : List ListEvent} {replies : List Reply} {plain : List Event} {answered : List Reply} (event : Event) (reply : Reply)
-      → AreAmong events replies plain answered → AreAmong (events ++ Plain event ∷ []) (replies ++ reply ∷ []) (plain ++ event ∷ []) (answered ++ reply ∷ [])
-  one_opened : {events : List ListEvent} {replies : List Reply} {plain : List Event} {answered : List Reply} (reply : Reply)
-      → AreAmong events replies plain answered → AreAmong (events ++ Open ∷ []) (replies ++ reply ∷ []) plain answered
-  one_paged : {events : List ListEvent} {replies : List Reply} {plain : List Event} {answered : List Reply} (number : ℕ) (reply : Reply)
-      → AreAmong events replies plain answered → AreAmong (events ++ Page number ∷ []) (replies ++ reply ∷ []) plain answered
-  one_closed : {events : List ListEvent} {replies : List Reply} {plain : List Event} {answered : List Reply} (number : ℕ) (reply : Reply)
-      → AreAmong events replies plain answered → AreAmong (events ++ Close number ∷ []) (replies ++ reply ∷ []) plain answered
+list_frame Begin = record { kind = 8; payload = [] }
+list_frame (Slice asked) = record { kind = 9; payload = to_le_bytes w32 asked }

@@ -1,7 +1,9 @@
 pub mod Event
+pub mod Saver
 pub mod Step
 pub mod Views
-pub mod Rows
+pub mod Kept
+pub mod Saving
 pub mod Lister
 pub mod Opening
 pub mod Answers
@@ -9,3 +11,4 @@ pub mod Costs
 pub mod Reached
 pub mod Pinning
 pub mod Listing
+pub mod Accepting

@@ -1,28 +1,39 @@
 -- What a lister keeps, and what it stands for.
 use Rattle.std.specs.Prelude.{ℕ, List, Option}
+use Rattle.disk_model.specs.Moments.{Files}
 use Rattle.bridge_core.specs.Bridged as bridges
 use Rattle.bridge_core.specs.Bridged.{Bridged}
 use Rattle.chain_commands.specs.RunState.{chain_of}
-use Rattle.listing_sessions.specs.Listing.{histories}
 use Rattle.listing_sessions.specs.Pinned.{StandFor}
 use Rattle.listing_sessions.specs.Pages.{Pinned}
-use Rattle.pin_views.specs.declared.rows.Row.{Row}
-use Rattle.name_lister.specs.Rows.{AreRowsBy}
+use Rattle.name_store.specs.Stored.{IsOn}
+use Rattle.name_lister.specs.Kept.{AreViewsOf}
+use Rattle.name_lister.specs.Saving.{SavesFor, IsSavingOn}
 use Rattle.name_lister.specs.Step.{ListState}
+use Rattle.name_lister.specs.declared.saving.Saving.{Saving}
+use Rattle.name_lister.specs.declared.views.Views.{Views}
 
--- the bridge, the rows of the names as they are now, the listings that are open, and how many rows a page has
+-- the bridge, what is kept of its chain to be pinned, the listings that are open, how many rows a page has, and the sliced save that runs
 pub record Listed : Type 0 where
   pub bridge : Bridged
-  pub rows : Option (List (List ℕ × Row))
+  pub views : Views
   pub held : List (Option Pinned)
   pub page : ℕ
+  pub saving : Option Saving
 
-abbrev pub listed : Bridged → Option (List (List ℕ × Row)) → List (Option Pinned) → ℕ → Listed
-listed bridge rows held page = record { bridge = bridge; rows = rows; held = held; page = page }
+abbrev pub listed : Bridged → Views → List (Option Pinned) → ℕ → Option Saving → Listed
+listed bridge views held page saving = record { bridge = bridge; views = views; held = held; page = page; saving = saving }
 
--- the bridge stands for the run state, the rows are those of its chain, and the listings are those of the sessions
+-- The bridge stands for the run state, and what is kept is that of its chain; the listings are those of the sessions, and the save is
+-- the machine's.
 pub record StandsFor (lister : Listed) (state : ListState) : Type 0 where
   pub bridge : bridges.StandsFor lister.bridge state.run
-  -- behind a want of memory there are none
-  pub rows : AreRowsBy (histories (chain_of state.run)) lister.rows
+  -- behind a want of memory it isn't there
+  pub views : AreViewsOf (chain_of state.run) lister.views
   pub sessions : StandFor lister.held state.sessions
+  pub saving : SavesFor state.run lister.saving state.saver
+
+-- the bridge's store is on the disk, and so is the draft of the save that runs
+pub record IsListOn (lister : Listed) (files : Files) : Type 0 where
+  pub store : IsOn lister.bridge.store files
+  pub saving : IsSavingOn lister.bridge.store lister.saving files

@@ -4,7 +4,7 @@ use Rattle.chain_commands.specs.Chain.{Chain}
 use Rattle.feed_frames.specs.Replies.{Reply}
 use Rattle.listing_sessions.specs.Sessions.{page_reply}
 use Rattle.pin_views.specs.declared.rows.Row.{Row}
-use Rattle.name_lister.specs.Event.{ListEvent, Plain, Open, Page, Close}
+use Rattle.name_lister.specs.Event.{ListEvent, Plain, Open, Page, Close, Begin, Slice}
 
 -- the replies to the pages of this number
 abbrev pub pages_told : ℕ → List ListEvent → List Reply → List Reply
@@ -14,6 +14,8 @@ pages_told number (Plain event ∷ events) (reply ∷ replies) = pages_told numb
 pages_told number (Open ∷ events) (reply ∷ replies) = pages_told number events replies
 pages_told number (Page other ∷ events) (reply ∷ replies) = if nat_eq other number then reply ∷ pages_told number events replies else pages_told number events replies
 pages_told number (Close other ∷ events) (reply ∷ replies) = pages_told number events replies
+pages_told number (Begin ∷ events) (reply ∷ replies) = pages_told number events replies
+pages_told number (Slice asked ∷ events) (reply ∷ replies) = pages_told number events replies
 
 -- none of the events closes the session of this number
 abbrev pub StaysOpen : ℕ → List ListEvent → Type 0
@@ -22,6 +24,8 @@ StaysOpen number (Plain event ∷ events) = StaysOpen number events
 StaysOpen number (Open ∷ events) = StaysOpen number events
 StaysOpen number (Page other ∷ events) = StaysOpen number events
 StaysOpen number (Close other ∷ events) = (other ≢ number) × StaysOpen number events
+StaysOpen number (Begin ∷ events) = StaysOpen number events
+StaysOpen number (Slice asked ∷ events) = StaysOpen number events
 
 -- so many pages of the rows that are left, one after the other
 abbrev pub pages_of : Chain → ℕ → List (List ℕ × Row) → ℕ → List Reply

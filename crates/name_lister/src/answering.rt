@@ -4,6 +4,7 @@ ghost use Rattle.name_lister.specs.Reached.{Ready, Reached, Broken};
 ghost use Rattle.name_lister.specs.Views.{list_event_of, IsListReadable};
 
 use crate::event::{ListEvent, read_list_event};
+use crate::letting_go::let_go;
 use crate::lister::ListTurned;
 use disk_model::Disk;
 use feed_frames::Frame;
@@ -31,7 +32,7 @@ fn deal<D: Disk, L: Ledger>(
         ListTurned::On(lister) => match lister.turn(alloc, disk, event, reply, steps) {
             ListTurned::Ended => Err(Over),
             ListTurned::On(next) => {
-                *turned = ListTurned::On(next);
+                let_go(mem::replace(turned, ListTurned::On(next)));
                 Ok(())
             }
         },
@@ -43,7 +44,7 @@ impl<D: Disk> Answerer<D> for ListTurned {
     ghost use Rattle.name_lister.specs.Event.{last_list_kind};
     ghost use Rattle.name_lister.specs.Reached.{ListBeginning, Ready, Reached, Broken};
 
-    const KINDS: u8 = 7;
+    const KINDS: u8 = 9;
 
     ghost KINDS = { last_list_kind };
 

@@ -19,6 +19,10 @@ pub enum ListEvent<'a> {
     Page(u32),
     /// The session of this number is to be closed.
     Close(u32),
+    /// A save in slices is to begin.
+    Begin,
+    /// The next slice of that save is to be written, of so many bytes.
+    Slice(u32),
 }
 
 /// The kind of an opening's frame, which is empty.
@@ -29,6 +33,12 @@ const PAGE: u8 = 6;
 
 /// The kind of a close's frame, which has the number of a session.
 const CLOSE: u8 = 7;
+
+/// The kind of a begin's frame, which is empty.
+const BEGIN: u8 = 8;
+
+/// The kind of a slice's frame, which has the number of its bytes.
+const SLICE: u8 = 9;
 
 /// The number in a payload of four bytes, low byte first.
 fn number_in(payload: &[u8]) -> u32
@@ -55,6 +65,12 @@ pub(crate) fn read_list_event(frame: Frame<'_>) -> ListEvent<'_>
     }
     if frame.kind == CLOSE {
         return ListEvent::Close(number_in(frame.payload));
+    }
+    if frame.kind == BEGIN {
+        return ListEvent::Begin;
+    }
+    if frame.kind == SLICE {
+        return ListEvent::Slice(number_in(frame.payload));
     }
     ListEvent::Plain(read_event(frame))
 }

@@ -1,14 +1,19 @@
-//! The lister: a bridge that lists the names of its chain besides, page by page, in sessions that blocks don't disturb; and `list`, a run of it over a stream.
+//! The lister: a bridge that lists the names of its chain besides, page by page, in sessions that blocks don't disturb, and saves its index
+//! in slices between events; and `list`, a run of it over a stream.
 #![tactic(auto)]
 
 mod answering;
 mod event;
 mod laws;
+mod letting_go;
 mod lister;
 mod listing;
-mod rows;
+mod replies;
+mod saving;
+mod slicing;
+mod views;
 
 pub use event::ListEvent;
-pub use laws::{pinned_pages, plain_run};
+pub use laws::{accepted_commands, pinned_pages, saves_in_slices};
 pub use lister::{ListTurned, Lister};
 pub use listing::list;

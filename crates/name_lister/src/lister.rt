@@ -1,4 +1,4 @@
-ghost use Rattle.std.specs.Prelude.{◌≡◌, ◌≤◌, length, IsTrue, IfOk, OnOk};
+ghost use Rattle.std.specs.Prelude.{◌≡◌, ◌≤◌, length, None, IsTrue, IfOk, OnOk};
 ghost use Rattle.nmc_base.specs.Heights.{highest};
 ghost use Rattle.nmc_base.specs.declared.limits.TheConstants.{LONGEST_BLOCK};
 ghost use Rattle.disk_model.specs.Changes.{KeepsSettled};
@@ -10,53 +10,59 @@ ghost use Rattle.chain_commands.specs.RunState.{RunState};
 ghost use Rattle.kept_answers.specs.Answering.{none_kept};
 ghost use Rattle.name_store.specs.Opening.{IsSynced, OpenAnswer};
 ghost use Rattle.name_store.specs.Stands.{Stands};
-ghost use Rattle.name_store.specs.Stored.{IsOn};
 ghost use Rattle.bridge_core.specs.Bridged as bridges;
 ghost use Rattle.name_lister.specs.Answers.{AnswersList};
 ghost use Rattle.name_lister.specs.Costs.{IsCheapTurn};
-ghost use Rattle.name_lister.specs.Event.{Plain, Open, Page, Close};
-ghost use Rattle.name_lister.specs.Lister.{StandsFor};
+ghost use Rattle.name_lister.specs.Event.{Plain, Open, Page, Close, Begin, Slice};
+ghost use Rattle.name_lister.specs.Lister.{StandsFor, IsListOn};
 ghost use Rattle.name_lister.specs.Opening.{store_of};
 ghost use Rattle.name_lister.specs.Step.{beginning};
 ghost use Rattle.name_lister.specs.Views.{list_event_of, IsListReadable};
 ghost use Rattle.listing_sessions.specs.declared.page.TheConstants.{LARGEST_PAGE};
 
 use crate::event::ListEvent;
-use crate::rows::{behind_connect, behind_disconnect, prepared};
+use crate::letting_go::{let_bridge_go, let_rest_go, let_views_go};
+use crate::replies::refuse_running;
+use crate::saving::Saving;
+use crate::views::{Views, behind_connect, behind_disconnect, prepared};
 use bridge_core::{Bridge, ChainCommand, Event, OpenFault, Turned};
 use chain_state::Chain;
 use disk_model::Disk;
 use dns_message::Transport;
 use frame_loop::ReplyBuf;
-use listing_sessions::{Rows, Sessions};
+use listing_sessions::Sessions;
 use nmc_base::{Hash32, NoMemory, Steps};
 use std::alloc::Global;
 use std::marker::Model;
 use std::sync::ledger::Ledger;
 
-/// A bridge that lists the names of its chain besides. It keeps their rows, in the order of the names, up to each block. A listing session
-/// is pinned to the chain that it was opened on, and shares with these rows what blocks have not changed since.
+/// A bridge that lists the names of its chain besides, and saves its index between events. It keeps the rows of the names, in their order, and
+/// the whole index once more, both up to each block. A listing session is pinned to the chain that it was opened on, and a save in slices to
+/// that which it was begun on; they share with what is kept what blocks have not changed since.
 ///
-/// Contracts see the bridge, the rows as they are now, the listing of each session, and how many rows a page has.
+/// Contracts see the bridge, what is kept of its chain as it is now, the listing of each session, how many rows a page has, and the save in
+/// slices that runs.
 #[derive(Drop)]
 pub struct Lister {
-    bridge: Bridge,
-    // None behind a want of memory: then no session is opened any more.
-    rows: Option<Rows>,
-    sessions: Sessions,
-    page: u32,
+    pub(crate) bridge: Bridge,
+    pub(crate) views: Views,
+    pub(crate) sessions: Sessions,
+    pub(crate) page: u32,
+    // None while no save in slices runs.
+    pub(crate) saving: Option<Saving>,
 }
 
 impl Model for Lister {
     ghost use Rattle.std.specs.Prelude.{◌≤◌};
     ghost use Rattle.listing_sessions.specs.declared.page.TheConstants.{LARGEST_PAGE};
     ghost use Rattle.name_lister.specs.Lister.{Listed, listed};
+    ghost use Rattle.name_lister.specs.Saving.{IsSavingOf};
 
     ghost Value = { Listed };
 
-    ghost view = { λ l. listed l.bridge l.rows l.sessions l.page };
+    ghost view = { λ l. listed l.bridge l.views l.sessions l.page l.saving };
 
-    ghost invariant = { λ l. l.page ≤ LARGEST_PAGE };
+    ghost invariant = { λ l. (l.page ≤ LARGEST_PAGE) × IsSavingOf l.bridge.store l.saving };
 }
 
 /// What came of a turn: the lister goes on, or a fault of the disk has ended it. Then open the files again.
@@ -67,8 +73,8 @@ pub enum ListTurned {
 }
 
 impl Lister {
-    /// Opens the files as a bridge does, and then takes the rows of all names: each name is looked at once. Pages have so many rows.
-    /// No session is open yet. Want of memory may come behind the opening too.
+    /// Opens the files as a bridge does, and then takes the rows of all names, and the index once more: each name is looked at twice, and
+    /// each coin once. Pages have so many rows. No session is open yet, and no save runs. Want of memory may come behind the opening too.
     pub fn open<D: Disk, L: Ledger>(
         alloc: Global,
         disk: &mut D,
@@ -80,6 +86,7 @@ impl Lister {
         ensures empty { IfOk result (λ lister. lister.bridge.answers ≡ none_kept) }
         ensures begins { IfOk result (λ lister. (run : RunState) → bridges.StandsFor lister.bridge run → StandsFor lister (beginning run)) }
         ensures page { IfOk result (λ lister. lister.page ≡ page) }
+        ensures idle { IfOk result (λ lister. lister.saving ≡ None) }
         ensures runs { IsTrue D.tells → IfOk result (λ lister. (run : RunState) → Stands (bytes_in (D.seen disk.old)) run → bridges.StandsFor lister.bridge run) }
         ensures synced { IsTrue D.tells → OnOk result (IsSynced (D.seen disk.old) (D.seen disk.new)) }
         ensures time { IsTrue D.tells
@@ -107,18 +114,31 @@ impl Lister {
         ensures bridge { IfOk result (λ lister. lister.bridge ≡ bridge) }
         ensures begins { IfOk result (λ lister. (run : RunState) → bridges.StandsFor bridge run → StandsFor lister (beginning run)) }
         ensures page { IfOk result (λ lister. lister.page ≡ page) }
+        ensures idle { IfOk result (λ lister. lister.saving ≡ None) }
     {
-        let rows = Rows::of(alloc, bridge.chain(), steps)?;
-        let sessions = Sessions::new(alloc)?;
-        Ok(Lister {
-            bridge,
-            rows: Some(rows),
-            sessions,
-            page,
-        })
+        let sessions = match Sessions::new(alloc) {
+            Ok(sessions) => sessions,
+            Err(NoMemory) => {
+                let_bridge_go(bridge);
+                return Err(NoMemory);
+            }
+        };
+        match Views::of(alloc, bridge.chain(), steps) {
+            Ok(views) => Ok(Lister {
+                bridge,
+                views,
+                sessions,
+                page,
+                saving: None,
+            }),
+            Err(NoMemory) => {
+                let_bridge_go(bridge);
+                Err(NoMemory)
+            }
+        }
     }
 
-    /// Connects a block, and takes the rows along.
+    /// Connects a block, and takes what is kept along.
     fn connect<D: Disk, L: Ledger>(
         self,
         alloc: Global,
@@ -128,31 +148,36 @@ impl Lister {
         steps: &mut Steps<L>,
     ) -> ListTurned
         requires within { length bytes.now ≤ LONGEST_BLOCK }
-        requires on_disk { IsTrue D.tells → IsOn self.bridge.store (D.seen disk.old).moments.now }
+        requires on_disk { IsTrue D.tells → IsListOn self (D.seen disk.old).moments.now }
         ensures answers { AnswersList D.tells D.seen self disk.old (Plain (Do (Connect bytes.now))) reply.new result disk.new }
         ensures cost { IsCheapTurn self (Plain (Do (Connect bytes.now))) reply.new result steps.old steps.new }
     {
         let Lister {
             bridge,
-            rows,
+            views,
             sessions,
             page,
+            saving,
         } = self;
         match bridge.turn(alloc, disk, ChainCommand::Connect(bytes), reply, steps) {
-            Turned::Ended => ListTurned::Ended,
+            Turned::Ended => {
+                let_rest_go(views, sessions, saving);
+                ListTurned::Ended
+            }
             Turned::On(bridge) => {
-                let rows = behind_connect(alloc, rows, reply, bridge.chain(), steps);
+                let views = behind_connect(alloc, views, reply, bridge.chain(), steps);
                 ListTurned::On(Lister {
                     bridge,
-                    rows,
+                    views,
                     sessions,
                     page,
+                    saving,
                 })
             }
         }
     }
 
-    /// Disconnects the newest block, and takes the rows back to where they were before it.
+    /// Disconnects the newest block, and takes what is kept back to where it was before it.
     fn disconnect<D: Disk, L: Ledger>(
         self,
         alloc: Global,
@@ -161,49 +186,64 @@ impl Lister {
         reply: &mut ReplyBuf,
         steps: &mut Steps<L>,
     ) -> ListTurned
-        requires on_disk { IsTrue D.tells → IsOn self.bridge.store (D.seen disk.old).moments.now }
+        requires on_disk { IsTrue D.tells → IsListOn self (D.seen disk.old).moments.now }
         ensures answers { AnswersList D.tells D.seen self disk.old (Plain (Do (Disconnect hash.0))) reply.new result disk.new }
         ensures cost { IsCheapTurn self (Plain (Do (Disconnect hash.0))) reply.new result steps.old steps.new }
     {
         let Lister {
             bridge,
-            rows,
+            views,
             sessions,
             page,
+            saving,
         } = self;
-        let before = prepared(alloc, &rows, bridge.chain(), hash);
+        let before = prepared(alloc, &views, bridge.chain(), hash);
         match bridge.turn(alloc, disk, ChainCommand::Disconnect(hash), reply, steps) {
-            Turned::Ended => ListTurned::Ended,
+            Turned::Ended => {
+                let_views_go(before);
+                let_rest_go(views, sessions, saving);
+                ListTurned::Ended
+            }
             Turned::On(bridge) => {
-                let rows = behind_disconnect(rows, before, reply);
+                let views = behind_disconnect(views, before, reply);
                 ListTurned::On(Lister {
                     bridge,
-                    rows,
+                    views,
                     sessions,
                     page,
+                    saving,
                 })
             }
         }
     }
 
-    /// Saves the index.
+    /// Saves the index, where no save in slices runs.
     fn save<D: Disk>(self, alloc: Global, disk: &mut D, reply: &mut ReplyBuf) -> ListTurned
-        requires on_disk { IsTrue D.tells → IsOn self.bridge.store (D.seen disk.old).moments.now }
+        requires on_disk { IsTrue D.tells → IsListOn self (D.seen disk.old).moments.now }
         ensures { AnswersList D.tells D.seen self disk.old (Plain Save) reply.new result disk.new }
     {
+        if self.saving.is_some() {
+            refuse_running(reply);
+            return ListTurned::On(self);
+        }
         let Lister {
             bridge,
-            rows,
+            views,
             sessions,
             page,
+            saving,
         } = self;
         match bridge.save(alloc, disk, reply) {
-            Turned::Ended => ListTurned::Ended,
+            Turned::Ended => {
+                let_rest_go(views, sessions, saving);
+                ListTurned::Ended
+            }
             Turned::On(bridge) => ListTurned::On(Lister {
                 bridge,
-                rows,
+                views,
                 sessions,
                 page,
+                saving,
             }),
         }
     }
@@ -217,7 +257,7 @@ impl Lister {
         message: &[u8],
         reply: &mut ReplyBuf,
     ) -> ListTurned
-        requires on_disk { IsTrue D.tells → IsOn self.bridge.store (D.seen disk.now).moments.now }
+        requires on_disk { IsTrue D.tells → IsListOn self (D.seen disk.now).moments.now }
         ensures { AnswersList D.tells D.seen self disk.now (Plain (Ask (carrier_of transport) message.now)) reply.new result disk.now }
     {
         let _ = disk;
@@ -228,6 +268,7 @@ impl Lister {
 
     /// Opens a session on the chain as it is.
     fn open_session<D: Disk>(self, disk: &D, reply: &mut ReplyBuf) -> ListTurned
+        requires on_disk { IsTrue D.tells → IsListOn self (D.seen disk.now).moments.now }
         ensures { AnswersList D.tells D.seen self disk.now Open reply.new result disk.now }
     {
         let _ = disk;
@@ -236,12 +277,13 @@ impl Lister {
         let (profile, height) = (chain.base().profile, height_of(chain));
         lister
             .sessions
-            .open(lister.rows.as_ref(), profile, height, reply);
+            .open(lister.views.rows.as_ref(), profile, height, reply);
         ListTurned::On(lister)
     }
 
     /// Gives the next page of a session.
     fn turn_page<D: Disk>(self, disk: &D, number: u32, reply: &mut ReplyBuf) -> ListTurned
+        requires on_disk { IsTrue D.tells → IsListOn self (D.seen disk.now).moments.now }
         ensures { AnswersList D.tells D.seen self disk.now (Page number) reply.new result disk.now }
     {
         let _ = disk;
@@ -252,6 +294,7 @@ impl Lister {
 
     /// Closes a session.
     fn close_session<D: Disk>(self, disk: &D, number: u32, reply: &mut ReplyBuf) -> ListTurned
+        requires on_disk { IsTrue D.tells → IsListOn self (D.seen disk.now).moments.now }
         ensures { AnswersList D.tells D.seen self disk.now (Close number) reply.new result disk.now }
     {
         let _ = disk;
@@ -267,7 +310,14 @@ impl Lister {
     /// 32 where no session of the number is open. None of these three takes a step on the tables or asks anything of the disk, and a page
     /// takes no memory.
     ///
-    /// Where memory for the rows ran out behind a command, that stays accepted and open sessions go on, and each later opening has code FE.
+    /// The begin of a save in slices has code 0; code 33 where one runs, then 29 and 30 as a whole save; or code FE. A slice has code 0 with the
+    /// byte 0 where bytes are left behind it, and code 0 with the byte 1 and the number of selections in 8 bytes, low byte first, where its
+    /// area was selected; code 34 where no save runs; and code 35 where the area would be longer than 2^42 bytes: then the save is given up. It
+    /// takes no memory. While a save runs in slices, a whole one has code 33. Neither takes a step on the tables. A fault of the disk is code FD,
+    /// as of a command.
+    ///
+    /// Where memory for what is kept ran out behind a command, that stays accepted, and open sessions and a save that runs go on; then each
+    /// later opening, or each later begin, has code FE.
     pub fn turn<D: Disk, L: Ledger>(
         self,
         alloc: Global,
@@ -277,7 +327,7 @@ impl Lister {
         steps: &mut Steps<L>,
     ) -> ListTurned
         requires within { IsListReadable event }
-        requires on_disk { IsTrue D.tells → IsOn self.bridge.store (D.seen disk.old).moments.now }
+        requires on_disk { IsTrue D.tells → IsListOn self (D.seen disk.old).moments.now }
         ensures answers { AnswersList D.tells D.seen self disk.old (list_event_of event.entry) reply.new result disk.new }
         ensures cost { IsCheapTurn self (list_event_of event.entry) reply.new result steps.old steps.new }
     {
@@ -286,6 +336,8 @@ impl Lister {
             ListEvent::Open => self.open_session(disk, reply),
             ListEvent::Page(number) => self.turn_page(disk, number, reply),
             ListEvent::Close(number) => self.close_session(disk, number, reply),
+            ListEvent::Begin => self.begin_save(disk, reply),
+            ListEvent::Slice(asked) => self.slice(disk, asked, reply),
         }
     }
 
@@ -299,7 +351,7 @@ impl Lister {
         steps: &mut Steps<L>,
     ) -> ListTurned
         requires within { IsReadable event }
-        requires on_disk { IsTrue D.tells → IsOn self.bridge.store (D.seen disk.old).moments.now }
+        requires on_disk { IsTrue D.tells → IsListOn self (D.seen disk.old).moments.now }
         ensures answers { AnswersList D.tells D.seen self disk.old (Plain (event_of event.entry)) reply.new result disk.new }
         ensures cost { IsCheapTurn self (Plain (event_of event.entry)) reply.new result steps.old steps.new }
     {

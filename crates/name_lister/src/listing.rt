@@ -4,6 +4,7 @@ ghost use Rattle.bridge_core.specs.Determined.{outside};
 ghost use Rattle.listing_sessions.specs.declared.page.TheConstants.{LARGEST_PAGE};
 ghost use Rattle.name_lister.specs.Listing.{Lists};
 
+use crate::letting_go::let_go;
 use crate::lister::{ListTurned, Lister};
 use bridge_core::{Status, status_of, unopened};
 use byte_io::{Sink, Source};
@@ -13,9 +14,6 @@ use nmc_base::{NoMemory, Steps};
 use std::alloc::Global;
 use std::marker::Brand;
 use std::sync::ledger::{Blank, Ledger};
-
-/// Lets go of a lister, in a place of its own: such a place is dear to prove.
-fn let_go(_turned: ListTurned) {}
 
 /// Opens the files, and then reads and answers frames by means of these buffers.
 fn list_by<S: Source, K: Sink, D: Disk, L: Ledger>(

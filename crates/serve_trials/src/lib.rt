@@ -1,5 +1,5 @@
 //! Trials of the program's words over streams, files and a port in memory: each of their calls fails in turn, each stop of the disk,
-//! a name that a feed registers, saves, and reports for a sink whose writes fail.
+//! a name that a feed registers, saves, at once and in slices, and reports for a sink whose writes fail.
 #![tactic(auto)]
 
 #[cfg(test)]
@@ -32,6 +32,8 @@ mod replays;
 mod reports;
 #[cfg(test)]
 mod saves;
+#[cfg(test)]
+mod sliced_saves;
 #[cfg(test)]
 mod starts;
 #[cfg(test)]

@@ -36,11 +36,13 @@ fn sessions_page_through_the_chain_that_they_were_opened_on(rt: HostRuntime) -> 
     Ok(())
 }
 
-/// The same words in a replay: a bad frame at each kind.
+/// The same frames in a replay, and those of a save in slices: a bad frame at each kind.
 static NOT_REPLAYED: &str = "\
 0500000000
 060400000000000000
 070400000000000000
+begin
+slice ffffffff
 ";
 
 struct NotReplayed;
@@ -55,7 +57,7 @@ impl Trial for NotReplayed {
 }
 
 #[test]
-fn a_replay_knows_no_sessions(rt: HostRuntime) -> Result<(), Fail> {
+fn a_replay_knows_no_sessions_and_no_slices(rt: HostRuntime) -> Result<(), Fail> {
     each_is_right::<NotReplayed>(&rt, rt.alloc(), NOT_REPLAYED)?;
     Ok(())
 }

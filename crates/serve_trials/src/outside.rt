@@ -116,6 +116,20 @@ pub(crate) fn end_of(alloc: Global, outside: &mut Outside, line: &str) -> Status
     run(alloc, &words, source, sink, disk, port)
 }
 
+/// Runs the words over the input and the files, and says whether that is done and answered with this.
+pub(crate) fn is_told_by(
+    alloc: Global,
+    outside: &mut Outside,
+    words: &str,
+    input: &str,
+    output: &str,
+) -> Result<bool, NoMemory> {
+    outside.begin(alloc, "whole", "whole", input)?;
+    let status = end_of(alloc, outside, words);
+    let output = bytes_of(alloc, output)?;
+    Ok(status == Status::Done && outside.sink.bytes() == output.as_slice())
+}
+
 /// The status is displayed as this line.
 pub(crate) fn is_told(alloc: Global, status: Status, line: &str) -> Result<bool, NoMemory> {
     let text = status.to_string(alloc)?;

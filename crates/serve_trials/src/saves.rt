@@ -2,7 +2,7 @@
 
 use crate::crashes::{Crashed, is_right_wherever};
 use crate::feed::FEED;
-use crate::outside::{INIT, Outside, Trial, each_is_right, end_of};
+use crate::outside::{INIT, Outside, Trial, each_is_right, end_of, is_told_by};
 use crate::stops::make;
 use crate::texts::{bytes_of, field};
 use bridge_core::Status;
@@ -12,17 +12,14 @@ use nmc_base::{Bytes, NoMemory};
 use std::alloc::Global;
 use std::test::Fail;
 
-/// Replays the input over the files, and says whether it is answered with this.
+/// Whether a replay of the input is answered with this.
 fn is_answered(
     alloc: Global,
     outside: &mut Outside,
     input: &str,
     output: &str,
 ) -> Result<bool, NoMemory> {
-    outside.begin(alloc, "whole", "whole", input)?;
-    let status = end_of(alloc, outside, "replay");
-    let output = bytes_of(alloc, output)?;
-    Ok(status == Status::Done && outside.sink.bytes() == output.as_slice())
+    is_told_by(alloc, outside, "replay", input, output)
 }
 
 // ---- replies

@@ -38,7 +38,7 @@ fn digit(letter: u8) -> u8 {
 }
 
 /// The words that aren't digits, each with the bytes that it stands for, in two parts.
-static WORDS: [(&str, &[u8], &[u8]); 14] = [
+static WORDS: [(&str, &[u8], &[u8]); 20] = [
     ("block", &FIRST_BLOCK, &[]),
     ("zeros", &[0; 32], &[]),
     ("aas", &[0xAA; 32], &[]),
@@ -54,6 +54,14 @@ static WORDS: [(&str, &[u8], &[u8]); 14] = [
     // the frame of a save, and its reply before the number
     ("save", &[4, 0, 0, 0, 0], &[]),
     ("saved", &[0, 8, 0, 0, 0], &[]),
+    // the frames of the begin of a save in slices and of a slice before its number of bytes, and the replies: begun, one runs, none
+    // runs, there is more, and selected before the number
+    ("begin", &[8, 0, 0, 0, 0], &[]),
+    ("slice", &[9, 4, 0, 0, 0], &[]),
+    ("begun", &[0; 5], &[]),
+    ("running", &[33, 0, 0, 0, 0], &[]),
+    ("more", &[0, 1, 0, 0, 0], &[0]),
+    ("selected", &[0, 9, 0, 0, 0], &[1]),
     // a message that asks nothing, and the reply to it
     ("asked", &[0x12, 0x34, 1, 0], &[0; 8]),
     ("told", &[0x12, 0x34, 0x81, 1], &[0; 8]),

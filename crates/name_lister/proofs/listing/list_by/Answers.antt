@@ -1,4 +1,4 @@
-use Rattle.std.proofs.Common.{Err, refl, sym, ap, subst}
+use Rattle.std.proofs.Common.{Err, Option, refl, sym, ap, subst}
 use Rattle.disk_model.specs.DiskSeen.{bytes_in}
 use Rattle.frame_loop.specs.Transcript.{streams}
 use Rattle.name_store.proofs.FollowLaws.{opens_for}
@@ -8,8 +8,16 @@ use Rattle.bridge_core.specs.declared.status.Status.{Status}
 use Rattle.bridge_core.proofs.DeterminedLemmas.{streams_loop, streams_unbegun}
 use Rattle.name_lister.specs.Listing.{Lists}
 use Rattle.name_lister.specs.Reached.{with_pages}
+use Rattle.name_lister.specs.Saving.{IsSavingOn}
+use Rattle.name_lister.specs.declared.saving.Saving.{Saving}
 use Rattle.name_lister.proofs.ListLemmas.{lister_answers, begun_at, first_list_reached}
 use Rattle.name_lister.proofs.listing.list_by.Goals as goal
+
+pub follow-ending-requires-clause-ready : goal.follow-ending-requires-clause-ready
+follow-ending-requires-clause-ready g c = λ told. record {
+  store = (c.in-Ok.ensures.answer told).on_disk;
+  saving = subst (λ (saving : Option Saving). IsSavingOn c.in-Ok.lister.bridge.store saving (g.D.Disk.seen c.open.new.disk).moments.now) (sym c.in-Ok.ensures.idle) tt;
+}
 
 pub returns-in-Ok : goal.returns-in-Ok
 returns-in-Ok g c =

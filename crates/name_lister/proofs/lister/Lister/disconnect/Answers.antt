@@ -1,16 +1,17 @@
 use Rattle.std.proofs.Common.{refl, sym, subst, arith}
-use Rattle.std.specs.Prelude.{List, Option, ℕ}
+use Rattle.std.specs.Prelude.{IsTrue}
 use Rattle.chain_state.specs.Chain.{Indexed}
 use Rattle.chain_commands.specs.Event.{Disconnect, Do}
-use Rattle.kept_rows.specs.Rows.{names_now, names_before}
-use Rattle.pin_views.specs.declared.rows.Row.{Row}
 use Rattle.name_lister.specs.Answers.{AnswersList}
 use Rattle.name_lister.specs.Costs.{IsCheapListed}
 use Rattle.name_lister.specs.Event.{Plain}
-use Rattle.name_lister.specs.Lister.{Listed, listed}
-use Rattle.name_lister.specs.Rows.{AreRowsBy}
-use Rattle.name_lister.specs.declared.lister.ListTurned.TheVariants.{On}
-use Rattle.name_lister.proofs.TurnLemmas.{plain_on, disconnected_rows}
+use Rattle.name_lister.specs.Kept.{AreViewsBefore, AreViewsNow}
+use Rattle.name_lister.specs.Lister.{Listed, listed, IsListOn}
+use Rattle.name_lister.specs.declared.lister.ListTurned.TheVariants.{On, Ended}
+use Rattle.name_lister.specs.declared.views.Views.{Views}
+use Rattle.name_lister.proofs.SaverLemmas.{asked_command}
+use Rattle.name_lister.proofs.StayLemmas.{stays_of, stays_on}
+use Rattle.name_lister.proofs.TurnLemmas.{plain_on, plain_ended, disconnected_views}
 use Rattle.name_lister.proofs.lister.Lister.disconnect.Goals as goal
 
 pub returns-in-On-clause-answers : goal.returns-in-On-clause-answers
@@ -19,19 +20,40 @@ returns-in-On-clause-answers g c =
     let seen = g.D.Disk.seen in
     let hash = c.args.hash.0 in
     let reply = c.turn.new.reply in
-    let rows = c.behind_disconnect-rows.result in
-    let index = c.self.inside.bridge.store.index in
-    let old = listed c.self.inside.bridge c.self.inside.rows c.self.inside.sessions c.self.inside.page in
-    let new = listed c.in-On.bridge rows c.self.inside.sessions c.self.inside.page in
-    let prepared : AreRowsBy (names_now index) c.self.inside.rows → AreRowsBy (names_before index) c.prepared-before.result =
-    subst (λ (i : Indexed). AreRowsBy (names_now i) c.self.inside.rows → AreRowsBy (names_before i) c.prepared-before.result) c.chain.ensures c.prepared-before.ensures in
+    let inside = c.self.inside in
+    let views = c.behind_disconnect-views.result in
+    let index = inside.bridge.store.index in
+    let old = listed inside.bridge inside.views inside.sessions inside.page inside.saving in
+    let new = listed c.in-On.bridge views inside.sessions inside.page inside.saving in
+    let on : IsTrue tells → IsListOn old (seen c.args.disk.now).moments.now = subst (λ (o : Listed). IsTrue tells → IsListOn o (seen c.args.disk.now).moments.now) (sym c.self.view_is) c.requires.on_disk in
+    let prepared : AreViewsNow index inside.views → AreViewsBefore index c.prepared-before.result =
+    subst (λ (i : Indexed). AreViewsNow i inside.views → AreViewsBefore i c.prepared-before.result) c.chain.ensures c.prepared-before.ensures in
     subst (λ (o : Listed). AnswersList tells seen o c.args.disk.now (Plain (Do (Disconnect hash))) reply (On new) c.turn.new.disk) c.self.view_is
-    (plain_on tells seen old c.args.disk.now c.turn.new.disk (Do (Disconnect hash)) reply new c.in-On.ensures.answers
-    (disconnected_rows old new reply hash
-    (λ is_zero are. subst (λ (r : Option (List (List ℕ × Row))). AreRowsBy (names_before index) r) (sym (c.behind_disconnect-rows.ensures.done is_zero)) (prepared are))
-    c.behind_disconnect-rows.ensures.same) refl refl)
+    (plain_on tells seen old c.args.disk.now c.turn.new.disk (Do (Disconnect hash)) reply new (asked_command inside.saving (Disconnect hash)) c.in-On.ensures.answers
+    (disconnected_views old new reply hash
+    (λ is_zero are. subst (λ (v : Views). AreViewsBefore index v) (sym (c.behind_disconnect-views.ensures.done is_zero)) (prepared are))
+    c.behind_disconnect-views.ensures.same)
+    (record {
+      held = refl;
+      page = refl;
+      saving = refl;
+      still = stays_on tells seen inside.bridge c.args.disk.now c.turn.new.disk (Disconnect hash) reply c.in-On.bridge c.in-On.ensures.answers c.in-On.ensures.grows old refl c.self.invariant.1 c.in-On.ensures.adds on;
+    }))
 
 pub returns-in-On-clause-cost : goal.returns-in-On-clause-cost
 returns-in-On-clause-cost g c = λ is_zero.
     subst (λ (o : Listed). IsCheapListed o.bridge.store.index (Disconnect c.args.hash.0) c.in-On.bridge.store.index c.args.steps.now c.turn.new.steps) c.self.view_is
     (record { mid = c.turn.new.steps; cheap = c.in-On.ensures.cost is_zero; few_more = omega arith })
+
+pub invariant_of-result : goal.invariant_of-result
+invariant_of-result g c = (
+  c.self.invariant.0,
+  stays_of g.D.Disk.tells g.D.Disk.seen c.self.inside.bridge c.args.disk.now c.turn.new.disk (Disconnect c.args.hash.0) c.turn.new.reply c.in-On.bridge c.in-On.ensures.answers c.in-On.ensures.grows c.self.inside.saving c.self.invariant.1,
+)
+
+pub returns-in-Ended-clause-answers : goal.returns-in-Ended-clause-answers
+returns-in-Ended-clause-answers g c =
+    let inside = c.self.inside in
+    let old = listed inside.bridge inside.views inside.sessions inside.page inside.saving in
+    subst (λ (o : Listed). AnswersList g.D.Disk.tells g.D.Disk.seen o c.args.disk.now (Plain (Do (Disconnect c.args.hash.0))) c.turn.new.reply Ended c.turn.new.disk) c.self.view_is
+    (plain_ended g.D.Disk.tells g.D.Disk.seen old c.args.disk.now c.turn.new.disk (Do (Disconnect c.args.hash.0)) c.turn.new.reply (asked_command inside.saving (Disconnect c.args.hash.0)) c.in-Ended.ensures.answers)

@@ -1,0 +1,55 @@
+//! What is dear to let go of is let go of here alone: each place of it would be proved anew.
+
+use crate::lister::{ListTurned, Lister};
+use crate::saving::Saving;
+use crate::views::Views;
+use bridge_core::Bridge;
+use listing_sessions::Sessions;
+use sliced_save::{Mirror, Slices};
+
+pub(crate) fn let_bridge_go(_bridge: Bridge) {}
+
+pub(crate) fn let_slices_go(_slices: Slices) {}
+
+fn let_mirror_go(_mirror: Mirror) {}
+
+pub(crate) fn let_saving_go(saving: Option<Saving>) {
+    if let Some(saving) = saving {
+        let Saving { draft: _, slices } = saving;
+        let_slices_go(slices);
+    }
+}
+
+pub(crate) fn let_views_go(views: Views) {
+    let Views {
+        rows: _rows,
+        mirror,
+    } = views;
+    if let Some(mirror) = mirror {
+        let_mirror_go(mirror);
+    }
+}
+
+/// What a lister keeps beside its bridge.
+pub(crate) fn let_rest_go(views: Views, _sessions: Sessions, saving: Option<Saving>) {
+    let_views_go(views);
+    let_saving_go(saving);
+}
+
+fn let_lister_go(lister: Lister) {
+    let Lister {
+        bridge,
+        views,
+        sessions,
+        page: _,
+        saving,
+    } = lister;
+    let_bridge_go(bridge);
+    let_rest_go(views, sessions, saving);
+}
+
+pub(crate) fn let_go(turned: ListTurned) {
+    if let ListTurned::On(lister) = turned {
+        let_lister_go(lister);
+    }
+}
