@@ -12,6 +12,17 @@ use std::rt::Env;
 use std::{env, io};
 use system_io::{FileDisk, People, ReaderSource, SocketPort, WriterSink};
 
+/// A part of the stack that is taken at the start: eight of them are more than any later call takes, which is below 320 KiB.
+const PART: usize = 64 << 10;
+
+/// Has the system hand out the stack at once. It would do so as calls go deeper, and where no memory is left end the program by a signal
+/// in the middle of a save.
+#[inline(never)]
+fn take_stack(rt: &impl Env) {
+    let mut parts = [[0; PART]; 8];
+    let _ = rt.arg(0, &mut parts[0]);
+}
+
 /// What the program was called with: the words behind its name, or none where they are no text.
 fn words_of(rt: &(impl Env + AllocGlobal)) -> Result<Words, NoMemory> {
     let mut words = Words::new(rt.alloc());
@@ -55,6 +66,7 @@ fn status_of(rt: &HostRuntime, people: &People<'_>) -> Status {
 }
 
 fn main(rt: HostRuntime) -> ExitCode {
+    take_stack(&rt);
     let people = People::of(&rt);
     let status = status_of(&rt, &people);
     if status != Status::Done {
