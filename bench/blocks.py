@@ -9,6 +9,8 @@ LEAST_AMOUNT = 1_000_000
 CONNECT, DISCONNECT, QUERY, SAVE = b"\x01", b"\x02", b"\x03", b"\x04"
 # Of `list` alone: a listing session is opened, a page of it is asked for, it is closed.
 OPENING, PAGE, CLOSING = b"\x05", b"\x06", b"\x07"
+# Of `list` alone too: a save in slices is begun, a slice of it is written.
+BEGINNING, SLICE = b"\x08", b"\x09"
 # The txid of transactions that no chain has.
 NOWHERE = b"\xee" * 32
 NO_OUTPOINT = bytes(32) + b"\xff" * 4

@@ -4,8 +4,6 @@ It is written from docs/FORMATS.md alone, and shares nothing with the code. A st
 for, and the number of selections; the commands behind the image of the selected area are followed by the index alone. The files are
 made of a base, and of the makes of a snapshot where they are made from one.
 """
-import struct
-
 from common import Run, reply
 
 from answers_model import reply_to, zone_of
@@ -165,16 +163,23 @@ class Store:
         return gate + len(behind)
 
     def saved(self):
+        image = self.index.text()
+        if refusal := self.refusal_of(image):
+            return refusal
+        self.files[3 - self.area] = area_text(image)
+        return reply(0, number(8, self.selects(8 + len(image))))
+
+    def refusal_of(self, image):
+        """The reply that refuses a save with this image; None where there is no refusal."""
         if self.selections == MOST_SELECTIONS:
             return reply(29)
-        image = self.index.text()
-        if len(image) > MOST_IMAGE:
-            return reply(30)
-        self.files[3 - self.area] = area_text(image)
-        self.gates[0] = self.append(0, self.gates[0], bytes([3 - self.area]))
+        return reply(30) if len(image) > MOST_IMAGE else None
+
+    def selects(self, gate):
+        """The other area is selected, which is whole and has its closed gate at that place. The number of selections."""
+        self.gates = [self.append(0, self.gates[0], bytes([3 - self.area])), gate]
         self.selections += 1
-        self.gates[1] = 8 + len(image)
-        return reply(0, struct.pack("<Q", self.selections))
+        return self.selections
 
     def asked(self, message):
         names = {name: items[-1].value for name, items in self.index.histories.items() if self.index.served(name) is not None}

@@ -52,6 +52,8 @@ class BothListed(Both):
 class ListedLife(Life):
     """The runs of a chain. Where it begins with a start list, names of all lengths are among its makes."""
 
+    models = BothListed
+
     def __init__(self, tally, chance):
         base = chance.choice([NEW_BASE, *BASES.values()])
         what, seed = f"{base.profile} at {base.height}", chance.getrandbits(64)
@@ -60,7 +62,7 @@ class ListedLife(Life):
             many_more(start)
         super().__init__(tally, what, base, seed, start.makes if start else (), start and start.stands)
         self.text = start and snapshot_text(start.makes)
-        self.both = BothListed(tally, self.what, base, start.makes if start else ())
+        self.both = self.models(tally, self.what, base, start.makes if start else ())
         stands = start.stands if start else dict.fromkeys(LETTERS, Stand())
         self.branch = Branch(self.chance, self.both, {**stands, **dict.fromkeys(MORE_LETTERS, Stand())})
 
@@ -116,9 +118,13 @@ class ListedLife(Life):
             return self.chance.choice(list(self.lister.sessions))
         return self.chance.randrange(MOST_SESSIONS)
 
-    def session(self):
+    def deeds(self):
+        """What a run does, and how often."""
         deeds = {self.grows: 24, self.shrinks: 5, self.saved: 1, self.asked: 3, self.opens: 8, self.pages: 24, self.closes: 3}
-        deeds.update({self.strays: 2, self.opens_many: 1})
+        return {**deeds, self.strays: 2, self.opens_many: 1}
+
+    def session(self):
+        deeds = self.deeds()
         for deed in self.chance.choices(list(deeds), list(deeds.values()), k=DEEDS):
             deed()
 

@@ -1,8 +1,8 @@
-"""Listing sessions where memory is wanting: with each call for memory of a run failing in turn, and with less and less of it.
+"""Runs of `list` where memory is wanting: with each call for memory of a run failing in turn, and with less and less of it.
 
-A frame that finds none is answered so and did nothing; a run that finds none for its start ends with status 8. A page and the closing
-of a session want none. Behind a connect or a disconnect whose rows found none no session is opened any more, while those that are
-open go on.
+A frame that finds none is answered so and did nothing; a run that finds none for its start ends with status 8. A page, the closing of a
+session and a slice want none. Behind a connect or a disconnect whose rows found none no session is opened any more, while those that are
+open go on; and behind one that found none for what a save in slices is begun from, none is begun, while one that runs goes on.
 """
 from answer_cases import Frames as Written
 from common import Run, pieces, run_in
@@ -12,9 +12,10 @@ from files_model import Store, made
 from generated_zones import message
 from limits import memory
 from listings_model import MOST_SESSIONS, OPEN, Lister, close, page
+from sliced_saves_model import BEGIN, MOST_SLICE, sliced
 
 from answers_model import A
-from blocks import CLOSING, CONNECT, DISCONNECT, FIRST, OPENING, PAGE, QUERY, SAVE, UPDATE, Chain
+from blocks import BEGINNING, CLOSING, CONNECT, DISCONNECT, FIRST, OPENING, PAGE, QUERY, SAVE, SLICE, UPDATE, Chain
 from blocks import block_hash, frame, name_script, named, outpoint
 from digests import double_sha256
 from name_chains import MATURITY, commitment, connect, name_of, opening, salt_of, update
@@ -22,11 +23,13 @@ from stores import INIT, files_of
 
 SAVING = frame(SAVE, b"")
 # The codes in whose place want of memory may stand, by the kind of a command.
-IN_ITS_PLACE = {CONNECT: {0, 3, 5, *range(10, 29)}, DISCONNECT: {0, 5}, SAVE: {0, 30}}
+IN_ITS_PLACE = {CONNECT: {0, 3, 5, *range(10, 29)}, DISCONNECT: {0, 5}}
 # The address space of a run: found by steps of this size, and less than this.
 STEP, MOST_MEMORY = 256 << 10, 1 << 30
 STEPS, ROUNDS = 40, 8
 NAMES, UPDATED, LONG = 300, 150, 1000
+# The length of a slice between the blocks.
+PIECE, LAST_NUMBER = 20_000, 0xFFFF_FFFF
 
 
 def back(item):
@@ -41,23 +44,26 @@ def texts_of(store):
 # Each call in turn
 
 
-def came_of(files, size, frames, wanting=None, without_map=None):
-    """By the model: what comes of the frames, where memory is wanting for one of them, or for the map of the rows behind one."""
+def came_of(files, size, frames, wanting=None, without_map=None, without_mirror=None):
+    """By the model: what comes of the frames, where memory is wanting for one of them; or behind one for the map of the rows, or for
+    what a save in slices is begun from."""
     lister, told = Lister(Store.opened(files), size), []
     for at, item in enumerate(frames):
         told.append(without_memory(item) if at == wanting else lister.answer(item))
         lister.has_map = lister.has_map and at != without_map
+        lister.has_mirror = lister.has_mirror and at != without_mirror
     return Came(Run(b"".join(told), 0, ""), texts_of(lister.store))
 
 
 def may_come(files, size, frames):
-    """By name, what may come. A page and the closing of a session take no memory."""
+    """By name, what may come. A page, the closing of a session and a slice take no memory."""
     found = {"the start": Came(OUT_OF_MEMORY, files), "all of it": came_of(files, size, frames)}
     for at, item in enumerate(frames):
-        if item[:1] not in (PAGE, CLOSING):
+        if item[:1] not in (PAGE, CLOSING, SLICE):
             found[f"frame {at}"] = came_of(files, size, frames, wanting=at)
         if item[:1] in (CONNECT, DISCONNECT):
             found[f"no map behind {at}"] = came_of(files, size, frames, without_map=at)
+            found[f"no mirror behind {at}"] = came_of(files, size, frames, without_mirror=at)
     return found
 
 
@@ -125,7 +131,8 @@ def updated_long(number, spent, count):
 
 
 def many_updates():
-    """Names with long values, of which each of some blocks updates the half; sessions between them; blocks that leave and come again."""
+    """Names with long values, of which each of some blocks updates the half; sessions between them, and saves in slices; blocks that leave
+    and come again."""
     out = Written()
     chain, commitments = Chain(out), [commitment(number) for number in range(NAMES)]
     lasts = {number: opened_long(number, item) for number, item in enumerate(commitments)}
@@ -139,8 +146,10 @@ def many_updates():
     frames = blocks[:-ROUNDS]
     for count, item in enumerate(blocks[-ROUNDS:]):
         frames += [OPEN, page(count % 3), item, page(count // 2), OPEN, page(count), *([back(item), OPEN, item] if count % 3 == 0 else [])]
-    frames += [SAVING, close(1), close(6), OPEN, OPEN, *(page(number) for number in range(MOST_SESSIONS) for _ in range(NAMES // 50 + 1))]
-    return frames
+        frames += [BEGIN, sliced(PIECE), *([SAVING] if count % 4 == 0 else [])]
+    frames += [sliced(LAST_NUMBER)] * (2 * LONG * (NAMES + UPDATED * ROUNDS) // MOST_SLICE)
+    frames += [SAVING, BEGIN, sliced(PIECE), close(1), close(6), OPEN, OPEN]
+    return [*frames, *(page(number) for number in range(MOST_SESSIONS) for _ in range(NAMES // 50 + 1))]
 
 
 def may_want(lister, item):
@@ -148,10 +157,10 @@ def may_want(lister, item):
     kind = item[:1]
     if kind == OPENING:
         return len(lister.sessions) < MOST_SESSIONS
+    if kind in (BEGINNING, SAVE):
+        return lister.save is None
     if kind not in IN_ITS_PLACE:
         return False
-    if kind == SAVE:
-        return True
     before = lister.store.index.copy()
     told = lister.store.commanded(kind, item[5:])
     lister.store.index = before

@@ -1,4 +1,5 @@
-"""Runs of `list`: frames as a replay has them, and listing sessions, whose pages give the names of the chain that they were opened on.
+"""Runs of `list`: frames as a replay has them; listing sessions, whose pages give the names of the chain that they were opened on; and
+saves in slices (sliced_saves_model.py).
 
 It is written from docs/FORMATS.md and docs/RULES.md alone, and shares nothing with the code. A session is the list of the rows that
 are left of it, which are written down when it is opened: so no later block touches them.
@@ -9,12 +10,13 @@ import files_model
 from common import Run, reply
 from files_model import Store, Unopened, answered
 from images_model import name_text, number
+from sliced_saves_model import NONE_RUNS, RUNNING, SlicedSave
 
-from blocks import CLOSING, OPENING, PAGE, frame
+from blocks import BEGINNING, CLOSING, OPENING, PAGE, SAVE, SLICE, frame
 
-LENGTHS = {**files_model.LENGTHS, OPENING: (0, 0), PAGE: (4, 4), CLOSING: (4, 4)}
+LENGTHS = {**files_model.LENGTHS, OPENING: (0, 0), PAGE: (4, 4), CLOSING: (4, 4), BEGINNING: (0, 0), SLICE: (4, 4)}
 MOST_SESSIONS, MOST_ROWS = 8, 50
-TOO_MANY, NO_SESSION, NO_MEMORY = 31, 32, 0xFE
+MOST_SAVES, TOO_MANY, NO_SESSION, NO_MEMORY = 29, 31, 32, 0xFE
 OPEN = frame(OPENING, b"")
 
 
@@ -47,11 +49,12 @@ def rows_of(chain):
 
 
 class Lister:
-    """A store and its sessions: by their numbers, the rows that are left of each. Where memory was wanting for the map of the current
-    rows behind a connect, it has none from there on."""
+    """A store and its sessions: by their numbers, the rows that are left of each; and the sliced save that runs, or None. Where memory
+    was wanting behind a command for the map of the current rows, or for what a sliced save is begun from, it has none from there on."""
 
     def __init__(self, store, page):
-        self.store, self.page, self.sessions, self.has_map = store, page, {}, True
+        self.store, self.page, self.sessions, self.save = store, page, {}, None
+        self.has_map = self.has_mirror = True
 
     height = property(lambda self: self.store.height)
     tip = property(lambda self: self.store.tip)
@@ -62,6 +65,12 @@ class Lister:
         kind, payload = item[:1], item[5:]
         if kind == OPENING:
             return self.opened()
+        if kind == SLICE:
+            return self.sliced(int.from_bytes(payload, "little"))
+        if kind in (BEGINNING, SAVE) and self.save:
+            return reply(RUNNING)
+        if kind == BEGINNING:
+            return self.begun()
         if kind in (PAGE, CLOSING):
             asked = int.from_bytes(payload, "little")
             if asked not in self.sessions:
@@ -87,6 +96,22 @@ class Lister:
     def closed(self, asked):
         del self.sessions[asked]
         return reply(0)
+
+    def begun(self):
+        image = self.store.index.text()
+        refusal = self.store.refusal_of(image)
+        if not self.has_mirror and (refusal is None or refusal[0] != MOST_SAVES):
+            return reply(NO_MEMORY)
+        if refusal is None:
+            self.save = SlicedSave(self.store, image)
+        return refusal or reply(0)
+
+    def sliced(self, most):
+        if self.save is None:
+            return reply(NONE_RUNS)
+        told, runs_on = self.save.slice(most)
+        self.save = self.save if runs_on else None
+        return told
 
     def listed(self, given):
         """What a run over the bytes tells, and how it ends."""

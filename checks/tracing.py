@@ -9,6 +9,8 @@ from common import SECONDS, Run, program
 from stores import FILES
 
 CALL = re.compile(r"^(\w+)\((\d+|AT_FDCWD)<([^>]*)>")
+# The calls that change a file, or see to it that a change lasts; and the one that reads.
+CHANGES, READ = ("pwrite64", "fdatasync", "ftruncate"), "pread64"
 
 
 def traced(folder, words, given):
@@ -22,3 +24,14 @@ def traced(folder, words, given):
 
 def is_file(path):
     return pathlib.Path(path).name in FILES
+
+
+def changes_by_reply(calls):
+    """The calls that change a file in front of each reply, with the names of the files; and those behind the last reply."""
+    parts = [[]]
+    for name, number, path in calls:
+        if (name, number) == ("write", "1"):
+            parts.append([])
+        elif is_file(path) and name in CHANGES:
+            parts[-1].append((name, pathlib.Path(path).name))
+    return parts

@@ -1,8 +1,8 @@
 """The one thread that asks the program: frames strictly one after the other, those of blocks between those of readers.
 
-Behind each frame of the follower all readers' jobs that wait are done, of each user a few; and behind these the next frame of the
-follower. So a reader's job waits for one frame of a block at most, and blocks wait for a bounded number of jobs. What is to be asked
-beside blocks and readers belongs into `round`, in the same place.
+Behind each frame of the follower comes what is asked between, as a slice of a save, then all readers' jobs that wait are done, of each
+user a few; and behind these the next frame of the follower. So a reader's job waits for one frame of a block and one slice at most, and
+blocks wait for a bounded number of jobs.
 """
 import collections
 import threading
@@ -18,6 +18,8 @@ from .statuses import Over
 SHARE = 4
 # Where more jobs than this wait, those that were dropped meanwhile are let go of: there are fewer connections than that.
 MOST_JOBS = 128
+# A record in the program's files has so many bytes more than the frame of its command.
+AROUND = 1
 
 
 class Tip(typing.NamedTuple):
@@ -34,7 +36,7 @@ class Job:
 
 
 class Asker:
-    """`begin` is called with this object on the thread before all else and tells the tip; `between` now and then, and gives the
+    """`begin` is called with this object on the thread before all else and tells the tip; `between` in each round, and gives the
     seconds until it wants to be called again, or None."""
 
     def __init__(self, program, begin, between, fails, clock=time.monotonic):
@@ -43,7 +45,10 @@ class Asker:
         self.jobs = collections.deque()
         # The follower's frame, and its reply or what came in its place.
         self.frame = self.told = None
+        self.is_woken = False
         self.is_over, self.tip = False, None
+        # How many blocks have come and left, and what their frames take of the program's files.
+        self.commands = self.command_bytes = 0
         self.thread = threading.Thread(target=self.run, name="asking", daemon=True)
 
     def start(self):
@@ -66,6 +71,12 @@ class Asker:
                 self.jobs = collections.deque(it for it in self.jobs if not it.is_dropped)
             self.condition.notify_all()
 
+    def wake(self):
+        """There may be something to be asked between."""
+        with self.condition:
+            self.is_woken = True
+            self.condition.notify_all()
+
     def ask_for_follower(self, frame):
         """The reply to a frame of the follower, who waits for it."""
         with self.condition:
@@ -84,6 +95,7 @@ class Asker:
         reply = self.program.ask(frame)
         if frame[:1] in (CONNECT, DISCONNECT) and reply.code == ACCEPTED and len(reply.payload) == 36:
             self.tip = Tip(reply.number, reply.payload[4:])
+            self.commands, self.command_bytes = self.commands + 1, self.command_bytes + AROUND + len(frame)
         return reply
 
     def run(self):
@@ -103,11 +115,12 @@ class Asker:
         seconds = self.between()
         with self.condition:
             until = None if seconds is None else self.clock() + seconds
-            while not (self.jobs or self.frame or self.is_over):
+            while not (self.jobs or self.frame or self.is_over or self.is_woken):
                 if not self.condition.wait(None if until is None else max(0.0, until - self.clock())):
                     break
             if self.is_over:
                 return False
+            self.is_woken = False
             jobs = self.batch()
         for job in jobs:
             if not job.is_dropped:

@@ -15,6 +15,7 @@ from namecoin_feeder.following import Choices
 from namecoin_feeder.measures import HERE
 from namecoin_feeder.node import Node
 from namecoin_feeder.progress import Progress
+from namecoin_feeder.saves import EVERY
 from namecoin_feeder.troubles import Stop, Trouble
 
 from . import __version__
@@ -24,6 +25,7 @@ from .front import Front
 from .listings import Listings
 from .pages import refusal
 from .program import Program, ProgramEnded
+from .saving import Saving
 from .site import Site, tip_of
 from .statuses import INTERRUPTED, Over, Status
 
@@ -98,8 +100,8 @@ def words():
     add_node(parser.add_argument_group("where blocks come from"))
     group = parser.add_argument_group("how")
     add_following(group)
-    text = "have the program save its index behind so many blocks, during which it answers nobody; 0: never (%(default)s)"
-    group.add_argument("--save-every", metavar="BLOCKS", default=0, type=count, help=text)
+    text = "have the program save its index behind so many blocks, and once when it first stands at the tip; 0: never (%(default)s)"
+    group.add_argument("--save-every", metavar="BLOCKS", default=EVERY, type=count, help=text)
     text = "behind a refused block, or what else holds the following up, try again so much later; 0: end (%(default)s)"
     group.add_argument("--again", metavar="SECONDS", default=AGAIN, type=seconds, help=text)
     parser.add_argument("--version", action="version", version=f"%(prog)s {__version__}")
@@ -123,7 +125,8 @@ class Explorer:
         self.front = Front(given.port, self.answer, None, self.log.say)
         self.program = Program(given.program, given.rows, given.folder)
         self.asker = self.front.asker = Asker(self.program, self.begins, self.between, self.fails)
-        self.site = Site(self.asker, self.listings, self.news, self.node_height, self.log.say)
+        self.saving = Saving(given.save_every, given.folder, self.log.say)
+        self.site = Site(self.asker, self.listings, self.saving, self.news, self.node_height, self.log.say)
         self.asker.start()
         self.front.start(self.fails)
 
@@ -158,20 +161,27 @@ class Explorer:
         return tip
 
     def between(self):
-        return self.listings.close_idle(self.asker.ask)
+        times = [self.listings.close_idle(self.asker.ask), self.saving.turn(self.asker)]
+        return min((it for it in times if it is not None), default=None)
 
     # On the following thread
 
     def follow(self):
         given = self.given
         pauses = (min(SHORTEST_PAUSE, given.longest_pause), given.longest_pause, 0)
-        choices = Choices(False, given.every, given.deepest, given.base, given.unknown, given.again, given.save_every)
-        sleep = sleeper(self.ending)
+        # No whole saves: those in slices aren't the follower's.
+        choices = Choices(False, given.every, given.deepest, given.base, given.unknown, given.again, 0)
+        feed, sleep = ProgramFeed(self.asker.ask_for_follower), sleeper(self.ending)
         try:
-            self.follower = Following(self.node, ProgramFeed(self.asker.ask_for_follower), pauses, self.log, choices, time.monotonic, sleep)
+            self.follower = Following(self.node, feed, pauses, self.log, choices, time.monotonic, sleep, self.at_tip)
             self.follower.follow()
         except BaseException as fault:
             self.fails(fault)
+
+    def at_tip(self):
+        if not self.saving.is_at_tip:
+            self.saving.is_at_tip = True
+            self.asker.wake()
 
     # On the main thread
 

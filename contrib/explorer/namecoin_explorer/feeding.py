@@ -52,16 +52,21 @@ class Told(Pauses):
 
 
 class Following(Follower):
-    """The feeder's follower; `news` is read by other threads, and is replaced as a whole."""
+    """The feeder's follower; `news` is read by other threads, and is replaced as a whole. `at_tip` is called whenever the program stands
+    at the node's tip."""
 
-    def __init__(self, source, server, pauses, progress, choices, clock, sleep):
-        self.news = News()
+    def __init__(self, source, server, pauses, progress, choices, clock, sleep, at_tip):
+        self.news, self.at_tip = News(), at_tip
         made = Told(self, *pauses, progress.say, clock, sleep)
         super().__init__(source, server, made, progress, choices, clock, sleep)
 
     def went_well(self):
         super().went_well()
         self.news = News(heard=self.clock())
+
+    def is_level(self, best):
+        self.at_tip()
+        super().is_level(best)
 
     def wait(self, why):
         self.news = self.news._replace(trouble=why)

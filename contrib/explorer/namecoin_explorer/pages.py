@@ -123,12 +123,13 @@ def hash_of(hash):
 
 # The tip
 
-def tip_page(frame, tip, node, open_listings, most_listings):
+def tip_page(frame, tip, node, open_listings, most_listings, saves):
     rows = (
         ("Height", f"{tip.height:,}"),
         ("Block", hash_of(tip.hash)),
         ("The node", words_of(node)),
         ("Listings that are read", f"{open_listings} of {most_listings}"),
+        ("Saves of the index", words_of(saves)),
     )
     table = "".join(f"<tr><th scope=row>{name}</th><td>{text}</td></tr>" for name, text in rows)
     main = f"""<h1>The chain stands at height {tip.height:,}</h1><table class=facts>{table}</table>

@@ -18,6 +18,7 @@ ENDING = 30.0
 HINTS = {
     2: "does this program know `list`?",
     3: "make the files first, in that folder, by `init` or `init-from`; where they are damaged, copy a backup back",
+    4: "does this program know saves in slices? `--save-every 0` asks for none",
     5: "has another program the files, or is the disk full? In that folder `dump`, at a terminal, tells the cause",
     8: "it wants more memory for these files",
 }

@@ -47,15 +47,16 @@ def tip_of(asker):
 class Site:
     """`news` gives what is told of the node, `node_height` its height; `say` tells the operator."""
 
-    def __init__(self, asker, listings, news, node_height, say, clock=time.monotonic):
-        self.asker, self.listings, self.news, self.node_height, self.say, self.clock = asker, listings, news, node_height, say, clock
+    def __init__(self, asker, listings, saving, news, node_height, say, clock=time.monotonic):
+        self.asker, self.listings, self.saving = asker, listings, saving
+        self.news, self.node_height, self.say, self.clock = news, node_height, say, clock
         # No want of memory is told before this moment.
         self.quiet_until = clock()
 
     def answer(self, request):
         """The response to a request."""
         if request.path == pages.TIP:
-            return pages.tip_page(self.frame(), self.asker.tip, self.node(), len(self.listings.open), MOST_OPEN)
+            return pages.tip_page(self.frame(), self.asker.tip, self.node(), len(self.listings.open), MOST_OPEN, self.saving.told())
         if request.path == pages.ASK:
             return self.asked(request)
         if request.path == pages.NAMES:

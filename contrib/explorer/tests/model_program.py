@@ -15,7 +15,7 @@ TOP = pathlib.Path(__file__).resolve().parents[3]
 for folder in (TOP / "bench", TOP / "checks"):
     sys.path.insert(0, str(folder))
 
-from blocks import CONNECT, DISCONNECT, SAVE
+from blocks import BEGINNING, CONNECT, DISCONNECT, SAVE, SLICE
 from common import BAD_WORDS, reply
 from files_model import Store, Unopened, made
 from listings_model import LENGTHS, MOST_ROWS, Lister
@@ -23,6 +23,8 @@ from stores import files_of, write_files
 
 BAD_FRAME, NOT_OPENED, DISK_FAULT, DISK_FAILED = 4, 3, 5, 0xFD
 FAULT = "fault"
+# What may change the files.
+CHANGING = (CONNECT, DISCONNECT, SAVE, BEGINNING, SLICE)
 
 
 def initialised(folder, hash, height=0):
@@ -60,7 +62,7 @@ def answered(lister, frame):
     elif fault is not None:
         return bytes.fromhex(fault)
     told = lister.answer(frame)
-    if told[0] == 0 and frame[:1] in (CONNECT, DISCONNECT, SAVE):
+    if told[0] == 0 and frame[:1] in CHANGING:
         write_files(pathlib.Path("."), lister.store.files)
     return told
 

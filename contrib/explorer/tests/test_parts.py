@@ -9,6 +9,7 @@ import socket
 import struct
 import subprocess
 import sys
+import tempfile
 import threading
 import time
 import types
@@ -20,9 +21,11 @@ from common import HERE
 from namecoin_explorer import dns, texts
 from namecoin_explorer.asking import SHARE, Asker, Job, Tip
 from namecoin_explorer.front import Front
+from namecoin_explorer.saving import BEGIN, SLICE, Saving, image_length
 from namecoin_explorer.listings import CLOSE, IDLE, MOST_OPEN, NINTH, OPEN, PAGE, BadPage, Closed, Listings, Row, page_of
 from namecoin_explorer.users import TABLE, users_in, users_of
 from namecoin_feeder.replies import Reply as Told
+from namecoin_feeder.saves import FIRST_PAUSE, LONGEST_PAUSE, MOST_BYTES, REST
 
 BLOCK = b"\x01block"
 
@@ -41,9 +44,9 @@ class Slow:
 
 
 class Asking(unittest.TestCase):
-    def asker(self, program):
+    def asker(self, program, between=lambda: None):
         faults = []
-        asker = Asker(program, lambda _: Tip(0, bytes(32)), lambda: None, faults.append)
+        asker = Asker(program, lambda _: Tip(0, bytes(32)), between, faults.append)
         self.addCleanup(lambda: self.assertEqual((asker.end(10), faults), (True, [])))
         return asker
 
@@ -86,6 +89,45 @@ class Asking(unittest.TestCase):
         thread.join()
         self.assertLessEqual(max(done), 1)
         self.assertGreater(program.frames.count(BLOCK), 3)
+
+    def test_one_slice_between(self):
+        """Slices follow each other where nothing waits; a job waits for one of them at most, and so does a block."""
+        program, chance, waits, most = Slow(), random.Random(2), [], 400
+
+        def between():
+            if program.frames.count(SLICE) == most:
+                return None
+            time.sleep(0.001)
+            asker.ask(SLICE)
+            return 0.0
+
+        asker = self.asker(program, between)
+        asker.start()
+        for number in range(100):
+            with asker.condition:
+                # While this is held no job can be chosen, but a slice may be on its way, which is noted.
+                begun = len(program.frames)
+                asker.add(Job(number, lambda begun=begun: waits.append(program.frames[begun:].count(SLICE)), lambda _: None))
+            if number % 10 == 0:
+                begun = len(program.frames)
+                asker.ask_for_follower(BLOCK)
+                # One may be under way that isn't noted yet when the block comes.
+                self.assertLessEqual(program.frames[begun:].count(SLICE), 2)
+            time.sleep(chance.choice((0, 0, 0.003)))
+        while len(waits) < 100 or program.frames.count(SLICE) < most:
+            time.sleep(0.01)
+        self.assertLessEqual(max(waits), 1)
+        self.assertEqual(program.frames.count(BLOCK), 10)
+
+    def test_woken(self):
+        """What may be asked between is looked at again where that is told, though nobody asks."""
+        looked = []
+        asker = self.asker(Slow(), lambda: looked.append(1))
+        asker.start()
+        for count in (1, 2, 3):
+            while len(looked) < count:
+                time.sleep(0.001)
+            asker.wake()
 
     def test_readers_first(self):
         """A job that waits is done before the frame of a block that waits too."""
@@ -203,6 +245,137 @@ class Places(unittest.TestCase):
         for number in range(2000):
             self.begin(number % 3)
         self.assertEqual((len(self.listings.open), len(self.listings.closed)), (8, 256))
+
+
+class Due(unittest.TestCase):
+    """When saves are begun, by a clock that stands still, and a program that answers as it is told to."""
+
+    def setUp(self):
+        self.now, self.replies, self.asked, self.lines = 1000.0, [], [], []
+        self.asker = types.SimpleNamespace(ask=self.ask, commands=0, command_bytes=0, tip=Tip(7, bytes(32)))
+        self.saving = Saving(10, pathlib.Path("/nowhere"), self.lines.append, lambda: self.now)
+
+    def ask(self, frame):
+        self.asked.append(frame[:1])
+        return Told(*self.replies.pop(0))
+
+    def turn(self, *replies):
+        """A turn in which the program gives these replies; the seconds until the next one."""
+        self.replies += replies
+        seconds = self.saving.turn(self.asker)
+        self.assertEqual(self.replies, [])
+        return seconds
+
+    def comes(self, blocks, size=100):
+        self.asker.commands += blocks
+        self.asker.command_bytes += blocks * size
+
+    def is_made(self, number=1, seconds=0.0):
+        """A save of two slices, the first turn of which is due now."""
+        self.assertEqual(self.turn((0, b"")), 0.0)
+        self.assertEqual(self.turn((0, b"\0")), 0.0)
+        self.now += seconds
+        return self.turn((0, b"\1" + struct.pack("<Q", number)))
+
+    def test_behind_blocks(self):
+        self.comes(9)
+        self.assertIsNone(self.turn())
+        self.comes(1)
+        self.assertIsNone(self.is_made())
+        self.assertEqual(self.asked, [BEGIN, SLICE, SLICE])
+        self.comes(9)
+        self.assertIsNone(self.turn())
+        self.assertIn("save 1, of height 7, was done 0 s ago", self.saving.told())
+
+    def test_behind_bytes(self):
+        self.comes(1, MOST_BYTES - 1)
+        self.assertIsNone(self.turn())
+        self.comes(1, 1)
+        self.is_made()
+
+    def test_at_the_tip(self):
+        """Once, where something came; behind it as many blocks count as ever."""
+        self.saving.is_at_tip = True
+        self.assertIsNone(self.turn())
+        self.comes(3)
+        self.assertIsNone(self.turn())
+        self.setUp()
+        self.comes(3)
+        self.saving.is_at_tip = True
+        self.is_made()
+        self.comes(3)
+        self.assertIsNone(self.turn())
+
+    def test_what_comes_while_it_is_written(self):
+        """It counts for the next one."""
+        self.comes(10)
+        self.turn((0, b""))
+        self.comes(10)
+        self.turn((0, b"\1" + bytes(8)))
+        self.is_made()
+
+    def test_rest(self):
+        """None is begun for a while behind one that took long."""
+        self.comes(10)
+        self.is_made(seconds=3.0)
+        self.comes(10)
+        self.assertEqual(self.turn(), 3.0 * REST)
+        self.now += 3.0 * REST
+        self.is_made()
+
+    def test_pauses(self):
+        """Behind one that fails there is a pause, which doubles; each is told, and none is asked for before."""
+        self.comes(10)
+        pauses, ways = [], ([(0xFE, b"")], [(0, b""), (34, b"")], [(0, b""), (35, b"")], [(0, b""), (0, b"\0"), (35, b"")])
+        for number in range(8):
+            way = ways[number % len(ways)]
+            for reply in way:
+                pauses.append(self.turn(reply))
+            pauses = [it for it in pauses if it]
+            self.assertEqual((len(pauses), len(self.lines)), (number + 1, number + 1))
+            self.now += pauses[-1] / 2
+            self.assertEqual(self.turn(), pauses[-1] / 2)
+            self.assertIn("the last one failed: ", self.saving.told())
+            self.now += pauses[-1] / 2
+        self.assertEqual(pauses, [min(FIRST_PAUSE * 2**number, LONGEST_PAUSE) for number in range(8)])
+        self.is_made()
+        self.assertNotIn("failed", self.saving.told())
+        self.comes(10)
+        self.assertEqual(self.turn((0xFE, b"")), FIRST_PAUSE)
+
+    def test_no_more(self):
+        for code in (29, 30):
+            self.setUp()
+            self.comes(10)
+            self.assertIsNone(self.turn((code, b"")))
+            self.comes(1000)
+            self.assertIsNone(self.turn())
+            self.assertEqual((len(self.lines), f"no saves are made: code {code}" in self.saving.told()), (1, True))
+        never = Saving(0, pathlib.Path("/nowhere"), self.lines.append, lambda: self.now)
+        never.is_at_tip = True
+        self.assertIsNone(never.turn(self.asker))
+
+    def test_how_far(self):
+        """By the file, where it has just been begun; by the slices alone where that can't be read."""
+        with tempfile.TemporaryDirectory() as room:
+            folder = pathlib.Path(room)
+            self.assertIsNone(image_length(folder))
+            (folder / "nmc.1").write_bytes(bytes(9))
+            (folder / "nmc.2").write_bytes((100_000).to_bytes(8, "little"))
+            self.assertEqual(image_length(folder), 100_000)
+            self.saving.folder = folder
+            self.comes(10)
+            self.turn((0, b""))
+            self.assertIn("0 bytes of the 100,000 of the image", self.saving.told())
+            self.turn((0, b"\0"))
+            self.assertIn("of height 7: 65,536 bytes of the 100,000 of the image", self.saving.told())
+            self.turn((0, b"\0"))
+            self.assertIn("the blocks that came meanwhile follow", self.saving.told())
+        self.setUp()
+        self.comes(10)
+        self.turn((0, b""))
+        self.turn((0, b"\0"))
+        self.assertIn("65,536 bytes are in the file, of a length that isn't known", self.saving.told())
 
 
 class PagesOfTheProgram(unittest.TestCase):

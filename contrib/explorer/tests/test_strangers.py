@@ -155,6 +155,10 @@ class Strangers(Case):
         told = request(self.port, "/answer?name=%3Cscript%3Ealert(1)%3C/script%3E&type=A")
         self.assertEqual((told.status, "<script" in told.html, "<script>alert(1)</script>.bit" in told.text), (200, False, True))
 
+    def numbers(self):
+        """How many descriptors the explorer has."""
+        return len(os.listdir(f"/proc/{self.run_.run.pid}/fd"))
+
     def test_idle_connections(self):
         """Many that send nothing or a part, or take nothing: others read all the same, and blocks come."""
         with contextlib.ExitStack() as held:
@@ -165,8 +169,8 @@ class Strangers(Case):
                     line.sendall((b"", b"GET / HT", b"GET / HTTP/1.1\r\n" + GOOD, b"GET / HTTP/1.1\r\n" + GOOD + b"\r\n")[number % 4])
                     lines.append(line)
             self.assertEqual(len(lines), 200)
-            held_there = len(os.listdir(f"/proc/{self.run_.run.pid}/fd"))
-            self.assertTrue(front.MOST_LINES <= held_there <= front.MOST_LINES + 20, held_there)
+            self.run_.waits_for("its connections", lambda: self.numbers() >= front.MOST_LINES)
+            self.assertLessEqual(self.numbers(), front.MOST_LINES + 20)
             path = self.run_.begin()
             self.assertEqual(self.run_.get(path).status, 200)
             self.node.move(self.chains.grow(self.node.tip, 5))

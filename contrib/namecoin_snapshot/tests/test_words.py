@@ -3,7 +3,6 @@ import contextlib
 import io
 import os
 import pathlib
-import re
 
 from . import FEEDER, SNAPSHOT
 from .case import Case, Status, unittest
