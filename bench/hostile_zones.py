@@ -11,11 +11,15 @@ import typing
 
 A, TXT = 1, 16
 LONGEST_VALUE = 1023
+# So many bytes of JSON are held for one message: of the values that are read, and of the entries that are taken out of them.
+MOST_HELD = 65_536
 MOST_LABELS = 100
 # So many labels, no two of which are the same, are as long as a name may be.
 MOST_DIFFERENT = 90
 # Items that would end a way, of no shape that they may have.
 NO_END = {"ns": 5, "translate": 5}
+# What the rows are told by whose nodes have as many sources as there may be, which differ or all have each label.
+MANY = "many sources"
 # How many names import one another, and how many do so where more are met than may be read for one message.
 WIDE, WHOLE = 1000, 6000
 
@@ -27,6 +31,7 @@ class Row(typing.NamedTuple):
     names: dict
     name: str
     code: int
+    kind: int = A
 
 
 def text_of(value):
@@ -140,9 +145,217 @@ def web(count):
     return {**names, "d/x": names["d/w0"]}
 
 
+def deep_members(room, deepest=110):
+    """Maps in one another, which take most memory for their bytes, in so many bytes at most: a member has so many levels at most."""
+    found, number = [], 0
+    while room > 20:
+        levels = min(deepest, (room - 8) // 5)
+        found.append(f'"{number}":' + '{"":' * levels + "0" + "}" * levels)
+        room -= len(found[-1]) + 1
+        number += 1
+    return ",".join(found)
+
+
+def with_members(head):
+    """The value that begins so, filled up with maps in one another."""
+    return f"{head},{deep_members(LONGEST_VALUE - len(head) - 2)}}}".encode()
+
+
+def some_of(chance, names, count=8):
+    """So many imports of these names by chance."""
+    return [[chance.choice(names)] for _ in range(count)]
+
+
+def deep_web(count):
+    """So many names that import eight of one another by chance, at the top and below each label; the rest are maps in one another."""
+    chance, names = random.Random(count), [f"d/w{number}" for number in range(count)]
+    found = {}
+    for name in names:
+        here, under = some_of(chance, names), some_of(chance, names)
+        head = json.dumps({"import": here, "map": {"*": {"import": under}}}, separators=(",", ":"))[:-1]
+        found[name] = with_members(head)
+    return {**found, "d/x": found["d/w0"]}
+
+
+def fat_web(count, levels):
+    """So many names that import eight of one another by chance, whose values have so many labels above one another, and maps in one
+    another below them: each step down takes these out again."""
+    chance, names = random.Random(count), [f"d/w{number}" for number in range(count)]
+    found = {}
+    for name in names:
+        head = '{"import":' + text_of(some_of(chance, names)).decode() + ',"map":{"*":' + '{"map":{"*":' * (levels - 1)
+        tail = "}}" * levels + "}"
+        # All of it has 127 levels at most, or it isn't read.
+        inner = deep_members(LONGEST_VALUE - len(head) - len(tail) - 2, 115 - 2 * levels)
+        found[name] = f"{head}{{{inner}}}{tail[1:]}".encode()
+    return {**found, "d/x": found["d/w0"]}
+
+
+def memory():
+    """Names that are made for memory: more would have to be held than may be."""
+    for count in (200, 1000, 1900, 2500):
+        yield Row(f"maps in one another, {count} names", deep_web(count), below(MOST_LABELS), 2, TXT)
+    for count, levels in ((60, 25), (256, 25), (256, 12)):
+        yield Row(f"fat entries, {count} names, {levels} labels", fat_web(count, levels), below(levels), 2, TXT)
+
+
+def by_chance(count, seed=1):
+    """So many names that import eight of one another by chance, and eight that import themselves first and seven of these, with an
+    alias below the next: each object is asked for each label, by ways that differ."""
+    chance, names, found = random.Random(seed), [f"d/b{number}" for number in range(count)], {}
+    for name in names:
+        found[name] = padded({"import": some_of(chance, names), "map": {"*": {"import": some_of(chance, names)}}, **NO_END})
+    for hop in range(8):
+        own = [[f"d/x{hop}"]]
+        here, under = own + some_of(chance, names, 7), own + some_of(chance, names, 7)
+        more = {"import": under, "alias": different(f"x{hop + 1}.bit.")}
+        found[f"d/x{hop}"] = padded({"import": here, "map": {"*": more}, **NO_END})
+    return found
+
+
+def chances():
+    """Imports in an order by chance."""
+    yield Row("28 names by chance", by_chance(20), different("x0.bit."), 0)
+    yield Row("100 names by chance", by_chance(92), different("x0.bit."), 2)
+
+
+def tree():
+    """The names of 256 objects that differ, the first eight of which are imported: all in the order in which imports lead to them."""
+    leaves, chance = [f"d/e{number}" for number in range(184)], random.Random(3)
+    inner = {f"d/c{number}": leaves[number * 3 : number * 3 + 3] for number in range(64)}
+    outer = {f"d/b{number}": list(inner)[number * 8 : number * 8 + 8] for number in range(8)}
+    return chance, outer, inner, leaves
+
+
+def labels_by_chance(chance, room):
+    """Entries of a map without items, in so many bytes, under labels of three letters by chance."""
+    texts = {"".join(chance.choices(string.ascii_lowercase, k=3)) for _ in range(room // 9)}
+    return {text: {} for text in sorted(texts)}
+
+
+def alike(entries, asked):
+    """A node of 256 objects that differ, each with a map of such entries: each is asked for each of these labels, on each of eight hops."""
+    _, outer, inner, leaves = tree()
+    found = {leaf: {"map": entries()} for leaf in leaves}
+    for name, below_it in {**inner, **outer}.items():
+        found[name] = {"import": [[it] for it in below_it], "map": entries()}
+    tops = [[name] for name in outer]
+    for hop in range(8):
+        more = {"import": [[f"d/x{hop}"], *tops[:7]], "alias": asked(f"x{hop + 1}.bit.")}
+        found[f"d/x{hop}"] = {"import": tops, "map": {"*": more}}
+    return found
+
+
+def by_size(size):
+    """The maps have so many bytes, and no label that is asked."""
+    chance, *_ = tree()
+    return alike(lambda: labels_by_chance(chance, size), different)
+
+
+def hollow(labels=32):
+    """The maps have so many of the labels that are asked, and no object under any."""
+    asked = different("").split(".")[:labels]
+    return alike(lambda: dict.fromkeys(asked, 0), different)
+
+
+# Labels that begin by these, and go on alike, have one number.
+ONE_NUMBER = "agaoaaoab", "baoaaoaga"
+
+
+def of_one_number(front, top="", labels=22):
+    """As many labels as there may be that begin so, no two of which are the same."""
+    return "".join(f"{front}{last}." for last in string.ascii_lowercase[:labels]) + top
+
+
+def mistaken(labels=10):
+    """The maps have labels with the numbers of so many of those that are asked."""
+    held, asked = ONE_NUMBER
+    there = of_one_number(held, labels=labels).split(".")[:-1]
+    return alike(lambda: {label: {} for label in there}, lambda top: of_one_number(asked, top))
+
+
+def joined_name(hop):
+    """The name below a hop's top under whose first label the next one's stands."""
+    return ".".join([f"z{hop}9", *different("").split(".")[: MOST_DIFFERENT - 2]]) + f".x{hop}.bit."
+
+
+def joined(places=3, times=2, beside=()):
+    """Entries under each of 90 labels, in so many names, each of which imports all of them again, so many times: each label of a
+    question is found in many sources, on each of eight hops. Other names may be imported before them."""
+    asked, ends = different("").split(".")[:MOST_DIFFERENT], [f"d/q{number}" for number in range(3)]
+    all_of_it = [[name] for name in [*beside, *ends, *(f"d/o{number}" for number in range(places))]]
+    found = {"d/r": {"import": all_of_it, "map": {f"k{number}k": {} for number in range(60)}}}
+    for number in range(places):
+        found[f"d/o{number}"] = {"map": {label: {"import": [["d/r"]] * times} for label in asked[number::places]}}
+    for number, name in enumerate(ends):
+        found[name] = {"map": {f"z{hop}9": {"alias": joined_name(hop + 1)} for hop in range(number, 8, 3)}}
+    for hop in range(8):
+        found[f"d/x{hop}"] = {"import": [["d/r"]] * 8}
+    return found
+
+
+def spread(count=56):
+    """Entries under each of 90 labels, in so many names more, which are imported twice and give one source each: half of all sources have
+    each label, and the other half were found so."""
+    asked, leaves = different("").split(".")[:MOST_DIFFERENT], [f"d/e{number}" for number in range(count)]
+    found = {leaf: {"map": {label: {} for label in asked}} for leaf in leaves}
+    inner = {f"d/c{number}": {"import": [[leaf] for leaf in leaves[number::8]]} for number in range(8)}
+    outer = dict.fromkeys(("d/t", "d/u"), {"import": [[name] for name in inner]})
+    return {**joined(times=1, beside=outer), **found, **inner, **outer}
+
+
+def many():
+    """Nodes of as many sources as there may be: no two of them are the same, and no label is found; or a few come again and again, and
+    each label is found in many."""
+    for size in (0, 200):
+        yield Row(f"maps of {size} bytes in {MANY}", by_size(size), different("x0.bit."), 0)
+    yield Row(f"labels without an object in {MANY}", hollow(), different("x0.bit."), 0)
+    yield Row(f"labels of one number in {MANY}", mistaken(), of_one_number(ONE_NUMBER[1], "x0.bit."), 0)
+    yield Row(f"each label in {MANY}", joined(), joined_name(0), 0)
+    yield Row(f"each label in {MANY}, an entry in each", spread(), joined_name(0), 0)
+
+
+def of_size(value, size, levels=1):
+    """The value, filled up to so many bytes by maps of so many levels and a text."""
+    nested, text = '"%d":' + '{"":' * levels + "0" + "}" * levels, '"p":"%s"'
+    found, room = [text_of(value).decode()[1:-1]] if value else [], size - len(text_of(value)) - len(text % ",")
+    while len(more := nested % len(found)) + 1 <= room:
+        found.append(more)
+        room -= len(more) + 1
+    whole = "{" + ",".join([*found, text]) + "}"
+    return (whole % ("." * (size - len(whole) + 2))).encode()
+
+
+def whole(left, levels, more=()):
+    """66 names that are all read for one of them, whose values leave so many of the bytes that may be held."""
+    names = [f"d/c{number}" for number in range(57)]
+    sizes = [LONGEST_VALUE] * 63
+    rest = MOST_HELD - left - sum(sizes)
+    values = {"d/x": {"import": [[f"d/b{number}"] for number in range(8)], **dict(more)}}
+    for number in range(8):
+        values[f"d/b{number}"] = {"import": [[name] for name in names[number * 7 : number * 7 + (8 if number == 7 else 7)]]}
+    values.update(dict.fromkeys(names, {}))
+    sizes += [rest - rest // 3 * 2, rest // 3, rest // 3]
+    return {name: of_size(value, size, levels) for (name, value), size in zip(values.items(), sizes, strict=True)}
+
+
+# An entry, and how much JSON it is.
+ENTRY, ENTRY_SIZE = {"ip": "1.2.3.4"}, 16
+
+
+def bounds():
+    """Values that take the whole room, and a byte more; and an entry that takes the last of it, and a byte more."""
+    for levels in (1, 25, 100):
+        yield Row(f"the whole room, {levels} levels", whole(0, levels), "x.bit.", 0, TXT)
+        yield Row(f"a byte more, {levels} levels", whole(-1, levels), "x.bit.", 2, TXT)
+    asked = {"map": {"a": ENTRY}}
+    yield Row("an entry that takes the last of it", whole(ENTRY_SIZE, 1, asked.items()), "a.x.bit.", 0)
+    yield Row("an entry a byte too large", whole(ENTRY_SIZE - 1, 1, asked.items()), "a.x.bit.", 2)
+
+
 def wide():
     """Many names that import one another, and more than may be read for one message."""
-    yield Row(f"{WIDE} names", web(WIDE), below(MOST_LABELS), 0)
+    yield Row(f"{WIDE} names", web(WIDE), below(MOST_LABELS), 2)
     yield Row(f"{WHOLE} names", web(WHOLE), below(MOST_LABELS), 2)
 
 
@@ -151,3 +364,7 @@ def rows():
     yield from forms()
     yield from values()
     yield from wide()
+    yield from memory()
+    yield from chances()
+    yield from many()
+    yield from bounds()

@@ -1,0 +1,28 @@
+"""Numbers of ports that are free on this machine, for servers that are started a moment later."""
+import contextlib
+import pathlib
+import random
+import socket
+import sys
+
+HERE = "127.0.0.1"
+# Below those that the system gives to who asks for any, so that nobody gets one of them in between.
+PORTS = range(20_000, 32_768)
+
+
+def free_port(*kinds):
+    """A number that is free on this machine as a port of each of the kinds, `socket.SOCK_DGRAM` and `socket.SOCK_STREAM`."""
+    for number in random.sample(PORTS, len(PORTS)):
+        with contextlib.suppress(OSError), contextlib.ExitStack() as taken:
+            for kind in kinds:
+                taken.enter_context(socket.socket(socket.AF_INET, kind)).bind((HERE, number))
+            return number
+    sys.exit(f"{pathlib.Path(sys.argv[0]).name}: no port is free")
+
+
+def server_ports():
+    """Two numbers that are free for a server: that of its queries, over UDP and TCP, and that of its feed."""
+    queries = feed = free_port(socket.SOCK_DGRAM, socket.SOCK_STREAM)
+    while feed == queries:
+        feed = free_port(socket.SOCK_STREAM)
+    return queries, feed
