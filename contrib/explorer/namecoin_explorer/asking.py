@@ -37,10 +37,12 @@ class Job:
 
 class Asker:
     """`begin` is called with this object on the thread before all else and tells the tip; `between` in each round, and gives the
-    seconds until it wants to be called again, or None."""
+    seconds until it wants to be called again, or None; and `changed` behind each block that came or left, with its frame and the tip.
+    The tip is None as long as there is no program to be asked."""
 
-    def __init__(self, program, begin, between, fails, clock=time.monotonic):
+    def __init__(self, program, begin, between, fails, changed=None, clock=time.monotonic):
         self.program, self.begin, self.between, self.fails, self.clock = program, begin, between, fails, clock
+        self.changed = changed
         self.condition = threading.Condition()
         self.jobs = collections.deque()
         # The follower's frame, and its reply or what came in its place.
@@ -96,6 +98,8 @@ class Asker:
         if frame[:1] in (CONNECT, DISCONNECT) and reply.code == ACCEPTED and len(reply.payload) == 36:
             self.tip = Tip(reply.number, reply.payload[4:])
             self.commands, self.command_bytes = self.commands + 1, self.command_bytes + AROUND + len(frame)
+            if self.changed:
+                self.changed(frame, self.tip)
         return reply
 
     def run(self):
@@ -122,15 +126,26 @@ class Asker:
                 return False
             self.is_woken = False
             jobs = self.batch()
-        for job in jobs:
-            if not job.is_dropped:
-                job.give(job.work())
+        self.do(jobs)
         if self.frame is not None:
             told = self.ask(self.frame)
             with self.condition:
                 self.frame, self.told = None, told
                 self.condition.notify_all()
         return True
+
+    def serve(self):
+        """Does the jobs that wait while the program takes its time; they find no tip, and ask it nothing."""
+        with self.condition:
+            if self.is_over:
+                raise Over
+            jobs = self.batch()
+        self.do(jobs)
+
+    def do(self, jobs):
+        for job in jobs:
+            if not job.is_dropped:
+                job.give(job.work())
 
     def batch(self):
         """The jobs of this round, in the order of their coming: of each user a few."""

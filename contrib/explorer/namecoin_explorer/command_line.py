@@ -1,5 +1,6 @@
 """The words, what is made of them, and the exit status."""
 import argparse
+import contextlib
 import os
 import pathlib
 import queue
@@ -22,8 +23,9 @@ from . import __version__
 from .asking import Asker
 from .feeding import Following, News, ProgramFeed, sleeper
 from .front import Front
+from .keeping import FILE, Keeper, is_foreign
+from .layout import refusal
 from .listings import Listings
-from .pages import refusal
 from .program import Program, ProgramEnded
 from .saving import Saving
 from .site import Site, tip_of
@@ -60,11 +62,12 @@ class Log(Progress):
         self.lock = threading.RLock()
 
     def say(self, text):
-        with self.lock:
+        with self.lock, contextlib.suppress(OSError):
+            # A line that can't be told is let go of: nothing ends for it.
             super().say(text)
 
     def tell(self, now):
-        with self.lock:
+        with self.lock, contextlib.suppress(OSError):
             super().tell(now)
 
 
@@ -97,6 +100,8 @@ def words():
     group.add_argument("--folder", metavar="FOLDER", default=".", type=pathlib.Path, help=text)
     text = "the words that start it, as a shell takes them; `list` and the number of rows follow (%(default)s)"
     group.add_argument("--program", metavar="WORDS", default=PROGRAM, type=program, help=text)
+    text = f"where names are looked up: a file of SQLite, made anew at each start ({FILE} in that folder)"
+    group.add_argument("--names", metavar="FILE", type=pathlib.Path, help=text)
     add_node(parser.add_argument_group("where blocks come from"))
     group = parser.add_argument_group("how")
     add_following(group)
@@ -115,20 +120,22 @@ class Explorer:
         self.given, self.log = given, log
         self.events, self.ending = queue.SimpleQueue(), threading.Event()
         self.node = Node(given.node, credentials(given), given.timeout)
-        self.front = self.program = self.asker = self.follower = None
+        self.front = self.asker = self.follower = None
         self.faults = 0
 
     def open(self):
         given = self.given
+        if given.names and is_foreign(given.names):
+            raise Stop(Status.WORDS, f"{given.names} is there, and is no file of names: it isn't touched")
         self.listings = Listings(given.rows, given.idle)
         # The port first: where it can't be had, nothing else is begun.
         self.front = Front(given.port, self.answer, None, self.log.say)
-        self.program = Program(given.program, given.rows, given.folder)
-        self.asker = self.front.asker = Asker(self.program, self.begins, self.between, self.fails)
+        self.keeper = Keeper(given.program, given.folder, given.names or given.folder / FILE, self.log.say)
+        self.asker = self.front.asker = Asker(None, self.begins, self.between, self.fails, self.keeper.changed)
         self.saving = Saving(given.save_every, given.folder, self.log.say)
-        self.site = Site(self.asker, self.listings, self.saving, self.news, self.node_height, self.log.say)
-        self.asker.start()
+        self.site = Site(self.asker, self.listings, self.keeper, self.saving, self.news, self.node_height, self.log.say)
         self.front.start(self.fails)
+        self.asker.start()
 
     def answer(self, request):
         try:
@@ -154,15 +161,41 @@ class Explorer:
     # On the asking thread
 
     def begins(self, asker):
-        tip = tip_of(asker)
+        tip = self.opens(asker)
         where = f"the pages are at http://{HERE}:{self.front.port}/"
         self.log.say(f"{where}; the tip is at height {tip.height}; {self.given.folder.absolute()} has the files")
         threading.Thread(target=self.follow, name="following", daemon=True).start()
         return tip
 
+    def opens(self, asker):
+        """Has all names read, and the program started as soon as it may; pages are served meanwhile. The tip."""
+        self.keeper.read(asker.serve, self.start_program)
+        if asker.program is None:
+            self.start_program()
+        asker.program.meanwhile = asker.serve
+        tip = tip_of(asker)
+        asker.program.meanwhile = None
+        self.keeper.compare(tip)
+        return tip
+
+    def start_program(self):
+        self.asker.program = Program(self.given.program, self.given.rows, self.given.folder)
+
     def between(self):
-        times = [self.listings.close_idle(self.asker.ask), self.saving.turn(self.asker)]
+        if self.keeper.is_wanted():
+            self.begin_anew()
+        times = [self.listings.close_idle(self.asker.ask), self.saving.turn(self.asker), self.keeper.turn()]
         return min((it for it in times if it is not None), default=None)
+
+    def begin_anew(self):
+        """Has the names read anew, for which the program has to let go of its files: its listings and a save that runs are gone by that."""
+        self.log.say("the names are read anew: listings are closed, and the program is started anew behind that")
+        self.listings.forget()
+        self.saving.forget()
+        self.asker.tip = None
+        self.asker.program.close()
+        self.asker.program = None
+        self.asker.tip = self.opens(self.asker)
 
     # On the following thread
 
@@ -212,13 +245,22 @@ class Explorer:
             signal.signal(number, signal.SIG_DFL)
         if self.front is not None:
             self.front.end(ENDING)
-        if self.asker is not None and not self.asker.end(ENDING):
-            self.log.say("the program hasn't answered its last frame: it is killed")
-            self.program.run.kill()
-        if self.program is not None:
-            self.program.close()
+        if self.asker is not None:
+            self.end_program()
         self.node.close()
         self.log.end()
+
+
+    def end_program(self):
+        is_ended = self.asker.end(ENDING)
+        if not is_ended and self.asker.program is not None:
+            self.log.say("the program hasn't answered its last frame: it is killed")
+            self.asker.program.run.kill()
+            is_ended = self.asker.end(ENDING)
+        if self.asker.program is not None:
+            self.asker.program.close()
+        if is_ended:
+            self.keeper.close()
 
 
 def main(arguments=None):

@@ -7,6 +7,8 @@ TYPES = {
     **{"A": 1, "AAAA": 28, "TXT": 16, "NS": 2, "CNAME": 5, "MX": 15, "SRV": 33, "DNAME": 39, "DS": 43, "SSHFP": 44, "TLSA": 52},
     **{"SOA": 6, "ANY": 255},
 }
+# The kind of a frame that asks a query.
+QUERY = b"\x03"
 NAMES = {number: name for name, number in TYPES.items()}
 IN, OPT, RECURSION, TRUNCATED, OURS = 1, 41, 0x0100, 0x0200, 0x0400
 LARGEST, LONGEST_LABEL, LONGEST_NAME = 1232, 63, 255

@@ -17,7 +17,7 @@ from namecoin_feeder.measures import HERE
 from namecoin_feeder.troubles import Stop
 
 from .asking import Job
-from .pages import PLAIN_HEADERS, Response, refusal
+from .layout import PLAIN_HEADERS, Response, refusal
 from .statuses import Status
 from .users import users_of
 

@@ -22,7 +22,7 @@ MOST_OPEN, MOST_PAGE_BYTES = 8, 64_305
 MOST_KEPT, MOST_CLOSED = 40, 256
 LONGEST_NAME, LONGEST_VALUE = 255, 1023
 # Why a listing is closed.
-NINTH, IDLE, ASKED = "ninth", "idle", "asked"
+NINTH, IDLE, ASKED, ANEW = "ninth", "idle", "asked", "anew"
 
 
 class Row(typing.NamedTuple):
@@ -82,7 +82,7 @@ class Listing:
 
 
 class Closed(Exception):
-    """The listing was closed; `why` is NINTH, IDLE or ASKED, or None where nothing is known of such a listing."""
+    """The listing was closed; `why` is NINTH, IDLE, ASKED or ANEW, or None where nothing is known of such a listing."""
 
     def __init__(self, why):
         super().__init__(why)
@@ -154,10 +154,18 @@ class Listings:
         reply = ask(frame(CLOSE, struct.pack("<I", listing.number)))
         if reply.code != ACCEPTED or reply.payload:
             raise unexpected(f"code {reply.code} to a closing, payload {reply.payload[:8].hex() or 'empty'}")
+        self.is_closed(listing, why)
+
+    def is_closed(self, listing, why):
         del self.open[listing.token]
         self.closed[listing.token] = why
         while len(self.closed) > MOST_CLOSED:
             self.closed.popitem(last=False)
+
+    def forget(self):
+        """The program is started anew: its sessions are gone."""
+        for listing in list(self.open.values()):
+            self.is_closed(listing, ANEW)
 
     def close_idle(self, ask):
         """Closes what nobody used for long. The seconds until the next may be due; None where none is open."""

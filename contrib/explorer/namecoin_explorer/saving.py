@@ -115,6 +115,11 @@ class Saving:
         self.counted, self.running = self.running.counted, None
         self.failed(why)
 
+    def forget(self):
+        """The program is started anew: a save that ran is gone with it."""
+        if self.running:
+            self.counted, self.running = self.running.counted, None
+
     def failed(self, why):
         """None is begun for a while: the longer, the more of them failed in a row."""
         pause, self.pause = self.pause, min(2 * self.pause, LONGEST_PAUSE)

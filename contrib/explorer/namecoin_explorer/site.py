@@ -1,4 +1,5 @@
 """Which page a request gets. All of it is done on the asking thread."""
+import html
 import re
 import time
 import urllib.parse
@@ -7,15 +8,16 @@ from namecoin_feeder.progress import spoken
 from namecoin_feeder.replies import ACCEPTED
 from namecoin_feeder.server import frame
 
-from . import dns, pages
+from . import dns, glance, layout, pages, resolving
 from .asking import Tip
+from .dns import QUERY
 from .feeding import ProgramFeed
-from .listings import IDLE, MOST_KEPT, MOST_OPEN, NINTH, Closed, NoMemory
+from .finding import Finder
+from .layout import Frame, goes_to, told
+from .listings import ANEW, ASKED, IDLE, MOST_KEPT, MOST_OPEN, NINTH, Closed, NoMemory
 from .program import unexpected
+from .wanted import domain_of, name_path
 
-QUERY = b"\x03"
-# A name of a domain, whose rest stands below bit.
-DOMAIN = re.compile(rb"d/([a-z0-9](?:[a-z0-9-]{0,61}[a-z0-9])?)")
 LISTING = re.compile(r"/names/([A-Za-z0-9_-]{22})(?:/([1-9][0-9]{0,9}|end)(?:/([1-9][0-9]?))?)?")
 MOST_FIELDS = 4
 # Seconds from one line on want of memory to the next.
@@ -26,7 +28,8 @@ CLOSED = {
         f"At most {MOST_OPEN} listings are open at a time. Another reader began one, and yours was the one that was unused for the longest time.",
     ),
     IDLE: ("Your listing was closed", "Nobody had used it for a while."),
-    "asked": ("Your listing was ended", "You, or somebody with its address, ended it."),
+    ASKED: ("Your listing was ended", "You, or somebody with its address, ended it."),
+    ANEW: ("Your listing was closed", "The names had to be read anew, for which the program was started anew: its listings are gone by that."),
     None: ("There is no such listing", "It was closed some time ago, belongs to an earlier run, or its address isn't whole."),
 }
 
@@ -47,25 +50,40 @@ def tip_of(asker):
 class Site:
     """`news` gives what is told of the node, `node_height` its height; `say` tells the operator."""
 
-    def __init__(self, asker, listings, saving, news, node_height, say, clock=time.monotonic):
-        self.asker, self.listings, self.saving = asker, listings, saving
+    def __init__(self, asker, listings, keeper, saving, news, node_height, say, clock=time.monotonic):
+        self.asker, self.listings, self.keeper, self.saving = asker, listings, keeper, saving
         self.news, self.node_height, self.say, self.clock = news, node_height, say, clock
+        self.finder = Finder(keeper, listings.rows, self.resolved)
         # No want of memory is told before this moment.
         self.quiet_until = clock()
 
     def answer(self, request):
         """The response to a request."""
-        if request.path == pages.TIP:
-            return pages.tip_page(self.frame(), self.asker.tip, self.node(), len(self.listings.open), MOST_OPEN, self.saving.told())
-        if request.path == pages.ASK:
+        if request.path == layout.FIND:
+            return self.finder.find(self.frame(), request.words)
+        if request.path.startswith(layout.NAME):
+            return self.finder.name(self.frame(), request.path, request.words)
+        if self.asker.tip is None:
+            return self.not_yet(request)
+        if request.path == layout.TIP:
+            return self.tip()
+        if request.path == layout.ASK:
             return self.asked(request)
-        if request.path == pages.NAMES:
+        if request.path == layout.NAMES:
             return pages.names_page(self.frame(), MOST_OPEN, MOST_KEPT, spoken(self.listings.idle))
-        if request.path == pages.NEW:
+        if request.path == layout.NEW:
             return self.begin(request)
         if parts := LISTING.fullmatch(request.path):
             return self.of_listing(request, *parts.groups())
-        return pages.told(self.frame(), 404, "There is no such page", "The pages are the tip, the names, and how a name is answered.")
+        return told(self.frame(), 404, "There is no such page", "The pages are the tip, the names, and how a name is answered.")
+
+    def not_yet(self, request):
+        """The program can't be asked yet."""
+        texts = [self.keeper.told() if self.keeper.is_reading else "The names are read, and the program is being started."]
+        if self.keeper.names is not None:
+            texts.append("Names can be found by the box meanwhile.")
+        status = 200 if request.path == layout.TIP else 503
+        return told(self.frame(), status, "The explorer is starting", *texts, "Try again in a while.", **{"Retry-After": "10"})
 
     def frame(self):
         """What stands on every page."""
@@ -73,7 +91,13 @@ class Site:
         if news.trouble:
             kind = "The following of blocks is held up" if news.is_held else "The node isn't followed just now"
             warning = f"{kind}: {news.trouble}. What is shown is the chain as it is known; it is tried again."
-        return pages.Frame(self.asker.tip, warning)
+        return Frame(self.asker.tip, warning)
+
+    def tip(self):
+        listings = f"{len(self.listings.open)} of {MOST_OPEN}"
+        shown = self.finder.found(self.frame(), glance.shown) if self.keeper.names is not None else None
+        at_once = shown if isinstance(shown, str) else f"<h2>Names</h2><p>{html.escape(self.keeper.told())}</p>"
+        return pages.tip_page(self.frame(), self.node(), listings, self.saving.told(), at_once)
 
     def node(self):
         news, height = self.news(), self.node_height()
@@ -82,6 +106,10 @@ class Site:
         heard = f"heard {spoken(max(0.0, self.clock() - news.heard))} ago"
         left = height - self.asker.tip.height if height is not None else 0
         return f"{heard}, at height {height:,}" + (f": {left:,} blocks are to come" if left > 0 else "") if height is not None else heard
+
+    def resolved(self, names, entry, domain):
+        """What a resolver gets for a domain, where the program can be asked."""
+        return resolving.shown(self.asker.ask, names, entry, domain) if self.asker.tip is not None else ""
 
     # Listings
 
@@ -97,9 +125,9 @@ class Site:
         except NoMemory:
             self.tell_of_memory()
             why = "The program is out of memory for one more listing. Try again in a while."
-            return pages.told(self.frame(), 503, "No listing can be begun now", why, again=True, **{"Retry-After": "60"})
+            return told(self.frame(), 503, "No listing can be begun now", why, again=True, **{"Retry-After": "60"})
         self.listings.turn(self.asker.ask, listing)
-        return pages.goes_to(pages.page_path(listing, 1))
+        return goes_to(pages.page_path(listing, 1))
 
     def tell_of_memory(self):
         if self.clock() >= self.quiet_until:
@@ -107,16 +135,16 @@ class Site:
             self.say("the program is out of memory for a listing (code FE); where that stays so, start the explorer anew, with more memory")
 
     def by_get(self):
-        return pages.told(self.frame(), 405, "A page is turned by GET alone", "HEAD turns none.", Allow="GET")
+        return told(self.frame(), 405, "A page is turned by GET alone", "HEAD turns none.", Allow="GET")
 
     def of_listing(self, request, token, number, place):
         try:
             listing = self.listings.find(token)
         except Closed as closed:
             title, why = CLOSED[closed.why]
-            return pages.told(self.frame(), 404 if closed.why is None else 410, title, why, again=True)
+            return told(self.frame(), 404 if closed.why is None else 410, title, why, again=True)
         if number is None:
-            return pages.goes_to(pages.page_path(listing, listing.turned))
+            return goes_to(pages.page_path(listing, listing.turned))
         if number == "end":
             return self.end(request, listing) if place is None else self.no_page(listing)
         return self.page(request, listing, int(number), place)
@@ -125,7 +153,7 @@ class Site:
         if request.method != "GET":
             return self.by_get()
         self.listings.close(self.asker.ask, listing, "asked")
-        return pages.told(self.frame(), 200, "Your listing is ended", "Its place is free for another reader.", again=True)
+        return told(self.frame(), 200, "Your listing is ended", "Its place is free for another reader.", again=True)
 
     def page(self, request, listing, number, place):
         if number == listing.turned + 1 and not listing.is_over and place is None:
@@ -136,19 +164,18 @@ class Site:
             return self.no_page(listing)
         if number not in listing.kept:
             why = f"Of each listing the newest {MOST_KEPT} pages are kept, and the oldest of yours is page {listing.oldest} now."
-            return pages.told(self.frame(), 410, f"Page {number} isn't kept any more", why, "A new listing begins with its first page.", again=True)
+            return told(self.frame(), 410, f"Page {number} isn't kept any more", why, "A new listing begins with its first page.", again=True)
         rows = self.listings.page(listing, number)
         if place is None:
             return pages.list_page(self.frame(), listing, number, rows, self.listings.rows)
         if int(place) > len(rows):
             return self.no_page(listing)
         row = rows[int(place) - 1]
-        domain = DOMAIN.fullmatch(row.name)
-        return pages.name_page(self.frame(), listing, number, row, domain and f"{domain[1].decode()}.bit")
+        return pages.name_page(self.frame(), listing, number, row, domain_of(row.name), name_path(row.name))
 
     def no_page(self, listing):
         why = f"Pages come one after the other, and the newest is page {listing.turned}" + (", the last." if listing.is_over else ".")
-        return pages.told(self.frame(), 404, "There is no such page of this listing", why)
+        return told(self.frame(), 404, "There is no such page of this listing", why)
 
     # Answers
 
@@ -173,5 +200,5 @@ class Site:
             answer = dns.answer_of(reply.payload) if reply.code == ACCEPTED else None
         except dns.BadReply:
             # Names are made by anybody, so what can't be read doesn't end the explorer.
-            return pages.told(self.frame(), 502, f"{asked} {type}", "The program's reply to this query can't be read here.")
+            return told(self.frame(), 502, f"{asked} {type}", "The program's reply to this query can't be read here.")
         return pages.answer_page(self.frame(), name, type, asked, answer)

@@ -1,6 +1,7 @@
 """Bytes of names and values as HTML: printable ASCII as it is, any other byte as \\xNN; and the items of a value."""
 import html
 import json
+import math
 import re
 import typing
 
@@ -64,17 +65,34 @@ def nests(data):
 
 
 def value_of(data):
-    """A value as JSON, an object as Pairs; None where it isn't JSON, or none that the program reads, since it nests too deep."""
+    """A value as JSON, an object as Pairs; None where it isn't JSON, or none that the program reads: since it nests too deep, has a
+    number that no float of 64 bits holds, or half a pair of surrogates."""
     if nests(data) > MOST_LEVELS:
         return None
     try:
-        return json.loads(data.decode("utf-8"), object_pairs_hook=Pairs, parse_constant=no_constant)
+        numbers = {"parse_int": whole, "parse_float": finite, "parse_constant": no_constant}
+        value = json.loads(data.decode("utf-8"), object_pairs_hook=Pairs, **numbers)
+        # Half a pair has no UTF-8.
+        json.dumps(value, ensure_ascii=False).encode("utf-8")
+        return value
     except (ValueError, RecursionError):
         return None
 
 
 def no_constant(name):
     raise ValueError(name)
+
+
+def finite(digits):
+    number = float(digits)
+    if math.isinf(number):
+        raise ValueError(digits)
+    return number
+
+
+def whole(digits):
+    finite(digits)
+    return int(digits)
 
 
 def laid_out(value, depth=0):

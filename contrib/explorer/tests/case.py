@@ -15,11 +15,12 @@ import threading
 import time
 import typing
 import unittest
+import urllib.parse
 
 from . import EXPLORER, FEEDER
 from .fed import Chains, FakeNode, first_out, name_of
 from .model_program import FAULT, initialised
-from blocks import FIRST, NEW, name_script, named, outpoint
+from blocks import FIRST, NEW, UPDATE, name_script, named, outpoint
 from common import HERE, free_port
 from digests import hash160
 from listings_model import rows_of
@@ -27,6 +28,8 @@ from model import Model
 from stores import PROGRAM
 
 SECONDS, MEMORY, MATURITY = 30, "/dev/shm", 12
+# Whatever is waited for comes within so many seconds, on a machine with much other work too.
+LONGEST = 240
 # The tests are run over a model, and where this variable says so over the built program.
 OVER, BUILT = "EXPLORER_OVER", "built"
 IS_BUILT = os.environ.get(OVER) == BUILT
@@ -58,7 +61,7 @@ class Page(typing.NamedTuple):
         return html.unescape(TAG.sub("", re.search(pattern, self.html, re.DOTALL)[1]))
 
     def names(self):
-        """The names of a listing's page, as they are shown."""
+        """The names of a page, as they are shown."""
         rows = re.findall(r'<tr><td><a href="[^"]*"><code>(.*?)</code></a>', self.html)
         return [html.unescape(TAG.sub("", it)) for it in rows]
 
@@ -76,6 +79,11 @@ def text_of(page):
 def as_shown(data):
     """Bytes as pages are to show them."""
     return "".join(chr(it) if 0x20 <= it < 0x7F else f"\\x{it:02x}" for it in data) or "empty"
+
+
+def finding(text, way="begin", **more):
+    """The address of the page on which names are found."""
+    return "/find?" + urllib.parse.urlencode({"name": text, "way": way, **more})
 
 
 def request(port, path, method="GET", headers=None, seconds=SECONDS):
@@ -100,14 +108,29 @@ def raw(port, data, seconds=SECONDS):
 
 
 class Named(Chains):
-    """Chains whose blocks may also open names of any bytes."""
+    """Chains whose blocks may also open and update names of any bytes. The last transaction of each such name is known."""
+
+    def __init__(self):
+        super().__init__()
+        self.last, self.commits = {}, 0
 
     def opening(self, tip, names):
         """A tip above that has these names with these values: committed to in one block, opened twelve blocks later."""
-        salt = b"salt"
-        commits = [named(outpoint(b"\xdd" * 28 + n.to_bytes(4, "little")), name_script(NEW, hash160(salt + it))) for n, it in enumerate(names)]
+        salt, commits = b"salt", []
+        for name in names:
+            self.commits += 1
+            commits.append(named(outpoint(b"\xdd" * 28 + self.commits.to_bytes(4, "little")), name_script(NEW, hash160(salt + name))))
         opens = [named(first_out(it), name_script(FIRST, name, salt, value)) for it, (name, value) in zip(commits, names.items())]
+        self.last.update(zip(names, opens))
         return self.add(self.grow(self.add(tip, commits), MATURITY - 1), opens)
+
+    def updating(self, tip, *changes):
+        """A block on a tip that gives names new values, one after the other; a name may come several times."""
+        updates = []
+        for name, value in changes:
+            self.last[name] = named(first_out(self.last[name]), name_script(UPDATE, name, value))
+            updates.append(self.last[name])
+        return self.add(tip, updates)
 
 
 class Explorer:
@@ -128,7 +151,7 @@ class Explorer:
             self.said.append(line.rstrip("\n"))
 
     def waits_for(self, what, holds):
-        until = time.monotonic() + SECONDS
+        until = time.monotonic() + LONGEST
         while not holds():
             if time.monotonic() > until or self.run.poll() is not None and not holds():
                 raise AssertionError(f"waited for {what}: {self.run.poll()}, {self.said}")
@@ -158,7 +181,7 @@ class Explorer:
 
     def ended(self):
         """Its status, where it ends by itself; and what it said."""
-        status = self.run.wait(SECONDS)
+        status = self.run.wait(LONGEST)
         self.listener.join(SECONDS)
         return status, "\n".join(self.said)
 
@@ -167,11 +190,35 @@ class Explorer:
             self.run.send_signal(number)
         return self.ended()
 
+    def children(self):
+        """The processes that it has started."""
+        found = [path.read_text().split() for path in pathlib.Path(f"/proc/{self.run.pid}/task").glob("*/children")]
+        return [int(number) for numbers in found for number in numbers]
+
     def kill(self):
+        """Kills it, and waits until what it has started is over too, and has let go of the program's files."""
+        children = self.children()
         self.run.kill()
         self.run.wait()
+        self.waits_until_over(children)
         self.listener.join(SECONDS)
         self.run.stderr.close()
+
+
+    def waits_until_over(self, processes):
+        until = time.monotonic() + LONGEST
+        while any(map(is_running, processes)):
+            if time.monotonic() > until:
+                raise AssertionError(f"of {processes} one doesn't end")
+            time.sleep(0.02)
+
+
+def is_running(process):
+    """Whether a process has files open still: one that nobody has waited for yet has none."""
+    try:
+        return pathlib.Path(f"/proc/{process}/stat").read_text().rpartition(")")[2].split()[0] != "Z"
+    except (FileNotFoundError, ProcessLookupError):
+        return False
 
 
 class Case(unittest.TestCase):
@@ -210,13 +257,17 @@ class Case(unittest.TestCase):
             self.assertIn(it, said)
         self.assertNotIn("Traceback", said)
 
-    def names_at(self, tip):
-        """The rows of the names of a chain."""
+    def model_at(self, tip):
+        """The model of a chain."""
         model = Model(0, hash=self.chains.first)
         for hash in self.chains.path(tip):
             model.connect(self.chains.blocks[hash].data)
         self.assertEqual(model.tip, tip)
-        return rows_of(model)
+        return model
+
+    def names_at(self, tip):
+        """The rows of the names of a chain."""
+        return rows_of(self.model_at(tip))
 
     def has_names(self, names, more=0):
         """The node has a chain with these names, and so many blocks behind. Its tip's height."""
@@ -226,4 +277,4 @@ class Case(unittest.TestCase):
 
 
 __all__ = ["BUILT", "CHILD", "EXPLORER", "FEEDER", "IS_BUILT", "OVER", "Case", "Explorer", "Named", "Page", "SECONDS"]
-__all__ += ["as_shown", "initialised", "name_of", "raw", "request", "text_of", "unittest"]
+__all__ += ["as_shown", "finding", "initialised", "name_of", "raw", "request", "text_of", "unittest"]

@@ -2,10 +2,12 @@
 """A program with `list`, by the model of docs/FORMATS.md (checks/listings_model.py): in the built program's place.
 
 usage: model_program.py list ROWS
+       model_program.py dump
 
 It has the three files of the folder that it is run in, as the built program would. What is wrong with it is said by the file `fault`
 there: each line is the hexadecimal of the first bytes of a frame, with the hexadecimal of what it gets in place of a reply, `disk` for
-the last reply of a disk that fails and an end with status 5, `end STATUS TEXT` for another one, or `slow SECONDS`.
+the last reply of a disk that fails and an end with status 5, `end STATUS TEXT` for another one, or `slow SECONDS`. Lines that begin with
+`dump` say so of the report: `dump text HEXADECIMAL` what comes in its place, `dump slow SECONDS`, or `dump end STATUS TEXT`.
 """
 import pathlib
 import sys
@@ -42,7 +44,7 @@ def fault_of(frame):
     path = pathlib.Path(FAULT)
     for line in path.read_text().splitlines() if path.exists() else ():
         begins, _, rest = line.partition(" ")
-        if frame.hex().startswith(begins):
+        if (frame.hex() if begins != "dump" else frame.decode("latin-1")).startswith(begins):
             return rest
     return None
 
@@ -90,7 +92,22 @@ def frames(source):
         at += 5 + length
 
 
+def report():
+    """Writes the report of all values, or what comes in its place."""
+    told = opened().index.report()
+    fault, _, rest = (fault_of(b"dump") or "").partition(" ")
+    if fault == "slow":
+        time.sleep(float(rest))
+    elif fault == "text":
+        told = bytes.fromhex(rest)
+    elif fault == "end":
+        ends(int(rest.split()[0]), rest.split(" ", 1)[1])
+    sys.stdout.buffer.write(told)
+
+
 def main(words):
+    if words == ["dump"]:
+        return report()
     if len(words) != 2 or words[0] != "list" or words[1] not in map(str, range(1, MOST_ROWS + 1)):
         ends(BAD_WORDS, "bad words")
     lister, out = Lister(opened(), int(words[1])), sys.stdout.buffer

@@ -41,7 +41,7 @@ class Answers(Case):
             self.assertEqual(told.status, 200)
             self.assertNotIn("<script", told.html)
             answer = told.html.partition("<h2>Answer</h2>")[2].partition("<h2>")[0]
-            says = re.findall(r"<td>[A-Z]+</td><td><code>(.*?)</code></td></tr>", answer)
+            says = re.findall(r"<td data-of=Says><code>(.*?)</code></td></tr>", answer)
             self.assertEqual([html.unescape(re.sub("<[^>]*>", "", it)) for it in says], records, asked)
         told = run.get("/answer?name=example.bit&type=ANY").text
         for record in ("192.0.2.2", "2001:db8::1", "10 mail.example.bit."):

@@ -12,10 +12,10 @@ import tempfile
 import threading
 import zlib
 
-from .case import Case, as_shown, unittest
+from .case import Case, as_shown, finding, unittest
 
 from common import HERE
-from namecoin_explorer.pages import PLAIN_HEADERS
+from namecoin_explorer.layout import DARK, LIGHT, PLAIN_HEADERS
 
 BROWSER, SECONDS = "chromium", 120
 WORDS = ("--headless", "--disable-gpu", "--no-first-run", "--disable-extensions", "--disable-dev-shm-usage")
@@ -96,7 +96,7 @@ class Browser(Case):
         self.assertNotIn("<img", elements)
         names = self.texts(elements, r'<tr><td><a href="[^"]*"><code>(.*?)</code>')
         self.assertEqual(names, [as_shown(name) for name, *_ in self.names_at(self.node.tip)])
-        values = self.texts(elements, r"</td><td><code>(.*?)</code></td></tr>")
+        values = self.texts(elements, r"<td data-of=\"Value\"><code>(.*?)</code></td></tr>")
         self.assertEqual(values, [as_shown(value) for *_, value in self.names_at(self.node.tip)])
         for name, link in zip(names, run.get(path).row_links()):
             if name in ("d/script", "d/runs", "d/json"):
@@ -135,11 +135,33 @@ class Browser(Case):
         self.assertFalse(self.has_run(elements))
 
     def test_looks(self):
-        """The style is taken: the page's corner has its colour."""
+        """The style is taken, in the light and in the dark: the page's corner has its colour."""
         run = self.explorer().reaches(self.has_names(NAMES))
         picture = self.room / "picture.png"
-        self.browse(f"http://127.0.0.1:{run.port}/", f"--screenshot={picture}")
-        self.assertEqual(corner(picture.read_bytes()), b"\xfb\xfb\xf9")
+        for palette, words in ((LIGHT, ()), (DARK, ("--blink-settings=preferredColorScheme=0",))):
+            self.browse(f"http://127.0.0.1:{run.port}/", f"--screenshot={picture}", *words)
+            self.assertEqual(corner(picture.read_bytes()).hex(), palette["back"][1:])
+
+    def test_found_names(self):
+        """Names that are found, each one's page with its history, what a resolver gets and the drawings: nothing of a name is run there."""
+        names = {**NAMES, b"d/tree": b'{"import":"<script>","alias":"a.example.","map":{"www":{"ns":"ns.example."}}}'}
+        tip = self.chains.updating(self.chains.opening(self.node.tip, names), (b"d/runs", b'{"txt":"<b>"}'), (b"d/runs", SCRIPT), (b"d/runs", IMAGE))
+        self.node.move(tip)
+        run = self.explorer(rows=50).reaches(self.chains.blocks[tip].height)
+        run.waits_for("names", lambda: run.get("/name/d/tree").status == 200)
+        for text in ("", "d/", "<script", "'"):
+            elements = self.seen(run, finding(text, "have"))
+            wanted = [as_shown(name) for name, *_ in self.names_at(tip) if text.encode() in name]
+            self.assertEqual(self.texts(elements, r'<tr><td><a href="[^"]*"><code>(.*?)</code>'), wanted)
+            self.assertFalse(self.has_run(elements) or "<script" in elements or "<img" in elements)
+        elements = self.seen(run, "/name/d/runs")
+        self.assertFalse(self.has_run(elements) or "<script" in elements or "<img" in elements or "<b>" in elements)
+        self.assertEqual(len(self.texts(elements, "<h3>At height (.*?)</h3>")), 4)
+        tree = self.seen(run, "/name/d/tree").partition('<svg class="tree"')[2].partition("</svg>")[0]
+        self.assertEqual(self.texts(tree, r'<text x="[^"]*" y="[^"]*">(.*?)</text>'), ["tree.bit", "<script>", "a.example", "www.tree.bit", "ns.example"])
+        elements = self.seen(run, "/")
+        self.assertEqual(len(self.texts(elements, '<svg class="plot"(.*?)</svg>')), 2)
+        self.assertGreater(elements.count("<rect"), 2)
 
 
 def corner(picture):

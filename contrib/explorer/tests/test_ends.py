@@ -16,7 +16,8 @@ from namecoin_explorer.statuses import INTERRUPTED, Status
 
 
 def children_of(number):
-    return [int(it) for it in pathlib.Path(f"/proc/{number}/task/{number}/children").read_text().split()]
+    """The processes that any thread of a process has begun."""
+    return [int(it) for path in pathlib.Path(f"/proc/{number}/task").glob("*/children") for it in path.read_text().split()]
 
 
 class Ends(Case):

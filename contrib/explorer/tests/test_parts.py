@@ -6,6 +6,7 @@ import pathlib
 import random
 import re
 import socket
+import sqlite3
 import struct
 import subprocess
 import sys
@@ -20,7 +21,10 @@ from answers_model import QR, A, Question, Record, Reply
 from common import HERE
 from namecoin_explorer import dns, texts
 from namecoin_explorer.asking import SHARE, Asker, Job, Tip
+from namecoin_explorer.finding import Finder
 from namecoin_explorer.front import Front
+from namecoin_explorer.keeping import FILE, Keeper
+from namecoin_explorer.layout import Frame
 from namecoin_explorer.saving import BEGIN, SLICE, Saving, image_length
 from namecoin_explorer.listings import CLOSE, IDLE, MOST_OPEN, NINTH, OPEN, PAGE, BadPage, Closed, Listings, Row, page_of
 from namecoin_explorer.users import TABLE, users_in, users_of
@@ -376,6 +380,83 @@ class Due(unittest.TestCase):
         self.turn((0, b""))
         self.turn((0, b"\0"))
         self.assertIn("65,536 bytes are in the file, of a length that isn't known", self.saving.told())
+
+
+class Failing:
+    """Names whose file fails at whatever is asked of it."""
+
+    tip = Tip(7, bytes(32))
+
+    def __init__(self, fault):
+        self.fault, self.is_closed = fault, False
+
+    def close(self):
+        self.is_closed = True
+
+    def __getattr__(self, name):
+        def fails(*_):
+            raise self.fault
+
+        return fails
+
+
+class Losing(unittest.TestCase):
+    """The file of names fails while the explorer runs: by a clock that stands still, in an empty folder."""
+
+    def setUp(self):
+        room = tempfile.TemporaryDirectory()
+        self.addCleanup(room.cleanup)
+        self.folder, self.now, self.lines = pathlib.Path(room.name), 1000.0, []
+        self.keeper = Keeper(["/nowhere"], self.folder, self.folder / FILE, self.lines.append, lambda: self.now)
+        self.keeper.opened = self.now
+
+    def fails(self, fault=sqlite3.DatabaseError("database disk image is malformed")):
+        self.keeper.names = Failing(fault)
+        return self.keeper.names
+
+    def test_a_page(self):
+        """Whoever asks is told; so is the operator, once; and the file goes."""
+        (self.folder / FILE).write_bytes(b"damaged")
+        names, finder = self.fails(), Finder(self.keeper, 25, None)
+        for told in (finder.find(Frame(), "name=d/&way=have"), finder.name(Frame(), "/name/d/x", ""), finder.find(Frame(), "")):
+            self.assertEqual((told.status, told.headers), (503, {"Retry-After": "10"}))
+            self.assertIn(b"database disk image is malformed", told.body)
+        self.assertEqual((names.is_closed, self.keeper.names, list(self.folder.iterdir())), (True, None, []))
+        self.assertEqual(len(self.lines), 1)
+        self.assertIn("can't be used: database disk image is malformed; it is made anew in 5 s", self.lines[0])
+
+    def test_a_block(self):
+        """Blocks come on, whether they can't be written down or can't be read."""
+        for fault, block in ((sqlite3.OperationalError("disk I/O error"), b""), (None, b"\x00\x71\x00\x00")):
+            self.fails(fault or sqlite3.DatabaseError("none"))
+            self.keeper.changed(b"\x01\0\0\0\0" + block, Tip(8, bytes(32)))
+            self.assertIsNone(self.keeper.names)
+            self.keeper.changed(b"\x02\0\0\0\0" + bytes(32), Tip(7, bytes(32)))
+        self.assertEqual(len(self.lines), 2)
+
+    def test_pauses(self):
+        """It is made anew later and later, and not before there is a place for it."""
+        for number, pause in enumerate((5, 10, 20, 40)):
+            self.fails()
+            self.keeper.lost(sqlite3.DatabaseError("damage"))
+            self.assertFalse(self.keeper.is_wanted())
+            self.now += pause
+            self.assertTrue(self.keeper.is_wanted(), number)
+            self.assertEqual(self.keeper.turn(), 0.0)
+        self.keeper.path = self.folder / "nowhere" / FILE
+        self.assertFalse(self.keeper.is_wanted())
+        self.assertGreater(self.keeper.turn(), 60)
+        self.keeper.path, self.keeper.wanted = self.folder / FILE, 1 << 62
+        self.now += 10_000
+        self.assertFalse(self.keeper.is_wanted())
+
+    def test_settling(self):
+        """What blocks changed is settled half a second later; where that fails, the file is lost."""
+        self.fails(sqlite3.OperationalError("database or disk is full"))
+        self.keeper.due = self.now
+        self.assertEqual(self.keeper.turn(), 5.0)
+        self.assertIn("database or disk is full", self.lines[0])
+        self.assertGreater(self.keeper.wanted, 1 << 20)
 
 
 class PagesOfTheProgram(unittest.TestCase):

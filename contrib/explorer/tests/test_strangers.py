@@ -13,7 +13,7 @@ from .test_listings import ODD
 
 from common import HERE
 from namecoin_explorer import front
-from namecoin_explorer.pages import PLAIN_HEADERS
+from namecoin_explorer.layout import PLAIN_HEADERS
 
 GOOD = b"Host: 127.0.0.1\r\n"
 NOBODY = 65534

@@ -5,10 +5,10 @@ import pathlib
 import re
 import tempfile
 
-from . import EXPLORER, FEEDER
+from . import EXPLORER, FEEDER, SNAPSHOT
 from .case import unittest
 
-from namecoin_explorer import __version__, front, listings
+from namecoin_explorer import __version__, front, listings, names
 from namecoin_explorer.command_line import main, words
 from namecoin_explorer.statuses import INTERRUPTED, Status
 from pip_installed import version_told
@@ -38,6 +38,8 @@ class Words(unittest.TestCase):
         for limit in (front.MOST_LINES, f"{front.MOST_HEAD:,}", front.MOST_HEADERS, f"{front.MOST_TARGET:,}", f"{listings.MOST_PAGE_BYTES:,}"):
             self.assertIn(f"{limit} ", PAGE)
         self.assertIn(f"**{listings.MOST_KEPT} pages**", PAGE)
+        self.assertIn(f"{names.MOST_BYTES:,} bytes of names are looked through for one page", PAGE)
+        self.assertIn(f"of {names.MOST_COUNTS} parts", PAGE)
         for name, default in re.findall(r"--([a-z-]+) [A-Z].*?\(([^()\s]+)\)$", re.sub(r"\n {10,}", " ", told), re.MULTILINE):
             row = re.search(rf"^\| `--{name} .*$", PAGE, re.MULTILINE)[0]
             self.assertTrue(default in row or name == "folder", (name, default))
@@ -45,7 +47,7 @@ class Words(unittest.TestCase):
     def test_runs_where_it_is_installed(self):
         made = tempfile.TemporaryDirectory()
         self.addCleanup(made.cleanup)
-        told = version_told(self, pathlib.Path(made.name), "namecoin-explorer", FEEDER, EXPLORER)
+        told = version_told(self, pathlib.Path(made.name), "namecoin-explorer", FEEDER, SNAPSHOT, EXPLORER)
         self.assertEqual(told, f"namecoin-explorer {__version__}\n")
 
 

@@ -26,13 +26,15 @@ class Place(typing.NamedTuple):
 
 
 class Header(typing.NamedTuple):
-    """What a source knows of a block, whether or not the best chain has it; `work` is that of its chain up to it."""
+    """What a source knows of a block, whether or not the best chain has it; `work` is that of its chain up to it, and `confirmations`
+    are the block itself and those above it, where a node tells of a block on its best chain."""
 
     hash: bytes
     previous: bytes
     height: int
     is_on_chain: bool
     work: int
+    confirmations: int = 0
 
 
 # What stands below the first block of a network.

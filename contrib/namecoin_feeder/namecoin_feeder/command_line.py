@@ -10,8 +10,10 @@ import urllib.parse
 from . import __version__
 from .block_files import BlockFiles
 from .following import Choices, Follower
+from .growth import WARN_ABOVE
 from .http_calls import Cookie, Password
 from .measures import Port
+from .new_branch import HELD_BYTES
 from .node import Node
 from .pauses import Pauses
 from .progress import Progress
@@ -116,6 +118,12 @@ def add_ways(group):
     times = {"metavar": "SECONDS", "type": seconds}
     text = "ask the server for a save behind so many blocks, and once when it first stands at the tip; 0: never (%(default)s)"
     group.add_argument("--save-every", metavar="BLOCKS", default=EVERY, type=count, help=text)
+    text = "the server's folder, where it is on this machine: no save is asked for that its disk has no room for"
+    group.add_argument("--files", metavar="FOLDER", type=pathlib.Path, help=text)
+    text = "of a new branch hold so many bytes at most before blocks are taken off (%(default)s)"
+    group.add_argument("--branch-bytes", metavar="BYTES", default=HELD_BYTES, type=count, help=text)
+    text = "tell each day that a new snapshot would do good, where so many blocks stand above the base; 0: never (%(default)s)"
+    group.add_argument("--warn-above", metavar="BLOCKS", default=WARN_ABOVE, type=count, help=text)
     text = "end where nothing went well for so long; 0: try for ever (%(default)s)"
     group.add_argument("--patience", default=0, help=text, **times)
     text = "behind a refused block, or what else would end it, try again so much later; 0: end (%(default)s)"
@@ -171,6 +179,7 @@ def run(given, progress):
     again = 0 if blocks.is_fixed else given.again
     once = given.once or blocks.is_fixed
     choices = Choices(once, given.every, given.deepest, given.base, given.unknown, again, given.save_every)
+    choices = choices._replace(branch_bytes=given.branch_bytes, warn_above=given.warn_above, files=given.files)
     follower = Follower(blocks, server, pauses, progress, choices)
     port = Port(given.metrics, follower.measures) if given.metrics else None
     try:

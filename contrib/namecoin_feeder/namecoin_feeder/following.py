@@ -1,12 +1,15 @@
 """Keeps a server at the best chain of a source: forward in order, and back to the fork where another branch stands above it."""
 import contextlib
+import pathlib
 import time
 import typing
 
 from .blocks import MOST_BYTES, shown, too_long
 from .going_back import Blind, Wait, way_back
+from .growth import Growth
 from .heights import Heights
 from .measures import Measures
+from .new_branch import HELD_BYTES, fetched
 from .pauses import Calm, Waits
 from .progress import spoken
 from .replies import ACCEPTED, NOT_ON_TIP, reason
@@ -19,8 +22,9 @@ MOST_MOVES = 5
 
 class Choices(typing.NamedTuple):
     """How to follow: once or on and on; seconds between two looks; blocks to go back at most; the height of the server's base;
-    how many blocks may be taken off that the node doesn't know; seconds until the next try behind a stop, 0 being an end; and
-    how many blocks there are from one save to the next, 0 being none."""
+    how many blocks may be taken off that the node doesn't know; seconds until the next try behind a stop, 0 being an end; how
+    many blocks there are from one save to the next, 0 being none; how many bytes of a new branch are held at most; from how many
+    blocks on the base on it is told that a new snapshot would do good, 0 being never; and the server's folder, where it is known."""
 
     once: bool = False
     every: float = 1.0
@@ -29,6 +33,9 @@ class Choices(typing.NamedTuple):
     unknown: int = 0
     again: float = 0.0
     save_every: int = EVERY
+    branch_bytes: int = HELD_BYTES
+    warn_above: int = 0
+    files: typing.Optional[pathlib.Path] = None
 
 
 class Follower:
@@ -36,8 +43,9 @@ class Follower:
         self.source, self.server, self.pauses, self.progress, self.choices = source, server, pauses, progress, choices
         self.clock, self.sleep = clock, sleep
         self.waits, self.calm = Waits(progress.say, clock), Calm(pauses.shortest, pauses.longest, clock)
-        self.measures = Measures(clock)
-        self.saves = Saves(choices.save_every, progress.say, self.measures, clock)
+        self.measures = Measures(clock, choices.base)
+        self.saves = Saves(choices.save_every, progress.say, self.measures, clock, choices.files)
+        self.growth = Growth(choices.warn_above, choices.base, progress.say, clock)
         self.heights = Heights(source, server)
         # Moves of the best chain since a block was taken; and blocks taken off in this run that the source doesn't know.
         self.moves, self.unknown = 0, 0
@@ -62,9 +70,11 @@ class Follower:
         except Moved:
             self.moves += 1
             if self.moves >= MOST_MOVES:
+                self.progress.rests()
                 self.pauses.wait(NodeTrouble(f"the best chain of {self.source.name} has moved {self.moves} times"))
         except Trouble as trouble:
             self.measures.troubles += 1
+            self.progress.rests()
             self.pauses.wait(trouble)
         return False
 
@@ -73,6 +83,7 @@ class Follower:
         self.progress.say(f"{stop}; the next try is in {spoken(self.choices.again)}")
         self.server.drop()
         self.pauses.passed()
+        self.progress.rests()
         until = self.clock() + self.choices.again
         while (left := until - self.clock()) > 0 and not self.has_left(stop.block):
             self.sleep(min(self.choices.every, left))
@@ -112,6 +123,7 @@ class Follower:
         self.went_well()
         self.measures.is_waiting = False
         self.height = self.measures.server_height = best.height
+        self.growth.is_at(best.height)
         self.saves.is_level()
         self.save()
         self.progress.is_level(best.height)
@@ -133,20 +145,25 @@ class Follower:
     # Forward
 
     def forward(self, height, top):
-        """Sends the blocks above a height; one run is on its way while the replies to the one before are read."""
-        self.height, tip = height, self.server.tip
+        """Sends the blocks above a height."""
+        self.height = height
         with contextlib.closing(self.source.runs(height + 1, top)) as runs:
-            try:
-                for number, run in enumerate(runs):
-                    tip = self.send(run, tip)
-                    # The first run is one block, whose reply tells the server's height before more is sent.
-                    self.settle(len(run) if number else 0)
-                    if self.saves.is_due():
-                        self.settle(0)
-                        self.save()
-            except (NodeTrouble, Moved, Stop):
-                self.settle(0)
-                raise
+            self.bring(runs, self.save)
+
+    def bring(self, runs, save=None):
+        """Sends runs of blocks; one is on its way while the replies to the one before are read. Where a save is due, `save` makes it."""
+        tip = self.server.tip
+        try:
+            for number, run in enumerate(runs):
+                tip = self.send(run, tip)
+                # The first run is one block, whose reply tells the server's height before more is sent.
+                self.settle(len(run) if number else 0)
+                if save and self.saves.is_due():
+                    self.settle(0)
+                    save()
+        except (NodeTrouble, Moved, Stop):
+            self.settle(0)
+            raise
         self.settle(0)
 
     def send(self, run, tip):
@@ -215,22 +232,38 @@ class Follower:
         self.measures.is_waiting = True
         self.waits.tell(why)
         self.pauses.bear(NodeTrouble(why))
+        self.progress.rests()
         self.sleep(self.choices.every)
 
     def reorganise(self, way, best):
-        """Takes off the blocks above the fork, as long as the source's best block stays."""
-        self.progress.say(f"the best chain is another one above height {way.height}: blocks to take off: {len(way.stale)}")
+        """Fetches the new branch, and only then takes off the blocks above the fork and sends it, without asking for anything between."""
+        branch = fetched(self.source, way, best.height, self.choices.branch_bytes)
+        what = f"blocks to take off: {len(way.stale)}, to connect: {best.height - way.height}, {branch.count} of them fetched"
+        self.progress.say(f"the best chain is another one above height {way.height}: {what}")
         self.measures.reorganisations += 1
-        self.height = way.height + len(way.stale)
+        begun = self.clock()
         try:
-            for hash in way.stale:
-                if self.server.tip != hash or self.source.best() != best:
-                    raise Moved
-                self.take_off(f" of height {self.height}")
-                self.height = self.measures.server_height = self.height - 1
-                self.heights.compare(self.height)
+            self.leave(way)
+            self.bring(branch.runs)
         finally:
             self.calm.ended()
+        self.tell_half_way(branch, best, self.clock() - begun)
+
+    def leave(self, way):
+        """Takes off the blocks above the fork."""
+        self.height = way.height + len(way.stale)
+        for hash in way.stale:
+            if self.server.tip != hash:
+                raise Moved
+            self.take_off(f" of height {self.height}")
+            self.height = self.measures.server_height = self.height - 1
+            self.heights.compare(self.height)
+
+    def tell_half_way(self, branch, best, seconds):
+        """How long the server stood on neither branch's tip."""
+        self.measures.is_reorganised(seconds)
+        more = "" if self.server.tip == best.hash else f"; the blocks above come behind them, up to height {best.height}"
+        self.progress.say(f"the server was half-way for {1000 * seconds:.0f} ms, and stands on the new branch at height {self.height}{more}")
 
     def take_off_unknown(self, why):
         self.unknown += 1
@@ -243,7 +276,7 @@ class Follower:
         """Takes off the server's newest block."""
         hash = self.server.tip
         if not self.server.disconnect():
-            aside = f"which isn't on the best chain of {self.source.name}"
+            aside = f"which isn't on the best chain of {self.source.name}: make a new snapshot, or is it another network's node?"
             raise Stop(Status.OTHER_CHAIN, f"the server stands on its base, block {shown(hash)}, {aside}")
         self.measures.disconnected += 1
         self.saves.disconnected()

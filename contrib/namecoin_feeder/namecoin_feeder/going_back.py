@@ -8,6 +8,8 @@ import typing
 from .blocks import NO_HASH, shown
 from .troubles import Moved, NodeTrouble, Status, Stop
 
+OTHER_NETWORK = "is it another network's node?"
+
 
 class Wait(typing.NamedTuple):
     """Nothing is taken off, for this reason."""
@@ -16,10 +18,11 @@ class Wait(typing.NamedTuple):
 
 
 class Way(typing.NamedTuple):
-    """The way down to a fork: the server's blocks above it, the newest first, and the height that is left then."""
+    """The way down to a fork: the server's blocks above it, the newest first, and the height and the block that are left then."""
 
     stale: list
     height: int
+    fork: bytes
 
 
 class Blind(typing.NamedTuple):
@@ -49,8 +52,8 @@ def way_back(source, tip, best, choices):
     if last.hash == best.hash:
         return Wait(f"{stands}, and {source.name} at height {best.height} below it: no other branch is known")
     if why := why_not(source, stale, last, choices):
-        raise Stop(Status.OTHER_CHAIN, f"{stands}, {why}: is it another network's node?")
-    return Way(stale, last.height)
+        raise Stop(Status.OTHER_CHAIN, f"{stands}, {why}")
+    return Way(stale, last.height, last.hash)
 
 
 def walked(source, header, deepest):
@@ -69,12 +72,13 @@ def walked(source, header, deepest):
 
 
 def why_not(source, stale, last, choices):
-    """Why the blocks of a way, above its last one, may not be taken off; None where they may."""
+    """Why the blocks of a way, above its last one, may not be taken off, and what to do; None where they may."""
     if len(stale) > choices.deepest:
         aside = f"which isn't on the best chain of {source.name}"
-        return f"{aside}; more than {choices.deepest} of its newest blocks would have to be taken off"
+        return f"{aside}; more than {choices.deepest} of its newest blocks would have to be taken off: {OTHER_NETWORK}"
     if last.hash == NO_HASH:
-        return f"which has no block in common with the best chain of {source.name}"
+        return f"which has no block in common with the best chain of {source.name}: {OTHER_NETWORK}"
     if last.height < choices.base and not source.is_fixed:
-        return f"and the best chain of {source.name} leaves the server's at height {last.height}, below its base"
+        leaves = f"and the best chain of {source.name} leaves the server's at height {last.height}"
+        return f"{leaves}, below its base: make a new snapshot, and the server's files from it"
     return None

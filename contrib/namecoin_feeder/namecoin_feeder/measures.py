@@ -16,14 +16,16 @@ TYPE = "text/plain; version=0.0.4; charset=utf-8"
 
 
 class Measures:
-    """The figures of a run. Heights are those of the node's chain. What isn't known yet is None."""
+    """The figures of a run over a server on a base of this height. Heights are those of the node's chain. What isn't known yet is None."""
 
-    def __init__(self, clock=time.monotonic):
-        self.clock, self.begun = clock, clock()
+    def __init__(self, clock=time.monotonic, base=0):
+        self.clock, self.begun, self.base = clock, clock(), base
         self.server_height = self.node_height = None
         self.connected = self.disconnected = self.reorganisations = self.refusals = self.troubles = 0
         self.is_waiting, self.last = False, self.begun
         self.saves, self.save_seconds = 0, None
+        # How long the server stood on neither branch's tip, at the last reorganisation.
+        self.half_way = None
         # Blocks by the second in which they were connected.
         self.seconds, self.lock = collections.deque(maxlen=SPAN + 1), threading.Lock()
 
@@ -41,6 +43,14 @@ class Measures:
         """The server has made a save, which took so long."""
         self.saves, self.save_seconds = self.saves + 1, f"{seconds:.3f}"
 
+    def is_reorganised(self, seconds):
+        """A reorganisation has ended, in which the server was half-way for so long."""
+        self.half_way = f"{seconds:.3f}"
+
+    def above_base(self):
+        """Blocks above the base; None where the server's height isn't known."""
+        return None if self.server_height is None else self.server_height - self.base
+
     def speed(self):
         """Blocks a second, of the last minute or since the start."""
         now = self.clock()
@@ -54,9 +64,12 @@ class Measures:
         yield "node_height", "Height of the node's best block", "gauge", self.node_height
         yield "blocks_per_second", "Blocks that the server took a second, of the last minute", "gauge", f"{self.speed():.6g}"
         yield "reorganisations_total", "Reorganisations that were begun", "counter", self.reorganisations
+        half_way = "How long the server was half-way at the last reorganisation"
+        yield "last_reorganisation_seconds", half_way, "gauge", self.half_way
         yield "refusals_total", "Blocks that the server refused", "counter", self.refusals
         seconds = f"{self.clock() - self.last:.3f}"
         yield "last_block_age_seconds", "Seconds since the server took a block, or since the start", "gauge", seconds
+        yield "blocks_above_base", "Blocks that stand above the server's base", "gauge", self.above_base()
         yield "blocks_connected_total", "Blocks that the server took", "counter", self.connected
         yield "blocks_disconnected_total", "Blocks that were taken off", "counter", self.disconnected
         yield "troubles_total", "Troubles of the node, the server and the line", "counter", self.troubles

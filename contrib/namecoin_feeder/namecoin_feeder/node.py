@@ -34,8 +34,8 @@ def header_of(hash, found):
     previous = hash_of(found["previousblockhash"]) if height or "previousblockhash" in found else NO_HASH
     if len(previous) != len(NO_HASH):
         raise ValueError
-    is_on_chain = whole(found["confirmations"], -1, MOST_HEIGHT + 1) >= 0
-    return Header(hash, previous, height, is_on_chain, int(found["chainwork"], 16))
+    confirmations = whole(found["confirmations"], -1, MOST_HEIGHT + 1)
+    return Header(hash, previous, height, confirmations >= 0, int(found["chainwork"], 16), max(0, confirmations))
 
 
 class Node:

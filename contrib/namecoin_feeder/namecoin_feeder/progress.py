@@ -1,5 +1,6 @@
 """How far the server is: a line that changes on a terminal, and otherwise a line every ten seconds."""
 import collections
+import contextlib
 import time
 
 ON_TERMINAL, ELSEWHERE = 0.1, 10.0
@@ -14,8 +15,9 @@ class Progress:
     name, unit = "namecoin_feeder", "blocks"
 
     def __init__(self, out, clock=time.monotonic):
+        # None where the program was started without a standard error: then nothing is told.
         self.out, self.clock = out, clock
-        self.is_terminal = out.isatty()
+        self.is_terminal = out is not None and out.isatty()
         self.every = ON_TERMINAL if self.is_terminal else ELSEWHERE
         self.last = self.clock()
         # Moments with the heights that stood then; and the line that isn't told yet.
@@ -24,8 +26,14 @@ class Progress:
     def say(self, text):
         """A line for itself. What isn't to be printed, as in an odd node's words, is replaced, so that it is one line."""
         text = "".join(it if it.isprintable() else "?" for it in text[:MOST_SAID]) + (".." if len(text) > MOST_SAID else "")
-        self.out.write(("\r\x1b[K" if self.is_terminal else "") + f"{self.name}: {text}\n")
-        self.out.flush()
+        self.write(("\r\x1b[K" if self.is_terminal else "") + f"{self.name}: {text}\n")
+
+    def write(self, text):
+        """Writes to the log. What can't be logged is let go: a full disk or a reader that has gone ends nobody's work."""
+        if self.out is not None:
+            with contextlib.suppress(OSError, ValueError):
+                self.out.write(text)
+                self.out.flush()
 
     def at(self, height, top):
         """The server stands at a height, of the source's."""
@@ -36,11 +44,15 @@ class Progress:
         self.owed = (height, top)
         self.tell(now)
 
+    def rests(self):
+        """Nothing comes for a while, which isn't to count for the speed behind it."""
+        self.heights.clear()
+
     def is_level(self, height):
         """The server stands at the source's tip."""
         if self.owed is not None:
             self.owed = (height, height)
-        self.heights.clear()
+        self.rests()
         self.tell(self.clock())
 
     def tell(self, now):
@@ -48,8 +60,7 @@ class Progress:
             return
         text = self.line(*self.owed)
         if self.is_terminal:
-            self.out.write(f"\r{text}\x1b[K")
-            self.out.flush()
+            self.write(f"\r{text}\x1b[K")
         else:
             self.say(text)
         self.last, self.owed = now, None
@@ -59,7 +70,7 @@ class Progress:
         if self.owed is not None:
             self.say(self.line(*self.owed))
         elif self.is_terminal:
-            self.out.write("\n")
+            self.write("\n")
         self.owed = None
 
     def line(self, height, top):

@@ -3,6 +3,7 @@ import time
 
 from .progress import spoken
 from .replies import ACCEPTED, NO_MEMORY, SAVE_REFUSALS
+from .room import room_for_a_save, spoken_bytes
 from .troubles import FeedEnded, ServerTrouble
 
 # From one save to the next, where no other number is wanted: five weeks of a chain with a block every ten minutes. A start follows
@@ -21,10 +22,11 @@ MOST_LOST = 2
 
 
 class Saves:
-    """`every` is the number of blocks from one save to the next, each that comes or leaves counted; 0 is no save at all."""
+    """`every` is the number of blocks from one save to the next, each that comes or leaves counted; 0 is no save at all. `folder` is
+    that of the server's files, where it is known: then none is asked for that its disk has no room for."""
 
-    def __init__(self, every, say, measures, clock=time.monotonic):
-        self.every, self.say, self.measures, self.clock = every, say, measures, clock
+    def __init__(self, every, say, measures, clock=time.monotonic, folder=None):
+        self.every, self.say, self.measures, self.clock, self.folder = every, say, measures, clock, folder
         self.is_over, self.lost = not every, 0
         # Blocks since the last save of this run, or since its start, and the bytes that they take of the server's files.
         self.blocks = self.bytes = 0
@@ -53,6 +55,8 @@ class Saves:
 
     def ask(self, server, height):
         """Asks the server at this height for a save. A trouble of its connection or of its disk is handed on."""
+        if not self.has_room():
+            return
         begun = self.clock()
         try:
             reply = server.save()
@@ -72,6 +76,17 @@ class Saves:
             self.is_over = True
             name, meaning = SAVE_REFUSALS[reply.code]
             self.say(f"the server makes no save: code {reply.code}, {name}: {meaning}. No more are asked for")
+
+    def has_room(self):
+        """Whether there is room for a save. Where there isn't, that is told, and looked at again later: what a save that fails has
+        written would stay, and take the room of blocks."""
+        room = room_for_a_save(self.folder) if self.folder else None
+        if room is None or room.is_enough:
+            return True
+        self.measures.troubles += 1
+        both = f"{spoken_bytes(room.there)} of room for it, and it may want {spoken_bytes(room.wanted)}"
+        self.say(f"no save is asked for: the disk of {self.folder} has {both}; it is looked at again in {spoken(self.failed())}")
+        return False
 
     def made(self, number, height, seconds):
         self.blocks, self.bytes, self.is_wanted = 0, 0, False

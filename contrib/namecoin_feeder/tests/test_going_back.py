@@ -167,19 +167,6 @@ class Waiting(Case):
         self.feed("--base", "20")
         self.assertEqual((moves, self.server.codes.count(ACCEPTED)), ({}, HEIGHT + 1))
 
-    def test_moves_back_while_blocks_are_taken_off(self):
-        """Of ten blocks the node takes the first four away, and then comes back: no more are taken off."""
-        self.node.move(self.chains.grow(self.chains.back(self.top, 10), 12))
-
-        def before(frame):
-            if frame[:1] == b"\x02" and self.server.tip == self.chains.back(self.top, 3):
-                self.node.move(self.chains.grow(self.top, 5))
-
-        self.server.before = before
-        said = self.feed()
-        self.assertEqual(self.taken_off(said), 4)
-        self.assert_same()
-
     def test_unknown_tip(self):
         """A node that never saw the server's newest blocks: nothing is taken off unless somebody says so."""
         fork = self.chains.back(self.top, 8)
@@ -217,7 +204,8 @@ class Waiting(Case):
     def test_fork_below_the_base(self):
         """Nothing is taken off where the other branch can't be fed."""
         self.node.move(self.chains.grow(self.chains.back(self.top, 11), 12))
-        self.assertIn("at height 19, below its base", self.feed("--base", "20", status=4))
+        told = "at height 19, below its base: make a new snapshot, and the server's files from it"
+        self.assertIn(told, self.feed("--base", "20", status=4))
         self.assertEqual(self.server.tip, self.top)
         self.feed("--base", "19")
         self.assert_same()

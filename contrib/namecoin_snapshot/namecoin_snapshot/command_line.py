@@ -15,7 +15,7 @@ from namecoin_feeder.troubles import Stop, Trouble
 
 from . import __version__
 from .files import placed
-from .makes import Makes, Unfit, make_of
+from .makes import Makes, Unfit, is_odd_commitment, make_of
 from .name_scripts import pushes_of
 from .profiles import MOST_HEIGHT, PROFILES
 from .progress import Progress
@@ -26,6 +26,8 @@ PROGRAM = "bridge_server"
 # A host text with a final dot, and its length without that of the root: 244 bytes on the wire at most.
 HOST, MOST_HOST = re.compile(r"([A-Za-z0-9_-]{1,63}\.)+"), 243
 DIGITS = re.compile("0|[1-9][0-9]{0,9}")
+# A commitment is opened behind so many blocks too; a branch that is deeper is no usual one.
+CONFIRMATIONS = 12
 
 EPILOG = """\
 exit statuses:
@@ -35,8 +37,9 @@ exit statuses:
   4    two outputs that aren't expired have one name: both are told
   5    the node refuses the name and the password, doesn't know the base or gives no good answer
   6    the snapshot can't be written, or its line can't be printed
+  7    the base has fewer blocks above it than --confirmations asks for: what to do is told
   130  interrupted
-With 2 to 5 what stood in the snapshot's place stands there as before; with 6 and 130 it does, or all of the new one.
+With 2 to 5 and with 7 what stood in the snapshot's place stands there as before; with 6 and 130 it does, or all of the new one.
 """
 
 
@@ -73,6 +76,8 @@ def add_node(group):
     one.add_argument("--height", metavar="N", type=height, help="the height itself: no node is asked then")
     nodes, cookies = (" or ".join(getattr(it, part) for it in PROFILES.values()) for part in ("node", "cookie"))
     one.add_argument("--node", metavar="URL", type=url, help=f"the node's JSON-RPC ({nodes})")
+    text = "take no base that has fewer: itself and the blocks above it (%(default)s)"
+    group.add_argument("--confirmations", metavar="N", type=height, default=CONFIRMATIONS, help=text)
     group.add_argument("--cookie", help=f"the node's cookie ({cookies})", **files)
     group.add_argument("--user", metavar="NAME", help="a name in place of the cookie, with its password")
     group.add_argument("--password-file", help=f"its first line is the password; without it the variable {PASSWORD} is", **files)
@@ -80,7 +85,7 @@ def add_node(group):
 
 
 def asked(given, profile, base):
-    """The height of the base, as a node tells it."""
+    """The height of the base, as a node tells it, where it may be taken yet."""
     cookie = given.cookie or pathlib.Path(profile.cookie)
     node = Node(given.node or profile.node, credentials(argparse.Namespace(**{**vars(given), "cookie": cookie})), given.timeout)
     try:
@@ -93,7 +98,19 @@ def asked(given, profile, base):
         raise Stop(Status.NODE, f"the node doesn't know the base, {shown(base)}")
     if not header.is_on_chain:
         raise Stop(Status.NODE, f"the base, {shown(base)}, isn't on the node's best chain")
+    check_age(header, given)
     return header.height
+
+
+def check_age(header, given):
+    """Ends where the base has too few confirmations: no block below a base can be taken off, so it has to stay."""
+    left = given.confirmations - header.confirmations
+    if left > 0:
+        few = f"the base, of height {header.height}, has {header.confirmations} of {given.confirmations} confirmations (--confirmations)"
+        wait = f"run this again in {left} blocks"
+        earlier = max(0, header.height - left)
+        command = f"namecoin-cli -rpcclienttimeout=0 -named dumptxoutset path={shlex.quote(given.file.name)} rollback={earlier}"
+        raise Stop(Status.YOUNG, f"{few}: {wait}, or have a node from Core 28 on make its file at an earlier block: {command}")
 
 
 def opened(path):
@@ -134,27 +151,39 @@ def run(given, progress):
     return height, base
 
 
+class LeftOut:
+    """How many outputs with a name script aren't taken, by the reason."""
+
+    def __init__(self):
+        self.expired = self.coinbases = self.odd = 0
+
+    def leaves(self, output, pushes, last):
+        """Whether an output is left out, whatever its form: no rule looks at a coinbase (docs/RULES.md), so what it makes is no name; a
+        name of a height up to the last one is expired; and a commitment of another size can't be opened."""
+        is_commitment = len(pushes) == 1
+        self.coinbases += output.is_of_coinbase
+        is_expired = not output.is_of_coinbase and not is_commitment and output.height <= last
+        is_odd = not output.is_of_coinbase and is_commitment and is_odd_commitment(pushes)
+        self.expired, self.odd = self.expired + is_expired, self.odd + is_odd
+        return output.is_of_coinbase or is_expired or is_odd
+
+    def __str__(self):
+        names = f"{self.expired} names that are expired, {self.odd} commitments that have another size than 20 bytes"
+        return f"{names}, and {self.coinbases} outputs of coinbases with a name script"
+
+
 def fill(makes, unspent, profile, height, progress):
     """Takes the names and the commitments of all outputs, and tells how many there were."""
-    count, expired, coinbases = unspent.head.count, 0, 0
+    count, left_out = unspent.head.count, LeftOut()
     last = profile.last_expired(height + 1)
     for output in unspent.outputs(height, lambda read: progress.at(read, count)):
         pushes = pushes_of(output.script)
-        if pushes is None:
-            continue
-        # No rule looks at a coinbase (docs/RULES.md), so what it makes is no name.
-        if output.is_of_coinbase:
-            coinbases += 1
-            continue
-        make, name = make_of(output, pushes), None if len(pushes) == 1 else pushes[0]
-        if name is not None and output.height <= last:
-            expired += 1
-        else:
-            makes.add(output, make, name)
+        if pushes is not None and not left_out.leaves(output, pushes, last):
+            makes.add(output, make_of(output, pushes), None if len(pushes) == 1 else pushes[0])
     progress.at(count, count)
     progress.end()
     taken = f"{len(makes.hashes)} names and {len(makes.keys) - len(makes.hashes)} commitments are taken"
-    progress.say(f"{taken}; left out are {expired} names that are expired, and {coinbases} outputs of coinbases with a name script")
+    progress.say(f"{taken}; left out are {left_out}")
 
 
 def told(given, height, base):

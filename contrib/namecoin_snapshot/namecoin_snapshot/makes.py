@@ -40,12 +40,15 @@ def check(at, what, length, most):
         raise Unfit(at, f"{what} has {length} bytes, and {most} at most are allowed")
 
 
+def is_odd_commitment(pushes):
+    """Whether the hash of a NAME_NEW has another size than the hash of any name: no name can be opened by it."""
+    return len(pushes[0]) != COMMITMENT
+
+
 def make_of(output, pushes):
     """The bytes of a make: of a commitment, or of a name with its value."""
     head = struct.pack("<32sI", output.txid, output.index)
     if len(pushes) == 1:
-        if len(pushes[0]) != COMMITMENT:
-            raise Unfit(output.at, f"the hash of a NAME_NEW has {len(pushes[0])} bytes, and not {COMMITMENT}")
         return head + struct.pack("<BI", NEW, output.height) + pushes[0]
     name, value = pushes[0], pushes[-1]
     check(output.at, "a name", len(name), MOST_NAME)

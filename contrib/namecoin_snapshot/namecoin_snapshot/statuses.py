@@ -13,3 +13,4 @@ class Status(enum.IntEnum):
     SAME_NAME = 4
     NODE = 5
     WRITING = 6
+    YOUNG = 7

@@ -1,24 +1,22 @@
-"""The file of unspent outputs that a node's `dumptxoutset` writes, of both layouts (Bitcoin Core, rpc/blockchain.cpp)."""
+"""The file of unspent outputs that a node's `dumptxoutset` writes, of each layout (Bitcoin Core, rpc/blockchain.cpp)."""
 import select
 import typing
 
 from namecoin_feeder.troubles import Stop
 
+from .coins import INDEX, MOST_SCRIPT, RAW, TXID, coin_at, group_at, script_end
 from .name_scripts import PUSHES
-from .numbers import MOST_32, MOST_64, MOST_AMOUNT, MOST_OF_ANY_EXPONENT, BadNumber, amount_of, compact_size, varint
+from .numbers import BadNumber, compact_size
+from .older_heads import CHAIN_COUNT, has_chain_count
 from .statuses import Status
 
 # From Core 28 on a file begins with these, and the network's magic. Older ones begin with the hash of the base.
 MAGIC, VERSION = b"utxo\xff", 2
 VERSION_AT = len(MAGIC)
 NETWORK_AT = VERSION_AT + 2
-HASH, COUNT, TXID, INDEX = 32, 8, 32, 4
+HASH, COUNT = 32, 8
 # What is above it is no number of outputs: they would take many terabytes.
 MOST_OUTPUTS = 2**40
-# The sizes below 6 are those of special scripts, of which so many bytes follow. Any other is that of the script, and 6 more.
-SPECIAL, RAW = (20, 20, 32, 32, 32, 32), 6
-# A longer script makes an output that nobody can spend (Bitcoin Core, MAX_SCRIPT_SIZE): it is passed over, as the node does it.
-MOST_SCRIPT = 10_000
 # So much is read at a time; and so long an output may be, but for a longer script.
 PIECE, MOST_OF_ONE = 2**20, MOST_SCRIPT + 128
 # Seconds to wait for more of a pipe, before it is waited for again.
@@ -58,6 +56,8 @@ class Unspent:
     def __init__(self, path, file):
         self.path, self.file = path, file
         self.data, self.before, self.head = b"", 0, None
+        # Whether nothing stands behind `data`.
+        self.is_all = False
 
     def bad(self, at, text):
         """The fault at a place of `data`."""
@@ -70,6 +70,7 @@ class Unspent:
     def slide(self, at):
         """Lets go of what stands before a place of `data`, and reads on. Whether there was more."""
         piece = self.piece()
+        self.is_all = len(piece) < PIECE
         self.before += at
         self.data = self.data[at:] + piece
         return bool(piece)
@@ -129,6 +130,8 @@ class Unspent:
         """The outputs whose script begins as a name script does, in their order. None of all may be above the height. `tell` is
         called now and then, with the number of outputs that were read."""
         count, is_grouped = self.head.count, self.head.is_grouped
+        if not is_grouped:
+            self.pass_chain_count(height)
         data, at, txid, group, number = self.data, 0, b"", 0, 0
         end = len(data)
         try:
@@ -148,7 +151,7 @@ class Unspent:
                     group -= 1
                     index, at = compact_size(data, at)
                 code, size, start = coin_at(data, at, height)
-                at = start + (size - RAW if size >= RAW else SPECIAL[size])
+                at = script_end(size, start)
                 if at > end:
                     data, at = self.passed(at)
                     end = len(data)
@@ -162,6 +165,11 @@ class Unspent:
         if self.data:
             raise self.bad(0, f"bytes stand behind the last of {count} outputs")
 
+    def pass_chain_count(self, height):
+        """Passes what older nodes write behind the number of outputs, where it is there."""
+        if has_chain_count(self.data, self.is_all, self.head.count, height):
+            self.slide(CHAIN_COUNT)
+
     def passed(self, at):
         """`data` from a place on that lies behind all of it, and the place of that place there."""
         while at > len(self.data):
@@ -169,23 +177,3 @@ class Unspent:
             if not self.slide(len(self.data)):
                 raise IndexError
         return self.data, at
-
-
-def group_at(data, at, left):
-    """How many outputs a transaction has, of those that are left, and the place behind that."""
-    group, end = compact_size(data, at)
-    if not 0 < group <= left:
-        raise BadNumber(at, f"the number of a transaction's outputs is {group}, and {left} are left of all")
-    return group, end
-
-
-def coin_at(data, at, height):
-    """What stands behind an outpoint: the height, doubled, with 1 for a coinbase; the script's size; and the place behind that."""
-    code, amount_at = varint(data, at, MOST_32)
-    if code >> 1 > height:
-        raise BadNumber(at, f"an output has the height {code >> 1}, above the base's, {height}")
-    amount, size_at = varint(data, amount_at, MOST_64)
-    if amount > MOST_OF_ANY_EXPONENT and amount_of(amount) > MOST_AMOUNT:
-        raise BadNumber(amount_at, f"an output has the amount {amount_of(amount)}, more than there can be")
-    size, start = varint(data, size_at, MOST_32)
-    return code, size, start

@@ -1,12 +1,15 @@
-"""Files of unspent outputs as `dumptxoutset` writes them, of both layouts. Nothing of the reader's is used."""
+"""Files of unspent outputs as `dumptxoutset` writes them, of each layout. Nothing of the reader's is used."""
 import itertools
 import struct
 import typing
 
 # The network magic of each profile (Namecoin Core, chainparams.cpp).
 NETWORKS = {"main": b"\xf9\xbe\xb4\xfe", "regtest": b"\xfa\xbf\xb5\xda"}
-OLDER, NEWER = "older", "newer"
+OLDEST, OLDER, NEWER = "oldest", "older", "newer"
+# Those that a head or nothing tells apart; the oldest is known by its outputs, so that their transactions may have no odd hashes.
 LAYOUTS = (OLDER, NEWER)
+# How many transactions the chain has, as the oldest layout tells it.
+CHAIN_COUNT = 7_654_321
 
 
 class Coin(typing.NamedTuple):
@@ -65,8 +68,9 @@ def coin_text(coin):
 
 
 def head(layout, base, count, network):
-    marks = b"" if layout == OLDER else b"utxo\xff" + struct.pack("<H", 2) + network
-    return marks + base + struct.pack("<Q", count)
+    marks = b"utxo\xff" + struct.pack("<H", 2) + network if layout == NEWER else b""
+    behind = struct.pack("<I", CHAIN_COUNT) if layout == OLDEST else b""
+    return marks + base + struct.pack("<Q", count) + behind
 
 
 def bodies(layout, coins):
@@ -74,7 +78,7 @@ def bodies(layout, coins):
     for _, group in itertools.groupby(coins, lambda coin: coin.txid):
         group = list(group)
         for place, coin in enumerate(group):
-            if layout == OLDER:
+            if layout != NEWER:
                 yield coin.txid + struct.pack("<I", coin.index) + coin_text(coin)
             else:
                 yield (b"" if place else coin.txid + compact_size(len(group))) + compact_size(coin.index) + coin_text(coin)

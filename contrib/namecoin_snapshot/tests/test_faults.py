@@ -131,17 +131,15 @@ class Faults(Case):
             self.made(with_coin(layout, varint(2) + varint(compressed_amount(most)) + b"\x06"))
 
     def test_lengths(self):
-        """Names and values that are too long, expired or not, and the hash of a commitment."""
+        """Names and values that are too long, where they aren't expired."""
         scripts = [(name_script(UPDATE, b"n" * 256, b""), "a name has 256 bytes, and 255 at most are allowed")]
         scripts += [(name_script(FIRST, b"n" * 256, b"", b""), "a name has 256 bytes")]
         scripts += [(name_script(FIRST, b"n", b"", b"v" * 1024), "a value has 1024 bytes")]
         scripts += [(name_script(UPDATE, b"n", b"v" * 1024), "a value has 1024 bytes, and 1023 at most are allowed")]
-        scripts += [(name_script(NEW, bytes(it)), f"the hash of a NAME_NEW has {it} bytes, and not 20") for it in (0, 19, 21)]
         for layout in LAYOUTS:
             for script, told in scripts:
-                for made in (HEIGHT, 0):
-                    coin = COIN._replace(script=script, height=made)
-                    self.bad_at(file_text(layout, [coin]), COINS[layout] + len(coin_text(coin)) - len(script), told)
+                coin = COIN._replace(script=script)
+                self.bad_at(file_text(layout, [coin]), COINS[layout] + len(coin_text(coin)) - len(script), told)
 
     def test_an_output_twice(self):
         """Also of two commitments; the place is that of the second one's script."""

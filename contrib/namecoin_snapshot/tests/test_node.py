@@ -16,7 +16,7 @@ TEXT = file_text(NEWER, [Coin(bytes(32), 0, HEIGHT, PAYS)])
 
 def header(**changed):
     """What a node tells of a block on its best chain."""
-    good = {"hash": SHOWN, "confirmations": 5, "height": HEIGHT, "chainwork": "0" * 63 + "1", "previousblockhash": "0" * 64}
+    good = {"hash": SHOWN, "confirmations": 12, "height": HEIGHT, "chainwork": "0" * 63 + "1", "previousblockhash": "0" * 64}
     return {"id": 0, "result": {**good, **changed}, "error": None}
 
 
@@ -82,6 +82,23 @@ class ByNode(Case):
         for answer, told in rows:
             self.node.answer = answer
             self.refused(TEXT, Status.NODE, told)
+
+    def test_young(self):
+        """A base with too few confirmations isn't taken, and it is told what to do; unless somebody says that fewer do."""
+        self.node.answer = header(confirmations=3)
+        told = f"the base, of height {HEIGHT}, has 3 of 12 confirmations (--confirmations): run this again in 9 blocks, or have a node"
+        command = f"namecoin-cli -rpcclienttimeout=0 -named dumptxoutset path=outputs rollback={HEIGHT - 9}"
+        self.refused(TEXT, Status.YOUNG, told, command)
+        self.made(TEXT, "--confirmations", "3")
+        self.made(TEXT, "--confirmations", "0")
+        for least, status in ((4, Status.YOUNG), (100, Status.YOUNG), (2, Status.DONE)):
+            self.assertEqual(self.run_main("--confirmations", least), status)
+        self.assertEqual(self.snapshot.exists(), True)
+
+    def test_young_at_the_first_blocks(self):
+        """Below the first block there is none to go back to."""
+        self.node.answer = header(confirmations=1, height=2)
+        self.refused(file_text(NEWER, []), Status.YOUNG, "rollback=0")
 
     def test_no_base(self):
         """Below the first block there is none, and no node is asked for it."""

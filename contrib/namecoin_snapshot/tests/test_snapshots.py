@@ -89,7 +89,22 @@ class Snapshots(Case):
         coins = [Coin(bytes(32), 0, HEIGHT, script, is_coinbase=True), Coin(b"\1" * 32, 0, HEIGHT, script)]
         coins.append(Coin(b"\2" * 32, 0, HEIGHT, name_script(NEW, b"short"), is_coinbase=True))
         self.check(coins)
-        self.assertIn("1 names and 0 commitments are taken; left out are 0 names that are expired, and 2 outputs of coinbases", self.said)
+        self.assertIn("1 names and 0 commitments are taken; left out are 0 names that are expired, ", self.said)
+        self.assertIn(", 0 commitments that have another size than 20 bytes, and 2 outputs of coinbases with a name script\n", self.said)
+
+    def test_what_can_never_matter(self):
+        """Expired names of a form that no rule takes, and commitments of another size: they are left out and counted, and the others
+        are taken."""
+        forms = [name_script(UPDATE, b"n" * 256, b""), name_script(FIRST, b"n", b"", b"v" * 1024), name_script(UPDATE, b"n", b"v" * 1024)]
+        coins = [Coin(b"\1" * 32, it, HEIGHT - 29, script) for it, script in enumerate(forms)]
+        sizes = (0, 19, 21, 75, 520)
+        coins += [Coin(b"\2" * 32, it, HEIGHT, name_script(NEW, bytes(size))) for it, size in enumerate(sizes)]
+        taken = [Coin(b"\3" * 32, 0, HEIGHT, LONGEST), Coin(b"\3" * 32, 1, HEIGHT, name_script(NEW, bytes(20)))]
+        for layout in LAYOUTS:
+            text = self.made(file_text(layout, [*coins, *taken]))
+            self.assertEqual(text, wanted_snapshot(taken))
+            told = "1 names and 1 commitments are taken; left out are 3 names that are expired, 5 commitments that have another size"
+            self.assertIn(told, self.said)
 
     def test_greatest(self):
         """The greatest height, index, amount and scripts."""

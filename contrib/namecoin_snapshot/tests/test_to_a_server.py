@@ -84,6 +84,7 @@ class ToAServer(Case):
         tip = bytes.fromhex(self.node.ask("getbestblockhash"))[::-1]
         self.file.write_bytes(file_text(layout, unspent(self.node.blocks()), tip, NETWORKS["regtest"]))
         words = [self.file, self.room / "a snapshot", "--host", "ns.example.", "--node", self.node.url, "--cookie", self.node.cookie]
+        words += ["--confirmations", "1"]
         run = [sys.executable, "-m", "namecoin_snapshot", "regtest", *map(str, words), "--program", str(PROGRAM)]
         told = subprocess.run(run, cwd=SNAPSHOT, stdout=subprocess.PIPE, stderr=subprocess.PIPE, timeout=SECONDS, text=True)
         self.assertEqual(told.returncode, 0, told.stderr)
