@@ -1,8 +1,5 @@
 """What the scripts of this folder share: the built program, frames and replies, tables, and the count of what passed."""
-import contextlib
 import pathlib
-import random
-import socket
 import struct
 import subprocess
 import sys
@@ -13,12 +10,10 @@ DATA = TOP / "checks" / "data"
 BASE_HASH = bytes(32)
 SECONDS = 60
 HERE = "127.0.0.1"
-# Below those that the system gives to who asks for any, so that nobody gets one of them in between.
-PORTS = range(20_000, 32_768)
-
 # The makers of blocks and of folders stand with the benchmarks.
 sys.path.insert(0, str(TOP / "bench"))
 
+from ports import free_port, server_ports
 from stores import PROGRAM, empty_folder, knows_starts, made_folder
 
 BAD_WORDS = 2
@@ -51,24 +46,6 @@ def replay(given, output=subprocess.PIPE):
     program()
     with made_folder() as folder:
         return run_in(folder, ["replay"], given, output)
-
-
-def free_port(*kinds):
-    """A number that is free on this machine as a port of each of the kinds, `socket.SOCK_DGRAM` and `socket.SOCK_STREAM`."""
-    for number in random.sample(PORTS, len(PORTS)):
-        with contextlib.suppress(OSError), contextlib.ExitStack() as taken:
-            for kind in kinds:
-                taken.enter_context(socket.socket(socket.AF_INET, kind)).bind((HERE, number))
-            return number
-    sys.exit(f"{pathlib.Path(sys.argv[0]).name}: no port is free")
-
-
-def server_ports():
-    """Two numbers that are free for a server: that of its queries, over UDP and TCP, and that of its feed."""
-    queries = feed = free_port(socket.SOCK_DGRAM, socket.SOCK_STREAM)
-    while feed == queries:
-        feed = free_port(socket.SOCK_STREAM)
-    return queries, feed
 
 
 def reply(code, payload=b""):

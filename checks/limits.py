@@ -13,10 +13,20 @@ def memory(size):
 
 
 def file_size(size):
-    """No file gets longer than so many bytes; a write past them fails then, and nobody is killed."""
+    """No file gets longer than so many bytes. A write behind them has the system end the program by a signal, SIGXFSZ, as a shell leaves
+    it: so whoever makes none goes on."""
 
     def limit():
-        signal.signal(signal.SIGXFSZ, signal.SIG_IGN)
+        signal.signal(signal.SIGXFSZ, signal.SIG_DFL)
         resource.setrlimit(resource.RLIMIT_FSIZE, (size, size))
+
+    return limit
+
+
+def stack(size):
+    """The program gets a stack of so many bytes and no more."""
+
+    def limit():
+        resource.setrlimit(resource.RLIMIT_STACK, (size, size))
 
     return limit

@@ -213,4 +213,4 @@ def check_resolver(names, words_of, settings):
     return tally.end()
 
 
-__all__ = ["CROWD", "TOO_LONG", "Setting", "check_resolver", "found"]
+__all__ = ["CROWD", "FEEDER", "ROWS", "TOO_LONG", "VALUES", "Answer", "Setting", "asked", "check_resolver", "found", "room", "started"]
