@@ -8,7 +8,7 @@ use Rattle.lru.specs.LruCache.{lru_cache}
 use Rattle.answer_cache.specs.Keys.{same_key}
 use Rattle.answer_cache.specs.declared.cache_key.CacheKey.{CacheKey}
 
--- the answers with their keys, the most recently used first; how many there may be; the hits; the puts that found no memory
+-- the answers with their keys, the most recently used first; how many there may be; the hits; the answers that weren't kept
 pub record Cached : Type 0 where
   pub entries : List (CacheKey × List ℕ)
   pub cap : ℕ
@@ -39,7 +39,7 @@ found key cached = record { entries = lru.promoted (same_key key) cached.entries
 abbrev pub behind_put : CacheKey → List ℕ → Cached → Cached
 behind_put key text cached = record { entries = lru.put_entries same_key (lru_cache cached.entries cached.cap) key text; cap = cached.cap; hits = cached.hits; missed = cached.missed }
 
--- behind a put that found no memory
+-- behind an answer that isn't kept: a put found no memory, or it is too long to be put
 abbrev pub behind_want : Cached → Cached
 behind_want cached = record { entries = cached.entries; cap = cached.cap; hits = cached.hits; missed = counted cached.missed }
 

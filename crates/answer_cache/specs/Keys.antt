@@ -1,5 +1,5 @@
 -- What answers are kept under, and when two keys are one.
-use Rattle.std.specs.Prelude.{Bool, ◌==◌, ◌&&◌, [], ◌∷◌, ◌++◌}
+use Rattle.std.specs.Prelude.{ℕ, ◌+◌, ◌*◌, ◌%◌, Bool, ◌==◌, ◌&&◌, if◌then◌else◌, [], ◌∷◌, ◌++◌}
 use Rattle.std.specs.Bool.{beq}
 use Rattle.std.specs.Hash as fed
 use Rattle.std.specs.Str.{bytes_eq}
@@ -14,6 +14,10 @@ key_of asked = record { accepted = asked.accepted; kind = asked.kind; name = ask
 abbrev pub same_key : CacheKey → CacheKey → Bool
 same_key a b = (a.accepted == b.accepted) && ((a.kind == b.kind) && ((a.limit == b.limit) && (beq a.edns b.edns && bytes_eq a.name b.name)))
 
--- what a key feeds to a hasher: each field, and the name in one write
+-- the fields but the name, in one number of 64 bits: of the count the low 31 bits, QTYPE, the limit, and whether there is an OPT record
+abbrev pub key_number : CacheKey → ℕ
+key_number key = key.accepted % 0x8000_0000 + key.kind * 0x8000_0000 + key.limit * 0x8000_0000_0000 + (if key.edns then 0x8000_0000_0000_0000 else 0)
+
+-- what a key feeds to a hasher: that number, and the name in one write
 abbrev pub key_writes : CacheKey → fed.HashWrites
-key_writes key = fed.u64 key.accepted ++ (fed.u16 key.kind ++ (fed.u16 key.limit ++ (fed.bool key.edns ++ (key.name ∷ []))))
+key_writes key = fed.u64 (key_number key) ++ (key.name ∷ [])

@@ -1,11 +1,22 @@
-ghost use Rattle.std.specs.Prelude.{◌≡◌, ◌++◌, ◌∷◌, []};
+ghost use Rattle.std.specs.Prelude.{◌≡◌, ◌++◌, ◌∷◌, [], if◌then◌else◌};
 ghost use Rattle.std.specs.Cmp.{on_per, on_equiv};
-ghost use Rattle.answer_cache.specs.Keys.{key_of, same_key, key_writes};
+ghost use Rattle.answer_cache.specs.Keys.{key_of, key_number, same_key, key_writes};
 ghost use Rattle.answer_cache.specs.KeyLaws.{same_key-equivalence, same_key-partial_equivalence, same_writes};
 
 use crate::cache_key::CacheKey;
 use std::collections::hash_map::Equivalent;
 use std::hash::{Hash, Hasher};
+
+// The weights of the fields in the number that is hashed for them.
+
+/// QTYPE, above the 31 low bits of the count.
+const KIND_UNIT: u64 = 0x8000_0000;
+
+/// The limit, above QTYPE.
+const LIMIT_UNIT: u64 = 0x8000_0000_0000;
+
+/// Whether there is an OPT record, above the limit.
+const EDNS_UNIT: u64 = 0x8000_0000_0000_0000;
 
 /// What an answer is asked for by: a [`CacheKey`] whose name lies elsewhere. A look-up by it takes no memory.
 #[derive(Clone, Copy)]
@@ -20,6 +31,25 @@ pub struct AskedKey<'a> {
     pub limit: u16,
     /// Whether the query has an OPT record (RFC 6891, 6.1).
     pub edns: bool,
+}
+
+/// What an OPT record weighs.
+fn edns_number(edns: bool) -> u64
+    ensures { result ≡ (if edns then 0x8000_0000_0000_0000 else 0) }
+{
+    if edns { EDNS_UNIT } else { 0 }
+}
+
+impl AskedKey<'_> {
+    /// The fields but the name, in one number.
+    fn number(&self) -> u64
+        ensures { result ≡ key_number (key_of self.now) }
+    {
+        self.accepted % KIND_UNIT
+            + u64::from(self.kind) * KIND_UNIT
+            + u64::from(self.limit) * LIMIT_UNIT
+            + edns_number(self.edns)
+    }
 }
 
 impl PartialEq for AskedKey<'_> {
@@ -46,10 +76,7 @@ impl Hash for AskedKey<'_> {
     ghost respects_eq = { λ a b. same_writes (key_of a) (key_of b) };
 
     fn hash<H: Hasher>(&self, state: &mut H) {
-        self.accepted.hash(state);
-        self.kind.hash(state);
-        self.limit.hash(state);
-        self.edns.hash(state);
+        self.number().hash(state);
         state.write(self.name);
     }
 }

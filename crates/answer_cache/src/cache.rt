@@ -19,7 +19,7 @@ use std::num::NonZeroUsize;
 const LONGEST_SPARE: usize = 512;
 
 /// Answers, each under its key, of which the ones least recently used give way. Contracts see them, the most recently used first,
-/// how many there may be, the hits, and the puts that found no memory.
+/// how many there may be, the hits, and the answers that weren't kept: puts that found no memory, and those of [`Cache::miss`].
 ///
 /// The hasher of the map has a fixed seed, so strangers who choose names can choose such whose keys fall into one row of the
 /// map. These are at most as many as the cache holds: so a look-up compares at most `capacity` keys, and a put, which looks up
@@ -91,9 +91,16 @@ impl Cache {
     {
         let put = self.keep(alloc, key, front, rest);
         if put.is_err() {
-            self.missed = self.missed.saturating_add(1);
+            self.miss();
         }
         put
+    }
+
+    /// Counts one more answer that isn't kept, up to 2^64 - 1, where the count stays.
+    pub fn miss(&mut self)
+        ensures { self.new ≡ behind_want self.old }
+    {
+        self.missed = self.missed.saturating_add(1);
     }
 
     fn keep(
@@ -138,7 +145,7 @@ impl Cache {
         self.hits
     }
 
-    /// How many calls of `put` found no memory, up to 2^64 - 1, where it stays.
+    /// How many calls of `put` found no memory, and how many answers were told to [`Cache::miss`], up to 2^64 - 1, where it stays.
     pub fn missed(&self) -> u64
         ensures { result ≡ self.now.missed }
     {

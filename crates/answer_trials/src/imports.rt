@@ -2,7 +2,7 @@ ghost use Rattle.std.specs.Prelude.{Some, None, nat_eq, ◌≤◌, if◌then◌e
 ghost use Rattle.std.specs.Cmp.Lexicographic.{pointwise};
 
 use ifa_value::{Element, IfaObject, Key};
-use import_expand::{Exhausted, MOST_VALUES, Names, Room};
+use import_expand::{Exhausted, MOST_HELD, Names, Room};
 use std::alloc::Global;
 use std::cell::Cell;
 use std::process::Abort;
@@ -194,19 +194,18 @@ fn children_of_many(rt: HostRuntime) -> Result<(), Fail> {
     Ok(())
 }
 
-/// The names that 2,049 values are asked of: the last is refused, and so is no other.
+/// Values of 1,024 bytes: the 65th is refused, and so is no other.
 #[test]
-fn values_are_counted(rt: HostRuntime) -> Result<(), Fail> {
-    let all = names(b"{}", b"{}");
+fn held_bytes_are_counted(rt: HostRuntime) -> Result<(), Fail> {
+    let text = [b' '; 1_024];
+    let long = names(b"{}", &text);
     let mut room = Room::new(rt.alloc());
-    for number in 0..MOST_VALUES {
+    for number in 0..64_u16 {
         let name = number.to_be_bytes();
-        assert!(rt; room.named(rt.alloc(), &all, &name)?.is_some());
+        assert!(rt; room.named(rt.alloc(), &long, &name)?.is_some());
     }
-    let again = room.named(rt.alloc(), &all, &[0, 7])?;
-    let refused = room.named(rt.alloc(), &all, b"d/one more");
-    assert!(rt;
-        again.is_some() && refused == Err(Exhausted::Values) && room.values_read() == MOST_VALUES
-    );
+    let again = room.named(rt.alloc(), &long, &[0, 7])?;
+    let refused = room.named(rt.alloc(), &long, b"d/one more");
+    assert!(rt; again.is_some() && refused == Err(Exhausted::Held) && room.held() == MOST_HELD);
     Ok(())
 }

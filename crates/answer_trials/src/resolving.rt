@@ -6,7 +6,7 @@ use crate::comparing::{same_text, text, word};
 use bit_resolver::{Resource, Sections, Zone, resolve};
 use dns_message::Question;
 use domain_text::{Name, absolute_name};
-use import_expand::Names;
+use import_expand::{Names, Room};
 use nmc_base::Bytes;
 use rows::{CHASES, HOSTILE, RULES, VECTORS};
 use std::alloc::Global;
@@ -125,8 +125,8 @@ fn resolved(
         class,
         edns: None,
     };
-    let mut values = 0;
-    Ok(resolve(alloc, index, zone, &asked, &mut values)?)
+    let mut room = Room::new(alloc);
+    Ok(resolve(alloc, index, zone, &asked, &mut room)?)
 }
 
 /// A name, a type, a class, and what the answer is.

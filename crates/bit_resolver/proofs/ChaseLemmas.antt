@@ -1,12 +1,33 @@
 -- The chase, as the code goes on with it.
-use Rattle.std.proofs.Common.{◌≡◌, ℕ, zero, suc, List, [], ◌∷◌, ◌++◌, Bool, true, false, ◌||◌, not, refl, sym, ap, ◌∙◌, append_assoc}
+use Rattle.std.proofs.Common.{◌≡◌, ℕ, zero, suc, ◌≤◌, subst, arith, List, [], ◌∷◌, ◌++◌, Bool, true, false, ◌||◌, not, refl, sym, ap, ◌∙◌, append_assoc}
 use Rattle.std.proofs.lemmas.List.{append-nil}
 use Rattle.bit_resolver.specs.declared.resource.Resource.{Resource}
 use Rattle.bit_resolver.specs.declared.zone.Zone.{Zone}
 use Rattle.import_expand.specs.Sources.{Live}
-use Rattle.bit_resolver.specs.Places.{Place, place_of}
+use Rattle.bit_resolver.specs.Places.{Place, place_of, outside, apex, below}
+use Rattle.bit_resolver.specs.Held.{HoldsPlace}
+use Rattle.bit_resolver.specs.declared.limits.TheConstants.{MOST_CNAMES}
 use Rattle.bit_resolver.specs.Nodes.{is_nil}
 use Rattle.bit_resolver.specs.Answers.{Answer, done, renamed, answered, after_records, go_on, asked_at, chase}
+
+-- How far the value of the first name is held: it is asked next, or it was.
+pub data HoldsSoFar (live : Live) (bytes left : ℕ) (place first : Place) : Type 0 where
+  begun : place ≡ first → left ≡ MOST_CNAMES → HoldsSoFar live bytes left place first
+  asked : HoldsPlace live bytes first → HoldsSoFar live bytes left place first
+
+pub holds_more : (live : Live) (bytes more : ℕ) (p : Place) → bytes ≤ more → HoldsPlace live bytes p → HoldsPlace live more p
+holds_more live bytes more outside l h = h
+holds_more live bytes more apex l h = h
+holds_more live bytes more (below b) l h = λ label value is. let w = h label value is in omega (arith, w, l)
+
+-- a name more was asked
+pub holds_first : (live : Live) (bytes more left : ℕ) (place first : Place) → HoldsSoFar live bytes left place first → bytes ≤ more → HoldsPlace live more place → HoldsPlace live more first
+holds_first live bytes more left place first (begun e l) m h = subst (HoldsPlace live more) e h
+holds_first live bytes more left place first (asked h) m here = holds_more live bytes more first m h
+
+pub holds_last : (live : Live) (bytes left : ℕ) (place first : Place) → HoldsSoFar live bytes left place first → left ≡ 0 → HoldsPlace live bytes first
+holds_last live bytes left place first (begun e l) none = let m : left ≡ 8 = l in absurd (omega (arith, m, none))
+holds_last live bytes left place first (asked h) none = h
 
 or_assoc : (a b c : Bool) → ((a || b) || c) ≡ (a || (b || c))
 or_assoc true b c = refl

@@ -1,5 +1,6 @@
 pub mod Answers
 pub mod Ends
+pub mod Held
 pub mod Laws
 pub mod Nodes
 pub mod Places

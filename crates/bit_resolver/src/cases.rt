@@ -3,8 +3,7 @@
 ghost use Rattle.std.specs.Prelude.{◌≡◌, ◌≤◌, ◌++◌, [], if◌then◌else◌, drop, length, IfOk, IfErr, OnOk, Some};
 ghost use Rattle.serde_json.specs.Data.{Members};
 ghost use Rattle.import_expand.specs.Books.{IsAt};
-ghost use Rattle.import_expand.specs.Rooms.{objects_in, values_read, IsSound};
-ghost use Rattle.import_expand.specs.declared.exhausted.Exhausted.TheVariants.{Values};
+ghost use Rattle.import_expand.specs.Rooms.{objects_in, held, GivesUp, IsSound};
 ghost use Rattle.bit_resolver.specs.Nodes.{Node as NodeOf};
 ghost use Rattle.bit_resolver.specs.Places.{IsBelow, own_of, top_of};
 ghost use Rattle.bit_resolver.specs.Answers.{negative as negative_of, or_no_data as or_no_data_of, apex_records as apex_records_of, answered as answered_of, referral as referral_of, is_asked as is_asked_of, records_at, matching as matching_of, record_items, by_cname as by_cname_of, in_zone as in_zone_of, at_cut as at_cut_of, at_name as at_name_of, by_dname as by_dname_of, dname_of, replaced, by_value};
@@ -282,8 +281,8 @@ pub(crate) fn by_object<N: Names>(
     requires sound { IsSound (N.served names.now) room.old }
     ensures asked { IfOk result (λ a. (o : Members) → IsAt (objects_in room.old) at o → seen_asked a ≡ by_value (N.served names.now) zone.now (seen_below name.now) kind (Some o)) }
     ensures sound { OnOk result (IsSound (N.served names.now) room.new) }
-    ensures bound { values_read room.new ≤ 2048 }
-    ensures refused { IfErr result (λ e. e ≡ Values → values_read room.new ≡ 2048) }
+    ensures held { OnOk result (held room.old ≤ held room.new) }
+    ensures refused { IfErr result (GivesUp (N.served names.now) room.new) }
 {
     let top = name.top();
     match go_down(alloc, names, name, &top, at, room)? {

@@ -46,10 +46,13 @@ fn next_label(wire: &[u8]) -> Option<(&[u8], &[u8])>
     Some((&rest[..length], &rest[length..]))
 }
 
-/// Whether the bytes are the name `bit.`, in any case.
+/// Whether the bytes are the name `bit.`, in any case. Most askers write it in lower case, which is compared first.
 fn is_apex(wire: &[u8]) -> bool
     ensures { IsTrue result ↔ (lower wire.now ≡ apex_wire) }
 {
+    if wire == APEX {
+        return true;
+    }
     wire.eq_ignore_ascii_case(APEX)
 }
 

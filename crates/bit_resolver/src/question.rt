@@ -4,10 +4,10 @@ ghost use Rattle.std.specs.Prelude.{◌≡◌, ◌≤◌, ◌++◌, IfOk, IfErr,
 ghost use Rattle.domain_text.specs.Names.{IsName, IsWireLabel};
 ghost use Rattle.dns_message.specs.Query.{query_of};
 ghost use Rattle.import_expand.specs.Books.{Finds};
-ghost use Rattle.import_expand.specs.Rooms.{objects_in, values_read, IsSound};
-ghost use Rattle.import_expand.specs.declared.exhausted.Exhausted.TheVariants.{Values};
+ghost use Rattle.import_expand.specs.Rooms.{objects_in, held, GivesUp, IsSound};
 ghost use Rattle.bit_resolver.specs.Places.{IsPlace, place_of};
 ghost use Rattle.bit_resolver.specs.Answers.{value_of, asked_at, after_records as after_records_of, chase as chase_of, is_refused as is_refused_of, answer_at, answer_to};
+ghost use Rattle.bit_resolver.specs.Held.{HoldsValue, HoldsPlace, HoldsUnlessRefused, HoldsAsked};
 ghost use Rattle.bit_resolver.specs.Laws.{IsLawful};
 ghost use Rattle.bit_resolver.specs.Ends.{seen_place, seen_sections, seen_asked};
 ghost use Rattle.bit_resolver.specs.declared.limits.TheConstants.{MOST_CNAMES as GREATEST};
@@ -34,9 +34,10 @@ fn value<N: Names>(
     requires name { IsWireLabel x.now }
     requires sound { IsSound (N.served names.now) room.old }
     ensures found { IfOk result (λ o. Finds (objects_in room.new) o (value_of (N.served names.now) x.now)) }
+    ensures least { OnOk result (HoldsValue (N.served names.now) (held room.new) x.now) }
     ensures sound { OnOk result (IsSound (N.served names.now) room.new) }
-    ensures bound { values_read room.new ≤ 2048 }
-    ensures refused { IfErr result (λ e. e ≡ Values → values_read room.new ≡ 2048) }
+    ensures held { OnOk result (held room.old ≤ held room.new) }
+    ensures refused { IfErr result (GivesUp (N.served names.now) room.new) }
 {
     if !is_domain_label(x) {
         return Ok(None);
@@ -58,9 +59,10 @@ fn ask<N: Names>(
     requires place { IsPlace (seen_place place.now) }
     requires sound { IsSound (N.served names.now) room.old }
     ensures asked { IfOk result (λ a. seen_asked a ≡ asked_at (N.served names.now) zone.now kind (seen_place place.now)) }
+    ensures least { OnOk result (HoldsPlace (N.served names.now) (held room.new) (seen_place place.now)) }
     ensures sound { OnOk result (IsSound (N.served names.now) room.new) }
-    ensures bound { values_read room.new ≤ 2048 }
-    ensures refused { IfErr result (λ e. e ≡ Values → values_read room.new ≡ 2048) }
+    ensures held { OnOk result (held room.old ≤ held room.new) }
+    ensures refused { IfErr result (GivesUp (N.served names.now) room.new) }
 {
     match place {
         Place::Outside => Ok(Asked::Done(answered(alloc, Resources::new(alloc)))),
@@ -115,8 +117,8 @@ fn chase<N: Names>(
     requires place { IsPlace (seen_place first) }
     requires sound { IsSound (N.served names.now) room.old }
     ensures answer { IfOk result (λ s. seen_sections s ≡ chase_of (N.served names.now) zone.now kind GREATEST (seen_place first)) }
-    ensures bound { values_read room.new ≤ 2048 }
-    ensures refused { IfErr result (λ e. e ≡ Values → values_read room.new ≡ 2048) }
+    ensures least { OnOk result (HoldsPlace (N.served names.now) (held room.new) (seen_place first)) }
+    ensures refused { IfErr result (GivesUp (N.served names.now) room.new) }
 {
     let mut before = Resources::new(alloc);
     let mut place = first;
@@ -157,8 +159,8 @@ fn answer_place<N: Names>(
     requires place { IsPlace (seen_place place) }
     requires sound { IsSound (N.served names.now) room.old }
     ensures answer { IfOk result (λ s. seen_sections s ≡ answer_at (N.served names.now) zone.now kind class (seen_place place)) }
-    ensures bound { values_read room.new ≤ 2048 }
-    ensures refused { IfErr result (λ e. e ≡ Values → values_read room.new ≡ 2048) }
+    ensures least { OnOk result (HoldsUnlessRefused (N.served names.now) (held room.new) kind class (seen_place place)) }
+    ensures refused { IfErr result (GivesUp (N.served names.now) room.new) }
 {
     if is_refused(kind, class, &place) {
         return Ok(Sections {
@@ -183,8 +185,8 @@ fn answer_question<N: Names>(
     requires name { IsName asked.now.name.now }
     requires sound { IsSound (N.served names.now) room.old }
     ensures answer { IfOk result (λ s. seen_sections s ≡ answer_to (N.served names.now) zone.now (query_of asked.now)) }
-    ensures bound { values_read room.new ≤ 2048 }
-    ensures refused { IfErr result (λ e. e ≡ Values → values_read room.new ≡ 2048) }
+    ensures least { OnOk result (HoldsAsked (N.served names.now) (held room.new) (query_of asked.now)) }
+    ensures refused { IfErr result (GivesUp (N.served names.now) room.new) }
 {
     let place = find_place(alloc, asked.name)?;
     let sections = answer_place(alloc, names, zone, asked.kind, asked.class, place, room)?;
@@ -192,27 +194,26 @@ fn answer_question<N: Names>(
 }
 
 /// The answer of a question (RFC 1034, 4.3.2): from the value of `d/x` for a name at or below `x.bit.`, from the zone
-/// itself for `bit.`, and REFUSED for any other name, another class than IN, and zone transfers. `values` becomes how many
-/// values were read for it.
+/// itself for `bit.`, and REFUSED for any other name, another class than IN, and zone transfers. Its values, and
+/// the entries of them, are held in the room, and in the place of what it held.
 pub fn resolve<N: Names>(
     alloc: Global,
     names: &N,
     zone: &Zone,
     asked: &Question<'_>,
-    values: &mut u16,
+    room: &mut Room,
 ) -> Result<Sections, Exhausted>
     requires name { IsName asked.now.name.now }
     // It is the definition's.
     ensures answer { IfOk result (λ s. seen_sections s ≡ answer_to (N.served names.now) zone.now (query_of asked.now)) }
+    // At least the value of the question's own name is counted.
+    ensures least { OnOk result (HoldsAsked (N.served names.now) (held room.new) (query_of asked.now)) }
     // Of each answer: why each record stands where it does, and that it has at most eight CNAME records.
     ensures lawful { IfOk result (λ s. IsLawful asked.now.kind GREATEST (seen_sections s)) }
-    // At most 2,048 values are read for it, and an answer that would need more is refused for that cause alone.
-    ensures bound { values.new ≤ 2048 }
-    ensures refused { IfErr result (λ e. e ≡ Values → values.new ≡ 2048) }
+    // An answer is refused where what has to be held next doesn't fit, and for that cause alone.
+    ensures refused { IfErr result (GivesUp (N.served names.now) room.new) }
 {
-    let mut room = Room::new(alloc);
-    let found = answer_question(alloc, names, zone, asked, &mut room);
-    *values = room.values_read();
-    let sections = found?;
+    room.clear(alloc);
+    let sections = answer_question(alloc, names, zone, asked, room)?;
     Ok(sections)
 }

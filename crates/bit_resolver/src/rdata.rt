@@ -2,7 +2,7 @@
 
 ghost use Rattle.std.specs.Prelude.{◌≡◌, ◌++◌, ◌∷◌, [], option_map, IfOk, OnOk, Some};
 ghost use Rattle.domain_text.specs.Host.{host_name as host_name_of};
-ghost use Rattle.bit_resolver.specs.Rdata.{rdata_of, numbers16, numbers32};
+ghost use Rattle.bit_resolver.specs.Rdata.{rdata_of, numbers16};
 
 use domain_text::{Name, read_host};
 use ifa_value::Element;
@@ -12,16 +12,6 @@ use std::alloc::Global;
 /// Appends numbers of 16 bits, the high byte first.
 pub(crate) fn add_numbers16(numbers: &[u16], into: &mut Bytes) -> Result<(), NoMemory>
     ensures { OnOk result (into.new ≡ into.old ++ numbers16 numbers.now) }
-{
-    for number in numbers {
-        into.extend(&number.to_be_bytes())?;
-    }
-    Ok(())
-}
-
-/// Appends numbers of 32 bits, the high byte first.
-pub(crate) fn add_numbers32(numbers: &[u32], into: &mut Bytes) -> Result<(), NoMemory>
-    ensures { OnOk result (into.new ≡ into.old ++ numbers32 numbers.now) }
 {
     for number in numbers {
         into.extend(&number.to_be_bytes())?;

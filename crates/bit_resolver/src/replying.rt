@@ -4,13 +4,15 @@ ghost use Rattle.dns_message.specs.Limits.{most_of};
 ghost use Rattle.dns_message.specs.Query.{query_of};
 ghost use Rattle.dns_message.specs.Reading.{reading_of};
 ghost use Rattle.dns_message.specs.declared.numbers.TheConstants.{LEAST_LIMIT, GREATEST_LIMIT};
+ghost use Rattle.import_expand.specs.declared.limits.TheConstants.{MOST_HELD};
+ghost use Rattle.bit_resolver.specs.Held.{HoldsReplied};
 ghost use Rattle.bit_resolver.specs.Replies.{MayReply, limit_for, told, replied_size, IsReplied, IsWithin};
 
 use crate::question::resolve;
 use crate::writing::{put_answer, put_bad_version, put_failure};
 use crate::zone::Zone;
 use dns_message::{Asked, Question, Transport, bare, rcode, read_query};
-use import_expand::Names;
+use import_expand::{Names, Room};
 use std::alloc::Global;
 
 /// What comes of a message.
@@ -27,7 +29,7 @@ pub enum Answered {
 pub enum Replied {
     /// The question's answer.
     Answer(usize),
-    /// SERVFAIL: memory ran out, or the answer would need more than 2,048 values.
+    /// SERVFAIL: memory ran out, or more than 65,536 bytes of values and of their entries would have to be held.
     Failure(usize),
 }
 
@@ -42,8 +44,8 @@ impl Replied {
     }
 }
 
-/// Writes the reply to a question at the front of the buffer, in at most so many bytes: 512 to 65,535. `values` becomes how
-/// many values were read for it.
+/// Writes the reply to a question at the front of the buffer, in at most so many bytes: 512 to 65,535. `held` becomes the
+/// bytes that were held for it.
 pub fn reply_to_question<N: Names>(
     alloc: Global,
     names: &N,
@@ -51,25 +53,30 @@ pub fn reply_to_question<N: Names>(
     asked: &Question<'_>,
     limit: usize,
     buffer: &mut [u8],
-    values: &mut u16,
+    room: &mut Room,
+    held: &mut usize,
 ) -> Replied
-    requires room { limit ≤ length buffer.old }
+    requires within { limit ≤ length buffer.old }
     requires least { LEAST_LIMIT ≤ limit }
     requires greatest { limit ≤ GREATEST_LIMIT }
     requires name { IsName asked.now.name.now }
     ensures text { IsReplied (N.served names.now) zone.now limit (query_of asked.now) result buffer.new }
     ensures within { replied_size result ≤ limit }
-    // At most 2,048 values are read for it.
-    ensures bound { values.new ≤ 2048 }
+    // At most 65,536 bytes are held for it, and the value of the question's own name is among them.
+    ensures bound { held.new ≤ MOST_HELD }
+    ensures least { HoldsReplied (N.served names.now) held.new (query_of asked.now) result }
 {
-    match resolve(alloc, names, zone, asked, values) {
+    let found = resolve(alloc, names, zone, asked, room);
+    *held = room.held();
+    room.clear(alloc);
+    match found {
         Ok(sections) => Replied::Answer(put_answer(&sections, asked, limit, buffer)),
         Err(_) => Replied::Failure(put_failure(asked, limit, buffer)),
     }
 }
 
 /// Writes the reply to a message at the front of the buffer, in as many bytes as the transport and the message allow.
-/// `values` becomes how many values were read for it: an answer that would need more than 2,048 is SERVFAIL.
+/// `held` becomes the bytes that were held for it: an answer that would need more than 65,536 is SERVFAIL.
 pub fn answer<N: Names>(
     alloc: Global,
     names: &N,
@@ -77,17 +84,17 @@ pub fn answer<N: Names>(
     message: &[u8],
     transport: Transport,
     buffer: &mut [u8],
-    values: &mut u16,
+    held: &mut usize,
 ) -> Answered
     requires { most_of transport ≤ length buffer.old }
     // It is the definition's, byte for byte, or SERVFAIL for want of memory.
     ensures reply { MayReply (N.served names.now) zone.now transport message.now (told result buffer.new) }
     ensures within { IsWithin (limit_for transport (reading_of message.now)) result }
     ensures most { IsWithin (most_of transport) result }
-    // At most 2,048 values are read for it.
-    ensures bound { values.new ≤ 2048 }
+    // At most 65,536 bytes are held for it.
+    ensures bound { held.new ≤ MOST_HELD }
 {
-    *values = 0;
+    *held = 0;
     match read_query(message) {
         Asked::Drop => Answered::Dropped,
         Asked::NotImp { id, flags } => Answered::Text(bare(buffer, id, flags, rcode::NOTIMP)),
@@ -97,7 +104,10 @@ pub fn answer<N: Names>(
         }
         Asked::Query(asked) => {
             let limit = transport.limit(&asked);
-            let replied = reply_to_question(alloc, names, zone, &asked, limit, buffer, values);
+            let mut room = Room::new(alloc);
+            let replied = reply_to_question(
+                alloc, names, zone, &asked, limit, buffer, &mut room, held,
+            );
             Answered::Text(replied.size())
         }
     }

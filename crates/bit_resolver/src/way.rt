@@ -4,8 +4,7 @@ ghost use Rattle.std.specs.Prelude.{◌≡◌, ◌<◌, ◌≤◌, [], List, dro
 ghost use Rattle.import_expand.specs.Sources.{Live, child_of};
 ghost use Rattle.serde_json.specs.Data.{Members};
 ghost use Rattle.import_expand.specs.Books.{IsAt};
-ghost use Rattle.import_expand.specs.Rooms.{objects_in, values_read, IsNode, IsSound};
-ghost use Rattle.import_expand.specs.declared.exhausted.Exhausted.TheVariants.{Values};
+ghost use Rattle.import_expand.specs.Rooms.{objects_in, held, GivesUp, IsNode, IsSound};
 ghost use Rattle.bit_resolver.specs.Nodes.{Node as NodeOf, node_at};
 ghost use Rattle.bit_resolver.specs.Places.{IsBelow, own_of, top_of};
 ghost use Rattle.bit_resolver.specs.Ends.{Ends, IsStopBelow, IsTop, ShowsNode, Stops, seen_below};
@@ -108,8 +107,8 @@ fn child_at<N: Names>(
     requires sound { IsSound (N.served names.now) room.old }
     ensures found { IfOk result (λ k. (ns : List Members) → IsNode room.old of ns → IsNode room.new k (child_of (N.served names.now) ns (get_or name.now.path.items left []))) }
     ensures sound { OnOk result (IsSound (N.served names.now) room.new) }
-    ensures bound { values_read room.new ≤ 2048 }
-    ensures refused { IfErr result (λ e. e ≡ Values → values_read room.new ≡ 2048) }
+    ensures held { OnOk result (held room.old ≤ held room.new) }
+    ensures refused { IfErr result (GivesUp (N.served names.now) room.new) }
 {
     let at = room.child(alloc, names, of, name.path[left].as_slice())?;
     Ok(at)
@@ -129,9 +128,9 @@ pub(crate) fn go_down<'a, N: Names>(
     requires sound { IsSound (N.served names.now) room.old }
     ensures ends { IfOk result (λ w. (o : Members) → IsAt (objects_in room.old) at o → Ends (N.served names.now) room.new (seen_below name.now) o w) }
     ensures sound { OnOk result (IsSound (N.served names.now) room.new) }
+    ensures held { OnOk result (held room.old ≤ held room.new) }
     ensures top { IfOk result (λ w. IsTop (seen_below name.now) w) }
-    ensures bound { values_read room.new ≤ 2048 }
-    ensures refused { IfErr result (λ e. e ≡ Values → values_read room.new ≡ 2048) }
+    ensures refused { IfErr result (GivesUp (N.served names.now) room.new) }
 {
     let mut of = room.top(alloc, names, at)?;
     let mut left = name.path.len();

@@ -6,6 +6,7 @@ ghost use Rattle.name_script.specs.NameScript.{NameOperation, IsNameScript, IsPu
 ghost use Rattle.name_script.specs.Reading.{name_op};
 ghost use Rattle.nmc_base.specs.declared.chain_ends.Tip.{Tip};
 ghost use Rattle.block_maker.specs.Script.{shortest_push, script_of, IsShortPart, HasShortPushes};
+ghost use Rattle.block_maker.specs.declared.operation.TheConstants.{LONGEST_PART};
 ghost use Rattle.block_maker.specs.Generated.{Making, generated_block};
 
 /// The script of an operation is a name script of it, and is read as it; and no push of a value is shorter than its
@@ -20,4 +21,9 @@ pub fn script_law()
 /// The header of a generated block has the Merkle root of its transactions.
 pub fn root_law()
     ensures { (previous : Tip) (making : Option Making) → (generated_block previous making).header.fields.root ≡ block_root (generated_block previous making) }
+{}
+
+/// The number that definitions cite by its name: how long a part of an operation may be, whose push has a length of two bytes.
+pub fn number_of_parts()
+    ensures { LONGEST_PART ≡ 65535 }
 {}

@@ -9,6 +9,6 @@ mod operation;
 mod script;
 mod transaction;
 
-pub use law::{root_law, script_law};
+pub use law::{number_of_parts, root_law, script_law};
 pub use maker::Maker;
 pub use operation::{LONGEST_PART, MakeOp};

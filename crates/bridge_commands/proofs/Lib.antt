@@ -1,10 +1,12 @@
 pub mod DumpingLemmas
 pub mod ServingLemmas
 pub mod WordLemmas
+pub mod LineLemmas
 pub mod StatusLemmas
 pub mod MakingLemmas
 pub mod PlayingLemmas
 pub mod RequestLemmas
+pub mod CauseLemmas
 pub mod HitLemmas
 pub mod SelfTestLemmas
 pub mod SummaryLemmas

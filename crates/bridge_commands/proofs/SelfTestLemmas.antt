@@ -29,11 +29,12 @@ use Rattle.bridge_core.specs.Reached.{Beginning, Begins, Passes}
 use Rattle.bridge_core.specs.Runs.{none_yet}
 use Rattle.bridge_core.proofs.AnsweringLemmas.{asked_answers}
 use Rattle.bridge_commands.specs.Playing.{AnswersEach, AreTaken, AsksTwice, PlaysAll, PlaysOn, PlaysRound, StopsIn, answers_in, counted_if, is_answered, requests_of, status_of_stop}
-use Rattle.bridge_commands.specs.SelfTest.{BeginsAt, HasPlayed, Plays, StopsWith, no_memory, refused}
+use Rattle.bridge_commands.specs.SelfTest.{BeginsAt, HasPlayed, IsCaused, Plays, StopsWith, no_memory, refused}
 use Rattle.bridge_commands.specs.declared.course.Course.{Course}
 use Rattle.bridge_commands.specs.declared.playing.Stop.{Stop}
 use Rattle.bridge_commands.specs.declared.playing.Stop.TheVariants.{Refused, NoMemory}
 use Rattle.bridge_commands.specs.declared.words.Trial.{Trial}
+use Rattle.bridge_commands.proofs.CauseLemmas.{refused_cause}
 use Rattle.bridge_commands.proofs.HitLemmas.{Bounds, IsPlain, asked_twice}
 use Rattle.bridge_commands.proofs.PlayingLemmas.{answers_then, as_many, each_then, leads_all, passes_each, saves_then, stops_before, taken_then}
 use Rattle.bridge_commands.proofs.RequestLemmas.{are_requests, behind_requests, few_requests, fresh_behind, no_answers, saves_of, saves_taken}
@@ -234,6 +235,32 @@ module _ {D : Type 0} (tells : Bool) (seen : D → DiskSeen) where
     plays_so : (rounds : ℕ) (so : SoFar start trial.seed rounds course disk) → Plays tells seen start trial rounds so.replies course.bridge disk
     plays_so rounds so = record { passes = so.passes; leads = leads_all tells seen start o so.passes (begun_on run_base run_host) b; taken = so.taken }
 
+    -- an event of the next round was refused
+    caused_so : (rounds : ℕ) (so : SoFar start trial.seed rounds course disk) → rounds < 10000 → (s : StopsIn tells seen (course.bridge, disk) (events_of (round_at trial.seed rounds)))
+        → IsCaused trial rounds so.replies s.front s.replies
+    caused_so rounds so low s =
+        let events = generated_events rounds trial.seed in
+        let passes = passes_each tells seen start events s.front so.replies s.replies (course.bridge, disk) s.mid so.passes s.each in
+        let led = leads_all tells seen start o passes (begun_on run_base run_host) b in
+        let taken = taken_then events s.front so.replies s.replies so.as_many so.taken s.taken in
+        record {
+          run = led.new;
+          runs = led.runs;
+          cause = refused_cause trial.seed rounds led.new s.event low (record {
+            front = s.front;
+            more = s.more;
+            split = s.events_are;
+            replies = so.replies ++ s.replies;
+            runs = led.runs;
+            taken = taken;
+            reply = s.reply;
+            turned = s.turned;
+            told = s.last.told;
+            refused = s.refused;
+            makes = s.last.step led.new led.stands;
+          });
+        }
+
     -- all rounds were played
     pub all_rounds : SoFar start trial.seed trial.blocks course disk → HasPlayed tells seen start trial course disk
     all_rounds so = record {
@@ -246,17 +273,21 @@ module _ {D : Type 0} (tells : Bool) (seen : D → DiskSeen) where
     }
 
     -- a round wasn't
-    pub stops_so : (rounds : ℕ) (after : D) (stop : Stop) → rounds + 1 ≤ trial.blocks → SoFar start trial.seed rounds course disk
+    pub stops_so : (rounds : ℕ) (after : D) (stop : Stop) → trial.blocks ≤ 10000 → rounds + 1 ≤ trial.blocks → SoFar start trial.seed rounds course disk
         → PlaysRound tells seen course disk (round_at trial.seed rounds) after (Err stop) → StopsWith tells seen start trial (status_of_stop (rounds + 1) stop)
-    stops_so rounds after Refused within so s = refused (rounds + 1) (record {
-      rounds = rounds;
-      block_is = refl;
-      within = within;
-      replies = so.replies;
-      bridge = course.bridge;
-      disk = disk;
-      plays = plays_so rounds so;
-      stops = subst (λ (es : List Event). StopsIn tells seen (course.bridge, disk) es) (events_split (round_at trial.seed rounds))
-          (stops_before tells seen (course.bridge, disk) (requests_of (round_at trial.seed rounds)) (made.asked_twice (round_at trial.seed rounds).query) s);
-    })
-    stops_so rounds after NoMemory within so s = no_memory
+    stops_so rounds after Refused few within so s =
+        let stops : StopsIn tells seen (course.bridge, disk) (events_of (round_at trial.seed rounds)) =
+        subst (λ (es : List Event). StopsIn tells seen (course.bridge, disk) es) (events_split (round_at trial.seed rounds))
+        (stops_before tells seen (course.bridge, disk) (requests_of (round_at trial.seed rounds)) (made.asked_twice (round_at trial.seed rounds).query) s) in
+        refused (rounds + 1) (record {
+          rounds = rounds;
+          block_is = refl;
+          within = within;
+          replies = so.replies;
+          bridge = course.bridge;
+          disk = disk;
+          plays = plays_so rounds so;
+          stops = stops;
+          caused = caused_so rounds so (omega (arith, few, within)) stops;
+        })
+    stops_so rounds after NoMemory few within so s = no_memory

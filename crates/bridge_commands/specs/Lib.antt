@@ -4,3 +4,4 @@ pub mod Making
 pub mod Playing
 pub mod SelfTest
 pub mod Words
+pub mod WrongWords

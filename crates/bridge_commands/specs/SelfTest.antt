@@ -1,5 +1,5 @@
 -- What `selftest` writes: the summary of a run of a generated chain, over files that are made on a disk in memory.
-use Rattle.std.specs.Prelude.{◌≡◌, ℕ, ◌+◌, ◌≤◌, Bool, true, List, [], ◌∷◌, ◌++◌, codes, Result, Ok, Err}
+use Rattle.std.specs.Prelude.{◌≡◌, ℕ, suc, ◌+◌, ◌≤◌, Bool, true, List, [], ◌∷◌, ◌++◌, codes, Result, Ok, Err}
 use Rattle.std.specs.Fmt.{decimal}
 use Rattle.byte_io.specs.Sink.{SinkSeen}
 use Rattle.disk_model.specs.DiskSeen.{DiskSeen}
@@ -11,8 +11,10 @@ use Rattle.chain_commands.specs.Chain.{tip_hash}
 use Rattle.chain_commands.specs.RunState.{RunState, chain_of}
 use Rattle.chain_commands.specs.Event.{Event}
 use Rattle.machine.specs.Leaving.{accepted_saves}
+use Rattle.machine.specs.Step.{Run}
 use Rattle.generated_chain.specs.Blocks.{run_base, run_host}
 use Rattle.generated_chain.specs.Events.{events_of, round_at, generated_events}
+use Rattle.generated_validity.specs.Carried.{HaveOneTxid}
 use Rattle.name_report.specs.Counts.{AreCounts}
 use Rattle.name_report.specs.Report.{reported_by}
 use Rattle.name_report.specs.declared.reporting.ReportFault.{ReportFault}
@@ -67,6 +69,13 @@ pub record HasPlayed {D : Type 0} (tells : Bool) (seen : D → DiskSeen) (start 
   pub hits_at_most : course.bridge.answers.cache.hits ≤ trial.blocks
   pub hits_at_least : trial.blocks ≤ course.bridge.answers.cache.hits + course.bridge.answers.cache.missed
 
+-- Why an event was refused, behind so many rounds and a front of this one's events, which led to this run state: of the blocks up to this
+-- one two carry name transactions that differ and have one txid.
+pub record IsCaused (trial : Trial) (rounds : ℕ) (replies : List Reply) (front : List Event) (answered : List Reply) : Type 0 where
+  pub run : RunState
+  pub runs : Run (begun_on run_base run_host) (events_behind trial rounds ++ front) (replies ++ answered) run
+  pub cause : HaveOneTxid trial.seed (suc rounds)
+
 -- The rounds before that of this block were played, and in this one an event was refused.
 pub record FailsAt {D : Type 0} (tells : Bool) (seen : D → DiskSeen) (start : Beginning D) (trial : Trial) (block : ℕ) : Type 0 where
   pub rounds : ℕ
@@ -77,6 +86,7 @@ pub record FailsAt {D : Type 0} (tells : Bool) (seen : D → DiskSeen) (start : 
   pub disk : D
   pub plays : Plays tells seen start trial rounds replies bridge disk
   pub stops : StopsIn tells seen (bridge, disk) (events_of (round_at trial.seed rounds))
+  pub caused : IsCaused trial rounds replies stops.front stops.replies
 
 -- the status of a run that has no summary
 pub data StopsWith {D : Type 0} (tells : Bool) (seen : D → DiskSeen) (start : Beginning D) (trial : Trial) : Status → Type 0 where

@@ -65,15 +65,15 @@ pub fn run<S: Source, K: Sink, D: Disk, P: Port>(
     ensures selftest { (trial : Trial) → AsksToTest words.now.items trial → SelfTests trial (K.seen sink.old) (K.seen sink.new) result × (disk.new ≡ disk.old) }
 {
     match read_words(words) {
-        Some(Command::Replay) => replay(alloc, source, sink, disk, LIMIT),
-        Some(Command::Listing(size)) => list(alloc, source, sink, disk, LIMIT, size),
-        Some(Command::Init(Start::Empty, base, host)) => init(disk, &base, &host),
-        Some(Command::Init(Start::Snapshot, base, host)) => {
+        Ok(Command::Replay) => replay(alloc, source, sink, disk, LIMIT),
+        Ok(Command::Listing(size)) => list(alloc, source, sink, disk, LIMIT, size),
+        Ok(Command::Init(Start::Empty, base, host)) => init(disk, &base, &host),
+        Ok(Command::Init(Start::Snapshot, base, host)) => {
             init_from(alloc, source, disk, &base, &host)
         }
-        Some(Command::Dump) => dump(alloc, sink, disk),
-        Some(Command::Serve(plan)) => serve(alloc, disk, port, plan),
-        Some(Command::SelfTest(trial)) => self_test(alloc, sink, trial),
-        None => Status::Words,
+        Ok(Command::Dump) => dump(alloc, sink, disk),
+        Ok(Command::Serve(plan)) => serve(alloc, disk, port, plan),
+        Ok(Command::SelfTest(trial)) => self_test(alloc, sink, trial),
+        Err(_) => Status::Words,
     }
 }

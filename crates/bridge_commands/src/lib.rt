@@ -4,6 +4,7 @@
 mod command;
 mod course;
 mod dumping;
+mod fields;
 mod making;
 mod numbers;
 mod playing;
@@ -11,7 +12,11 @@ mod self_test;
 mod serving;
 mod summary;
 mod words;
+mod wrong;
 
 pub use bridge_core::Status;
 pub use command::run;
-pub use words::{Command, Plan, Start, Trial};
+pub use fields::LONGEST_HOST_NAME;
+pub use numbers::{MOST_BLOCKS, MOST_ROWS, MOST_TURNS};
+pub use words::{Command, Plan, Start, Trial, read_words};
+pub use wrong::{Field, Form, Wrong, WrongWord};

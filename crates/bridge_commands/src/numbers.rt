@@ -1,16 +1,17 @@
+//! The readers of numbers of a command line, and their limits.
 ghost use Rattle.std.specs.Prelude.{◌≡◌, ◌↔◌, ℕ, Some, IsTrue, IfSome};
 ghost use Rattle.bridge_commands.specs.Words.{IsNumber, IsHeight, IsPort, AreTurns, AreBlocks, IsPageSize, IsSeed, IsPlain};
 
 use nmc_base::HIGHEST_HEIGHT;
 
 /// The most polls that one run makes.
-const MOST_TURNS: u32 = 1_000_000_000;
+pub const MOST_TURNS: u32 = 1_000_000_000;
 
 /// The most blocks that one self-test generates.
-const MOST_BLOCKS: u32 = 10_000;
+pub const MOST_BLOCKS: u32 = 10_000;
 
 /// The most rows that one page of a listing has.
-const MOST_ROWS: u32 = 50;
+pub const MOST_ROWS: u32 = 50;
 
 /// Whether a number is written without a sign and without a leading zero.
 fn is_plain(word: &[u8]) -> bool

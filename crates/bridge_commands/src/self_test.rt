@@ -15,10 +15,11 @@ ghost use Rattle.bridge_commands.specs.SelfTest.{BeginsAt, Comes, PlaysTo, SelfT
 
 use crate::course::Course;
 use crate::dumping::status_of;
+use crate::fields::read_host;
 use crate::making::init;
 use crate::playing::{Stop, play_round};
 use crate::summary::{Summary, write_summary};
-use crate::words::{Trial, read_host};
+use crate::words::Trial;
 use bridge_core::{Bridge, Status, Turned, let_go};
 use byte_io::Sink;
 use disk_model::Disk;

@@ -1,12 +1,17 @@
-ghost use Rattle.std.specs.Prelude.{◌≡◌, ◌↔◌, List, ℕ, Some, IsTrue, IfSome, codes};
-ghost use Rattle.nmc_base.specs.declared.chain_ends.Base.{Base};
-ghost use Rattle.name_store.specs.Host.{IsHostOf};
-ghost use Rattle.nmc_base.specs.declared.chain_ends.Profile.{Profile};
-ghost use Rattle.bridge_commands.specs.Words.{Asks, AreFields, AreNumbers, AreTrial, IsHash, profile_word, start_word};
+//! The reader of a command line: the command that its words ask for, or the first wrong one of them.
+ghost use Rattle.std.specs.Prelude.{◌≡◌, ◌⊎◌, List, [], ◌∷◌, Some, None, Ok, Err, IfOk, IfErr, codes};
+ghost use Rattle.bridge_commands.specs.Words.{Asks, start_word};
+ghost use Rattle.bridge_commands.specs.WrongWords.{AsksForHelp, IsNoCommand, IsReadAs, IsWrong, fields, form_word};
+ghost use Rattle.bridge_commands.specs.declared.words.Command.{Command};
+ghost use Rattle.bridge_commands.specs.declared.wrong.WrongWord.{WrongWord};
+ghost use Rattle.bridge_commands.specs.declared.wrong.Form.TheVariants as the_form;
+ghost use Rattle.bridge_commands.specs.declared.wrong.Wrong.TheVariants as wrong;
 
+use crate::fields::{read_hash, read_host, read_profile};
 use crate::numbers::{read_blocks, read_height, read_page_size, read_port, read_seed, read_turns};
-use domain_text::{Name, absolute_name};
-use nmc_base::{Base, Hash32, Profile, Words};
+use crate::wrong::{Field, Form, Wrong, WrongWord};
+use domain_text::Name;
+use nmc_base::{Base, Bytes, Words};
 
 /// The ports that are served, and how many polls are made.
 #[derive(Clone, Copy, PartialEq, Eq, Debug)]
@@ -54,187 +59,145 @@ pub enum Command {
     SelfTest(Trial),
 }
 
-/// No name of a base's host has more bytes on the wire.
-const LONGEST_HOST_NAME: usize = 244;
-
-/// The hash that the word displays.
-fn read_hash(word: &[u8]) -> Option<Hash32>
-    ensures found { IfSome result (λ hash. IsHash word.now hash.0) }
-    ensures one { (hash : List ℕ) → IsHash word.now hash → result ≡ Some (record { 0 = hash }) }
+/// The form whose word this is.
+fn read_form(word: &[u8]) -> Result<Form, Wrong>
+    ensures found { IfOk result (λ form. word.now ≡ form_word form) }
+    ensures wrong { IfErr result (λ w. ((w ≡ wrong.Help) × AsksForHelp word.now) ⊎ ((w ≡ wrong.NoCommand) × IsNoCommand word.now)) }
 {
-    let mut bytes = [0; 32];
-    match hex::decode_to_slice(word, &mut bytes) {
-        Ok(()) => {
-            bytes.reverse();
-            Some(Hash32(bytes))
-        }
-        Err(_) => None,
+    match word {
+        b"init" => Ok(Form::Init),
+        b"init-from" => Ok(Form::InitFrom),
+        b"serve" => Ok(Form::Serve),
+        b"replay" => Ok(Form::Replay),
+        b"list" => Ok(Form::Listing),
+        b"dump" => Ok(Form::Dump),
+        b"selftest" => Ok(Form::SelfTest),
+        b"--help" | b"-h" => Err(Wrong::Help),
+        _ => Err(Wrong::NoCommand),
     }
 }
 
-/// The name of the host that the word is.
-pub(crate) fn read_host(word: &[u8]) -> Option<Name>
-    ensures found { IfSome result (λ name. IsHostOf word.now name) }
-    ensures one { (name : List ℕ) → IsHostOf word.now name → result ≡ Some name }
+/// What is wrong with the word behind so many.
+fn at(place: usize, wrong: Wrong) -> WrongWord
+    ensures { result ≡ record { place = place; wrong = wrong } }
 {
-    match absolute_name(word) {
-        Some(name) => {
-            if name.wire().len() <= LONGEST_HOST_NAME {
-                Some(name)
-            } else {
-                None
-            }
-        }
-        None => None,
+    WrongWord { place, wrong }
+}
+
+/// What was read of the word behind so many; where that is nothing, the word isn't of its field.
+fn value_of<T>(found: Option<T>, place: usize, field: Field) -> Result<T, WrongWord>
+    ensures value { IfOk result (λ value. found ≡ Some value) }
+    ensures none { IfErr result (λ w. (found ≡ None) × (w ≡ record { place = place; wrong = wrong.Field field })) }
+{
+    match found {
+        Some(value) => Ok(value),
+        None => Err(at(place, Wrong::Field(field))),
     }
 }
 
-fn is_regtest(word: &[u8]) -> bool
-    ensures { IsTrue result ↔ (word.now ≡ codes "regtest") }
+/// The command of a form that has no field.
+fn read_alone(form: Form, command: Command, behind: &[Bytes]) -> Result<Command, WrongWord>
+    requires alone { fields form ≡ [] }
+    requires asks { Asks (form_word form ∷ []) command }
+    ensures { IsReadAs (form_word form ∷ behind.now) result }
 {
-    word == b"regtest".as_slice()
-}
-
-fn is_main(word: &[u8]) -> bool
-    ensures { IsTrue result ↔ (word.now ≡ codes "main") }
-{
-    word == b"main".as_slice()
-}
-
-/// The profile whose word this is.
-fn read_profile(word: &[u8]) -> Option<Profile>
-    ensures found { IfSome result (λ profile. word.now ≡ profile_word profile) }
-    ensures one { (profile : Profile) → word.now ≡ profile_word profile → result ≡ Some profile }
-{
-    if is_regtest(word) {
-        Some(Profile::Regtest)
-    } else if is_main(word) {
-        Some(Profile::Main)
+    if behind.is_empty() {
+        Ok(command)
     } else {
-        None
+        Err(at(0, Wrong::Count(form)))
     }
 }
 
-fn is_init(word: &[u8]) -> bool
-    ensures { IsTrue result ↔ (word.now ≡ codes "init") }
+/// The command that makes files, by what stands behind its word.
+fn read_init(form: Form, start: Start, behind: &[Bytes]) -> Result<Command, WrongWord>
+    requires start { form_word form ≡ start_word start }
+    requires fields { fields form ≡ fields the_form.Init }
+    ensures { IsReadAs (form_word form ∷ behind.now) result }
 {
-    word == b"init".as_slice()
-}
-
-fn is_init_from(word: &[u8]) -> bool
-    ensures { IsTrue result ↔ (word.now ≡ codes "init-from") }
-{
-    word == b"init-from".as_slice()
-}
-
-/// The start list whose word this is.
-fn read_start(word: &[u8]) -> Option<Start>
-    ensures found { IfSome result (λ start. word.now ≡ start_word start) }
-    ensures one { (start : Start) → word.now ≡ start_word start → result ≡ Some start }
-{
-    if is_init(word) {
-        Some(Start::Empty)
-    } else if is_init_from(word) {
-        Some(Start::Snapshot)
-    } else {
-        None
-    }
-}
-
-/// The base of these texts, and the name of its host.
-fn read_fields(profile: &[u8], height: &[u8], hash: &[u8], host: &[u8]) -> Option<(Base, Name)>
-    ensures found { IfSome result (λ made. AreFields profile.now height.now hash.now host.now made.0 made.1) }
-    ensures one { (base : Base) (name : List ℕ) → AreFields profile.now height.now hash.now host.now base name → result ≡ Some (base, name) }
-{
-    let profile = read_profile(profile)?;
-    let height = read_height(height)?;
-    let hash = read_hash(hash)?;
-    let host = read_host(host)?;
+    let [profile, height, hash, host] = behind else {
+        return Err(at(0, Wrong::Count(form)));
+    };
+    let profile = value_of(read_profile(profile.as_slice()), 1, Field::Profile)?;
+    let height = value_of(read_height(height.as_slice()), 2, Field::Height)?;
+    let hash = value_of(read_hash(hash.as_slice()), 3, Field::Hash)?;
+    let host = value_of(read_host(host.as_slice()), 4, Field::Host)?;
     let base = Base {
         profile,
         height,
         hash,
     };
-    Some((base, host))
+    Ok(Command::Init(start, base, host))
 }
 
-/// The plan of these numbers.
-fn read_plan(udp: &[u8], feed: &[u8], turns: &[u8]) -> Option<Plan>
-    ensures found { IfSome result (AreNumbers udp.now feed.now turns.now) }
-    ensures one { (plan : Plan) → AreNumbers udp.now feed.now turns.now plan → result ≡ Some plan }
+/// The command `serve`, by what stands behind its word.
+fn read_serve(behind: &[Bytes]) -> Result<Command, WrongWord>
+    ensures { IsReadAs (codes "serve" ∷ behind.now) result }
 {
-    let udp = read_port(udp)?;
-    let feed = read_port(feed)?;
-    let turns = read_turns(turns)?;
-    Some(Plan { udp, feed, turns })
+    let [udp, feed, turns] = behind else {
+        return Err(at(0, Wrong::Count(Form::Serve)));
+    };
+    let udp = value_of(read_port(udp.as_slice()), 1, Field::Port)?;
+    let feed = value_of(read_port(feed.as_slice()), 2, Field::Port)?;
+    let turns = value_of(read_turns(turns.as_slice()), 3, Field::Turns)?;
+    Ok(Command::Serve(Plan { udp, feed, turns }))
 }
 
-/// The trial of these numbers.
-fn read_trial(blocks: &[u8], seed: &[u8]) -> Option<Trial>
-    ensures found { IfSome result (AreTrial blocks.now seed.now) }
-    ensures one { (trial : Trial) → AreTrial blocks.now seed.now trial → result ≡ Some trial }
+/// The command `list`, by what stands behind its word.
+fn read_list(behind: &[Bytes]) -> Result<Command, WrongWord>
+    ensures { IsReadAs (codes "list" ∷ behind.now) result }
 {
-    let blocks = read_blocks(blocks)?;
-    let seed = read_seed(seed)?;
-    Some(Trial { blocks, seed })
+    let [rows] = behind else {
+        return Err(at(0, Wrong::Count(Form::Listing)));
+    };
+    let rows = value_of(read_page_size(rows.as_slice()), 1, Field::Rows)?;
+    Ok(Command::Listing(rows))
 }
 
-fn is_replay(word: &[u8]) -> bool
-    ensures { IsTrue result ↔ (word.now ≡ codes "replay") }
+/// The command `selftest`, by what stands behind its word.
+fn read_self_test(behind: &[Bytes]) -> Result<Command, WrongWord>
+    ensures { IsReadAs (codes "selftest" ∷ behind.now) result }
 {
-    word == b"replay".as_slice()
+    let [blocks, seed] = behind else {
+        return Err(at(0, Wrong::Count(Form::SelfTest)));
+    };
+    let blocks = value_of(read_blocks(blocks.as_slice()), 1, Field::Blocks)?;
+    let seed = value_of(read_seed(seed.as_slice()), 2, Field::Seed)?;
+    Ok(Command::SelfTest(Trial { blocks, seed }))
 }
 
-fn is_list(word: &[u8]) -> bool
-    ensures { IsTrue result ↔ (word.now ≡ codes "list") }
+/// The command of the form, by what stands behind its word.
+fn read_behind(form: Form, behind: &[Bytes]) -> Result<Command, WrongWord>
+    ensures { IsReadAs (form_word form ∷ behind.now) result }
 {
-    word == b"list".as_slice()
-}
-
-fn is_dump(word: &[u8]) -> bool
-    ensures { IsTrue result ↔ (word.now ≡ codes "dump") }
-{
-    word == b"dump".as_slice()
-}
-
-fn is_serve(word: &[u8]) -> bool
-    ensures { IsTrue result ↔ (word.now ≡ codes "serve") }
-{
-    word == b"serve".as_slice()
-}
-
-fn is_selftest(word: &[u8]) -> bool
-    ensures { IsTrue result ↔ (word.now ≡ codes "selftest") }
-{
-    word == b"selftest".as_slice()
-}
-
-/// The command that the words ask for, or none.
-pub(crate) fn read_words(words: &Words) -> Option<Command>
-    ensures found { IfSome result (λ asked. Asks words.now.items asked) }
-    ensures one { (asked : Command) → Asks words.now.items asked → result ≡ Some asked }
-{
-    match words.as_slice() {
-        [word] if is_replay(word.as_slice()) => Some(Command::Replay),
-        [word] if is_dump(word.as_slice()) => Some(Command::Dump),
-        [form, size] if is_list(form.as_slice()) => {
-            let size = read_page_size(size.as_slice())?;
-            Some(Command::Listing(size))
-        }
-        [form, blocks, seed] if is_selftest(form.as_slice()) => {
-            let trial = read_trial(blocks.as_slice(), seed.as_slice())?;
-            Some(Command::SelfTest(trial))
-        }
-        [form, udp, feed, turns] if is_serve(form.as_slice()) => {
-            let plan = read_plan(udp.as_slice(), feed.as_slice(), turns.as_slice())?;
-            Some(Command::Serve(plan))
-        }
-        [form, profile, height, hash, host] => {
-            let start = read_start(form.as_slice())?;
-            let (profile, height) = (profile.as_slice(), height.as_slice());
-            let (base, name) = read_fields(profile, height, hash.as_slice(), host.as_slice())?;
-            Some(Command::Init(start, base, name))
-        }
-        _ => None,
+    match form {
+        Form::Init => read_init(Form::Init, Start::Empty, behind),
+        Form::InitFrom => read_init(Form::InitFrom, Start::Snapshot, behind),
+        Form::Serve => read_serve(behind),
+        Form::Replay => read_alone(Form::Replay, Command::Replay, behind),
+        Form::Listing => read_list(behind),
+        Form::Dump => read_alone(Form::Dump, Command::Dump, behind),
+        Form::SelfTest => read_self_test(behind),
     }
+}
+
+fn read_line(words: &[Bytes]) -> Result<Command, WrongWord>
+    ensures { IsReadAs words.now result }
+{
+    let [word, behind @ ..] = words else {
+        return Err(at(0, Wrong::Missing));
+    };
+    match read_form(word.as_slice()) {
+        Ok(form) => read_behind(form, behind),
+        Err(wrong) => Err(at(0, wrong)),
+    }
+}
+
+/// The command that the words ask for; where they ask for none, the first wrong word.
+pub fn read_words(words: &Words) -> Result<Command, WrongWord>
+    ensures found { IfOk result (Asks words.now.items) }
+    ensures one { (asked : Command) → Asks words.now.items asked → result ≡ Ok asked }
+    ensures wrong { IfErr result (IsWrong words.now.items) }
+    ensures first { (wrong : WrongWord) → IsWrong words.now.items wrong → result ≡ Err wrong }
+{
+    read_line(words.as_slice())
 }

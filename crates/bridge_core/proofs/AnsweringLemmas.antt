@@ -35,6 +35,7 @@ asked_answers tells seen disk old new reply carrier message ready by = record {
   untouched = λ asks. refl;
   leaves = record {
     later = NeverFell_refl (seen disk).faults;
+    none = refl;
     ends = tt;
     others = λ tell. start refl;
     still_on = subst (λ (store : Stored). IsTrue tells → IsOn store (seen disk).moments.now) (sym by.same_store) ready;

@@ -185,6 +185,7 @@ module _ {D T R M : Type 0} (t : Turn D) (request : Request T R M) where
           untouched = λ asks. absurd ((kind.asks t.reply asks).0 is_zero);
           leaves = record {
             later = d.leaves.later;
+            none = d.leaves.none;
             ends = ends_on (t.seen t.before) (t.seen t.after) request.event t.reply new (λ is. d.leaves.worked);
             others = d.leaves.others;
             still_on = d.leaves.still_on;
@@ -207,6 +208,7 @@ module _ {D T R M : Type 0} (t : Turn D) (request : Request T R M) where
       untouched = λ asks. same;
       leaves = record {
         later = leaves.later;
+        none = leaves.none;
         ends = ends_on (t.seen t.before) (t.seen t.after) request.event t.reply new (λ is_zero. absurd (undone.0 is_zero));
         others = leaves.others;
         still_on = leaves.still_on;
@@ -222,7 +224,7 @@ module _ {D T R M : Type 0} (t : Turn D) (request : Request T R M) where
         → new.answers ≡ t.old.answers → Answered (On new)
     request_refused new refusal d told undone as_were =
         request_undone new undone d.undone (λ run s. (kind.steps run t.reply run (declines (request.view refusal) (d.answers run s).0 refl told), (d.answers run s).1)) as_were
-        (record { later = d.leaves.later; worked = tt; failed = tt; still_on = d.leaves.still_on; others = d.leaves.others })
+        (record { later = d.leaves.later; worked = tt; none = d.leaves.none; failed = tt; still_on = d.leaves.still_on; others = d.leaves.others })
         (λ tell run s stands. let k = d.kept tell run s stands in record { next = k.next; is_next = k.is_next; done = tt; any_moment = k.any_moment })
 
     pub request_lacking : (new : Bridged) → Did (NoMemory new.store) → t.reply ≡ no_memory_reply → new.answers ≡ t.old.answers → Answered (On new)
@@ -238,7 +240,7 @@ module _ {D T R M : Type 0} (t : Turn D) (request : Request T R M) where
           step = λ run s. kind.valid run (d.answers run s.store);
           told = told;
           untouched = λ asks. absurd ((kind.asks t.reply asks).1 code);
-          leaves = record { later = d.leaves.later; ends = d.leaves.failed; others = d.leaves.others; still_on = λ tell. tt };
+          leaves = record { later = d.leaves.later; none = tt; ends = d.leaves.failed; others = d.leaves.others; still_on = λ tell. tt };
           kept = λ tell run s stands.
               let k = d.kept tell run s stands in
               crashes_faulted run request.event (t.seen t.before) (t.seen t.after) t.reply (record { next = k.next; any_moment = k.any_moment }) code k.is_next;

@@ -7,7 +7,7 @@ use Rattle.kept_answers.specs.Answering as kept
 use Rattle.kept_answers.specs.Answering.{outdated}
 use Rattle.disk_model.specs.Moments.{Files, EachMoment}
 use Rattle.disk_model.specs.Changes.{LeavesOthers, Unchanged}
-use Rattle.disk_model.specs.DiskSeen.{DiskSeen, HasFailed, bytes_in}
+use Rattle.disk_model.specs.DiskSeen.{DiskSeen, HasFailed, NoneFailed, bytes_in}
 use Rattle.index_commands.specs.Costs.{IsCheap}
 use Rattle.chain_commands.specs.Event.{Carrier, Command, Event, Connect, Disconnect, Do, Ask, Save}
 use Rattle.chain_commands.specs.RunState.{RunState, chain_of, IsFull}
@@ -81,6 +81,11 @@ EndsOn before after (Ask carrier message) reply (On bridge) = Unit {0}
 EndsOn before after (Do command) reply (On bridge) = reply.code ≡ 0 → IsFalse after.failed
 EndsOn before after Save reply (On bridge) = reply.code ≡ 0 → IsFalse after.failed
 
+-- where the bridge goes on, no call of the disk failed in its turn
+abbrev pub NoneFailedOn : (before after : DiskSeen) → Turned → Type 0
+NoneFailedOn before after (On bridge) = NoneFailed before after
+NoneFailedOn before after Ended = Unit {0}
+
 -- the bridge is on the disk, where it goes on
 abbrev pub IsStillOn : Turned → Files → Type 0
 IsStillOn (On bridge) files = IsOn bridge.store files
@@ -92,10 +97,11 @@ SparesFiles old (Do command) = LeavesOthers (area_file old)
 SparesFiles old (Ask carrier message) = Unchanged
 SparesFiles old Save = SparesSelected old
 
--- No count of faults fell, and how the turn ended on the disk. Of one that tells its files: what the event spares of them was the same
--- at each moment, and the bridge is on it.
+-- No count of faults fell, no call failed where the bridge goes on, and how the turn ended on the disk. Of one that tells its files:
+-- what the event spares of them was the same at each moment, and the bridge is on it.
 pub record LeavesDisk (tells : Bool) (old : Stored) (before after : DiskSeen) (event : Event) (reply : Reply) (turned : Turned) : Type 0 where
   pub later : NeverFell before.faults after.faults
+  pub none : NoneFailedOn before after turned
   pub ends : EndsOn before after event reply turned
   pub others : IsTrue tells → EachMoment (SparesFiles old event before.moments.now) before.moments after.moments
   pub still_on : IsTrue tells → IsStillOn turned after.moments.now

@@ -3,7 +3,7 @@ use Rattle.std.specs.Prelude.{◌≡◌, ℕ, Bool, IsTrue, IsFalse, Result, Ok,
 use Rattle.fault_counts.specs.Faults.{NeverFell}
 use Rattle.disk_model.specs.Moments.{EachMoment}
 use Rattle.disk_model.specs.Changes.{KeepsSettled}
-use Rattle.disk_model.specs.DiskSeen.{DiskSeen, HasFailed, bytes_in}
+use Rattle.disk_model.specs.DiskSeen.{DiskSeen, HasFailed, NoneFailed, bytes_in}
 use Rattle.kept_answers.specs.Answering.{none_kept}
 use Rattle.name_store.specs.Header.{IsUninitialised}
 use Rattle.name_store.specs.Damage.{IsDamaged}
@@ -39,13 +39,14 @@ store_in (Ok bridge) = Ok bridge.store
 store_in (Err fault) = Err fault
 
 -- The files, which were neither uninitialised nor damaged, were opened, each of the three synced: the bridge's store is on them, and
--- stands for each run state that they stood for. No answer is kept yet.
+-- stands for each run state that they stood for. No answer is kept yet, and no call of the disk failed.
 pub record HasOpened (tells : Bool) (old new : DiskSeen) (bridge : Bridged) : Type 0 where
   pub opened : IsTrue tells → IsOpened (bytes_in old) new.moments.now bridge.store
   pub empty : bridge.answers ≡ none_kept
   pub synced : IsTrue tells → IsSynced old new
   pub writes_nothing : WritesNothing tells old new
   pub worked : IsFalse new.failed
+  pub none : NoneFailed old new
   pub later : NeverFell old.faults new.faults
 
 -- the work was done, or memory ran out

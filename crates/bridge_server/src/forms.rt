@@ -1,5 +1,8 @@
-use domain_text::absolute_name;
-use nmc_base::{Bytes, HIGHEST_HEIGHT, Words};
+//! What people are told where the words ask for nothing: what is wrong with the first wrong one, and the forms of all commands.
+use bridge_commands::{
+    Field, Form, LONGEST_HOST_NAME, MOST_BLOCKS, MOST_ROWS, MOST_TURNS, Wrong, read_words,
+};
+use nmc_base::{HIGHEST_HEIGHT, Words};
 use std::{fmt, str};
 use system_io::People;
 
@@ -16,25 +19,22 @@ const FORMS: [&str; 9] = [
     "the manual jaqhumpi(8) says more",
 ];
 
-/// No name of a base's host has more bytes on the wire.
-const LONGEST_HOST_NAME: usize = 244;
-
-const MOST_TURNS: u32 = 1_000_000_000;
-
-const MOST_BLOCKS: u32 = 10_000;
-
-const MOST_ROWS: u32 = 50;
-
-/// What is wrong with words that ask for nothing: this word, and what is to be said of it.
+/// A word, and what is to be said of it.
 #[derive(Drop)]
 struct Complaint<'w> {
     word: &'w [u8],
-    text: &'static str,
+    wrong: Wrong,
 }
 
 impl<'w> fmt::Display for Complaint<'w> {
     fn fmt<W: fmt::Write>(&self, f: &mut fmt::Formatter<W>) -> fmt::Result {
-        write!(f, "{:?} {}", shown(self.word), self.text)
+        write!(f, "{:?} ", shown(self.word))?;
+        match self.wrong {
+            Wrong::Missing | Wrong::Help => write!(f, "asks for help"),
+            Wrong::NoCommand => write!(f, "is no command"),
+            Wrong::Count(form) => write!(f, "takes {}", fields_of(form)),
+            Wrong::Field(field) => write_field(f, field),
+        }
     }
 }
 
@@ -42,197 +42,71 @@ fn shown(word: &[u8]) -> &str {
     str::from_utf8(word).unwrap_or("?")
 }
 
-/// Whether the word is a number within these limits, without a sign and without a leading zero.
-fn is_number(word: &[u8], least: u64, most: u64) -> bool {
-    let is_plain = word == b"0".as_slice() || !matches!(word, [b'0' | b'+', ..]);
-    match shown(word).parse::<u64>() {
-        Ok(number) => is_plain && least <= number && number <= most,
-        Err(_) => false,
+/// What the form's command takes.
+fn fields_of(form: Form) -> &'static str {
+    match form {
+        Form::Init => "four words: init PROFILE HEIGHT HASH HOST",
+        Form::InitFrom => "four words: init-from PROFILE HEIGHT HASH HOST",
+        Form::Serve => "three words: serve UDP_PORT FEED_PORT TURNS",
+        Form::Listing => "one word: list ROWS",
+        Form::SelfTest => "two words: selftest BLOCKS SEED",
+        Form::Replay | Form::Dump => "no other word",
     }
 }
 
-/// The same within limits of 32 bits.
-fn is_small(word: &[u8], least: u32, most: u32) -> bool {
-    is_number(word, u64::from(least), u64::from(most))
-}
-
-fn is_port(word: &[u8]) -> bool {
-    is_small(word, 1, 65535)
-}
-
-fn is_hash(word: &[u8]) -> bool {
-    word.len() == 64 && word.iter().all(|digit| digit.is_ascii_hexdigit())
-}
-
-fn is_host(word: &[u8]) -> bool {
-    match absolute_name(word) {
-        Some(name) => name.wire().len() <= LONGEST_HOST_NAME,
-        None => false,
+/// What a word isn't that is none of the field.
+fn write_field<W: fmt::Write>(f: &mut fmt::Formatter<W>, field: Field) -> fmt::Result {
+    match field {
+        Field::Profile => write!(f, "isn't a profile: regtest or main"),
+        Field::Height => write!(
+            f,
+            "isn't a height: a number from 0 to {HIGHEST_HEIGHT}, without a leading zero"
+        ),
+        Field::Hash => write!(f, "isn't a block's hash: 64 hexadecimal digits"),
+        Field::Host => write!(
+            f,
+            "isn't a host: a domain name with a dot at its end, of at most {LONGEST_HOST_NAME} bytes in a message"
+        ),
+        Field::Port => write!(
+            f,
+            "isn't a port: a number from 1 to {}, without a leading zero",
+            u16::MAX
+        ),
+        Field::Turns => write!(
+            f,
+            "isn't a number of turns: from 1 to {MOST_TURNS}, without a leading zero"
+        ),
+        Field::Rows => write!(
+            f,
+            "isn't a number of rows: from 1 to {MOST_ROWS}, without a leading zero"
+        ),
+        Field::Blocks => write!(
+            f,
+            "isn't a number of blocks: from 1 to {MOST_BLOCKS}, without a leading zero"
+        ),
+        Field::Seed => write!(
+            f,
+            "isn't a seed: a number from 0 to {}, without a leading zero",
+            u64::MAX
+        ),
     }
 }
 
-/// A word in its place: whether it may stand there, and what is to be said of it where it may not.
-#[derive(Clone, Copy)]
-struct Place<'w> {
-    word: &'w [u8],
-    is_well: bool,
-    text: &'static str,
-}
-
-fn stands<'w>(word: &'w [u8], is_well: bool, text: &'static str) -> Place<'w> {
-    Place {
-        word,
-        is_well,
-        text,
-    }
-}
-
-/// The first of these words that isn't what stands in its place.
-fn first_wrong<'w>(places: &[Place<'w>]) -> Option<Complaint<'w>> {
-    for Place {
-        word,
-        is_well,
-        text,
-    } in places {
-        if !*is_well {
-            return Some(Complaint { word, text });
-        }
-    }
-    None
-}
-
-/// What is wrong with the words behind `init` or `init-from`, and `text` where there are more or fewer than four.
-fn wrong_for_init<'w>(
-    command: &'w [u8],
-    words: &'w [Bytes],
-    text: &'static str,
-) -> Option<Complaint<'w>> {
-    let [profile, height, hash, host] = words else {
-        return Some(Complaint {
-            word: command,
-            text,
-        });
-    };
-    let (profile, height) = (profile.as_slice(), height.as_slice());
-    let (hash, host) = (hash.as_slice(), host.as_slice());
-    first_wrong(&[
-        stands(
-            profile,
-            matches!(profile, b"regtest" | b"main"),
-            "isn't a profile: regtest or main",
-        ),
-        stands(
-            height,
-            is_small(height, 0, HIGHEST_HEIGHT),
-            "isn't a height: a number from 0 to 2000000000, without a leading zero",
-        ),
-        stands(
-            hash,
-            is_hash(hash),
-            "isn't a block's hash: 64 hexadecimal digits",
-        ),
-        stands(
-            host,
-            is_host(host),
-            "isn't a host: a domain name with a dot at its end, of at most 244 bytes in a message",
-        ),
-    ])
-}
-
-/// What is wrong with the words behind `serve`.
-fn wrong_for_serve<'w>(command: &'w [u8], words: &'w [Bytes]) -> Option<Complaint<'w>> {
-    let [udp, feed, turns] = words else {
-        return Some(Complaint {
-            word: command,
-            text: "takes three words: serve UDP_PORT FEED_PORT TURNS",
-        });
-    };
-    let (udp, feed, turns) = (udp.as_slice(), feed.as_slice(), turns.as_slice());
-    let port = "isn't a port: a number from 1 to 65535, without a leading zero";
-    first_wrong(&[
-        stands(udp, is_port(udp), port),
-        stands(feed, is_port(feed), port),
-        stands(
-            turns,
-            is_small(turns, 1, MOST_TURNS),
-            "isn't a number of turns: from 1 to 1000000000, without a leading zero",
-        ),
-    ])
-}
-
-/// What is wrong with the words behind `list`.
-fn wrong_for_list<'w>(command: &'w [u8], words: &'w [Bytes]) -> Option<Complaint<'w>> {
-    let [rows] = words else {
-        return Some(Complaint {
-            word: command,
-            text: "takes one word: list ROWS",
-        });
-    };
-    let rows = rows.as_slice();
-    first_wrong(&[stands(
-        rows,
-        is_small(rows, 1, MOST_ROWS),
-        "isn't a number of rows: from 1 to 50, without a leading zero",
-    )])
-}
-
-/// What is wrong with the words behind `selftest`.
-fn wrong_for_selftest<'w>(command: &'w [u8], words: &'w [Bytes]) -> Option<Complaint<'w>> {
-    let [blocks, seed] = words else {
-        return Some(Complaint {
-            word: command,
-            text: "takes two words: selftest BLOCKS SEED",
-        });
-    };
-    let (blocks, seed) = (blocks.as_slice(), seed.as_slice());
-    first_wrong(&[
-        stands(
-            blocks,
-            is_small(blocks, 1, MOST_BLOCKS),
-            "isn't a number of blocks: from 1 to 10000, without a leading zero",
-        ),
-        stands(
-            seed,
-            is_number(seed, 0, u64::MAX),
-            "isn't a seed: a number from 0 to 18446744073709551615, without a leading zero",
-        ),
-    ])
-}
-
-/// What is wrong with the words, where that can be said of one of them.
-fn complaint_of<'w>(words: &'w [Bytes]) -> Option<Complaint<'w>> {
-    let [command, rest @ ..] = words else {
-        return None;
-    };
-    match command.as_slice() {
-        b"init" => wrong_for_init(
-            command.as_slice(),
-            rest,
-            "takes four words: init PROFILE HEIGHT HASH HOST",
-        ),
-        b"init-from" => wrong_for_init(
-            command.as_slice(),
-            rest,
-            "takes four words: init-from PROFILE HEIGHT HASH HOST",
-        ),
-        b"serve" => wrong_for_serve(command.as_slice(), rest),
-        b"list" => wrong_for_list(command.as_slice(), rest),
-        b"selftest" => wrong_for_selftest(command.as_slice(), rest),
-        b"replay" | b"dump" => Some(Complaint {
-            word: command.as_slice(),
-            text: "takes no other word",
-        }),
-        b"--help" | b"-h" => None,
-        word => Some(Complaint {
-            word,
-            text: "is no command",
+/// The first wrong word, where one is to be spoken of.
+fn complaint_of(words: &Words) -> Option<Complaint<'_>> {
+    let first = read_words(words).err()?;
+    match first.wrong {
+        Wrong::Missing | Wrong::Help => None,
+        wrong => Some(Complaint {
+            word: words.as_slice().get(first.place)?.as_slice(),
+            wrong,
         }),
     }
 }
 
 /// Tells people what is wrong with words that ask for nothing, and what may be asked for.
 pub(crate) fn tell_forms(people: &People<'_>, words: &Words) {
-    if let Some(complaint) = complaint_of(words.as_slice()) {
+    if let Some(complaint) = complaint_of(words) {
         people.tell(complaint);
     }
     for form in FORMS {

@@ -2,12 +2,14 @@
 #![tactic(auto)]
 
 mod errors;
+mod numbers;
 mod port;
 mod sent;
 mod sink;
 mod source;
 
 pub use errors::Failed;
+pub use numbers::number_of_a_poll;
 pub use port::{POLL_ROOM, Polled, Port};
 pub use sent::Sent;
 pub use sink::Sink;

@@ -140,7 +140,7 @@ module _ (tells : Bool) (old mid : DiskSeen) (looked : IsTrue tells → EachMome
         ends_behind : (result : Result (Unit {0}) StartFault) → StartEnds tells base host limit mid new before after result → StartEnds tells base host limit old new before after result
         ends_behind _ (made makes read shut stands crashes) = made makes read (shut_before shut) stands (crashes_behind (start_of makes) crashes)
         ends_behind _ (broken makes read has crashes) = broken makes read (failed_behind has) (crashes_behind (start_of makes) crashes)
-        ends_behind _ (unread has only) = unread (failed_behind has) (only_behind only)
+        ends_behind _ (unread has only same) = unread (failed_behind has) (only_behind only) same
         ends_behind _ (stays is only) = stays (λ told. subst (λ (f : Files). IsInitialised (f 0).bytes) (same told) (is told)) (only_behind only)
         ends_behind _ (no_snapshot fault read shut only) = no_snapshot fault read (shut_before shut) (only_behind only)
         ends_behind _ (no_memory shut only) = no_memory (shut_before shut) (only_behind only)

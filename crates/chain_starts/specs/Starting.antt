@@ -1,5 +1,5 @@
 -- What making the files from a snapshot comes to.
-use Rattle.std.specs.Prelude.{◌<◌, ◌^◌, ℕ, Bool, IsTrue, List, length, Result, Ok, Err, OnOk, IsErrOf}
+use Rattle.std.specs.Prelude.{◌≡◌, ◌<◌, ◌^◌, ℕ, Bool, IsTrue, List, length, Result, Ok, Err, OnOk, IsErrOf}
 use Rattle.std.specs.Io.KnownBytes.{Consumes}
 use Rattle.fault_counts.specs.Faults.{NeverFell}
 use Rattle.byte_io.specs.Source.{SourceSeen}
@@ -73,7 +73,8 @@ pub data StartEnds (tells : Bool) (base : Base) (host : List ℕ) (limit : ℕ) 
       → CrashesBegin tells base host (start_of makes) old new → StartEnds tells base host limit old new before after (Ok (record {}))
   broken : (makes : List StartMake) → ReadsStart base limit before after makes → HasFailed old new → CrashesBegin tells base host (start_of makes) old new
       → StartEnds tells base host limit old new before after (Err DiskFault)
-  unread : HasFailed old new → OnlyReads tells old new → StartEnds tells base host limit old new before after (Err DiskFault)
+  -- the look at file 0 failed, and the source wasn't read
+  unread : HasFailed old new → OnlyReads tells old new → after ≡ before → StartEnds tells base host limit old new before after (Err DiskFault)
   stays : (IsTrue tells → IsInitialised (bytes_in old 0)) → OnlyReads tells old new → StartEnds tells base host limit old new before after (Err Initialised)
   no_snapshot : (fault : FeedFault) → ReadsSnapshot base limit before after (Err fault) → (IsTrue tells → IsUninitialised (bytes_in old 0)) → OnlyReads tells old new
       → StartEnds tells base host limit old new before after (Err (fault_of_feed fault))

@@ -15,6 +15,7 @@ use name_store::{CreateFromFault, create_from, is_initialised};
 use name_tables::Parts;
 use nmc_base::{Base, Hash32};
 use snapshot_feed::read_snapshot;
+use state_image::let_go;
 use std::alloc::Global;
 
 /// A hash has 32 bytes.
@@ -37,7 +38,9 @@ fn make_of<D: Disk>(
         → CreatesFrom D.tells base.now name (start_of has.makes) (D.seen disk.old) (D.seen disk.new) result }
 {
     read_hash(base.hash);
-    create_from(alloc, disk, base, host, &parts)
+    let made = create_from(alloc, disk, base, host, &parts);
+    let_go(parts);
+    made
 }
 
 /// Reads the source, and makes the files of what it gives, which aren't initialised.

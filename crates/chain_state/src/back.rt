@@ -158,4 +158,7 @@ impl StagedBack {
         tables.clear(undo.ops.as_slice(), undo.expired.as_slice(), steps);
         Chain::joined(base, tip, tables, undos)
     }
+
+    /// Lets go of what was staged, and of the chain. Call it in the place of dropping them, which each crate would prove anew.
+    pub fn let_go(self) {}
 }

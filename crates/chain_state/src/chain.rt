@@ -124,6 +124,11 @@ impl Chain {
     {
         &self.parts
     }
+
+    /// Lets go of a chain that is of no use. Call it in the place of dropping it, which each crate would prove anew.
+    pub fn let_go(self) {
+        self.parts.let_go();
+    }
 }
 
 impl StagedChain {
@@ -163,4 +168,7 @@ impl StagedChain {
         let tables = self.whole.abandon(steps);
         Chain::joined(self.base, self.tip, tables, self.undos)
     }
+
+    /// Lets go of what was staged, and of the chain. Call it in the place of dropping them, likewise.
+    pub fn let_go(self) {}
 }

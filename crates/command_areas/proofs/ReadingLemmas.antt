@@ -14,7 +14,6 @@ use Rattle.gate_journal.specs.Answers.{IsDamagedAt, NextAnswer}
 use Rattle.gate_journal.specs.declared.faults.JournalFault.{JournalFault}
 use Rattle.gate_journal.specs.declared.faults.JournalFault.TheVariants as journal
 use Rattle.gate_journal.proofs.RecordLemmas.{record_unique}
-use Rattle.chain_commands.specs.RunState.{longest_area}
 use Rattle.index_commands.specs.Records.{record_of}
 use Rattle.index_commands.specs.Following.{Follows, FollowsNot, FollowsRecord}
 use Rattle.index_commands.specs.declared.following.Unfollowed.TheVariants as unfollowed
@@ -27,79 +26,79 @@ use Rattle.command_areas.proofs.AreaLemmas.{record_size, area_size, open_at, non
 
 -- ---- from one gate on
 
-module _ (tells : Bool) (first : Origin) (area : List ℕ) where
+module _ (tells : Bool) (longest : ℕ) (first : Origin) (area : List ℕ) where
   -- where nothing was read yet
-  pub followed_none : (journal : Stand) → IsBehind tells first.front journal area → journal.length ≤ longest_area → HasFollowed tells first area first.index journal.length
+  pub followed_none : (journal : Stand) → IsBehind tells first.front journal area → journal.length ≤ longest → HasFollowed tells longest first area first.index journal.length
   followed_none journal behind within = record {
     commands = [];
     leads = same_self first.index;
     reached_is = behind.length_is;
-    read = λ told. none_read first.front longest_area area (behind.begins told) (behind.inside told) (omega (arith, behind.length_is, within));
+    read = λ told. none_read first.front longest area (behind.begins told) (behind.inside told) (omega (arith, behind.length_is, within));
   }
 
-  module _ (old : Indexed) (reached : ℕ) (some : HasFollowed tells first area old reached) where
+  module _ (old : Indexed) (reached : ℕ) (some : HasFollowed tells longest first area old reached) where
     -- the gate at which the journal stands
     gate_is : reached - 1 ≡ gate_behind first.front some.commands
     gate_is = omega (arith, some.reached_is, area_size first.front some.commands (led_sizes first.index old some.commands some.leads))
 
-    at_gate : (record_is : List ℕ) → IsRecordAt area (reached - 1) longest_area record_is → IsRecordAt area (gate_behind first.front some.commands) longest_area record_is
-    at_gate record_is at = subst (λ (n : ℕ). IsRecordAt area n longest_area record_is) gate_is at
+    at_gate : (record_is : List ℕ) → IsRecordAt area (reached - 1) longest record_is → IsRecordAt area (gate_behind first.front some.commands) longest record_is
+    at_gate record_is at = subst (λ (n : ℕ). IsRecordAt area n longest record_is) gate_is at
 
     -- a command more
     pub followed_more : (record_is : List ℕ) (new : Indexed) (further : ℕ) → Follows old record_is new → further ≡ reached + 5 + length record_is
-        → (IsTrue tells → IsRecordAt area (reached - 1) longest_area record_is) → HasFollowed tells first area new further
+        → (IsTrue tells → IsRecordAt area (reached - 1) longest record_is) → HasFollowed tells longest first area new further
     followed_more record_is new further follows further_is stands = record {
       commands = follows.command ∷ some.commands;
       leads = (old, some.leads, follows.takes);
       reached_is = omega (arith, further_is, some.reached_is, ap length follows.is, record_size follows.command (takes_size old new follows.command follows.takes));
-      read = λ told. read_more first.front longest_area area some.commands follows.command (some.read told) (at_gate (record_of follows.command) (subst (IsRecordAt area (reached - 1) longest_area) follows.is (stands told)));
+      read = λ told. read_more first.front longest area some.commands follows.command (some.read told) (at_gate (record_of follows.command) (subst (IsRecordAt area (reached - 1) longest) follows.is (stands told)));
     }
 
     -- no command is left
-    pub followed_all : (IsTrue tells → IsClosed area (reached - 1)) → HasFollowedAll tells first area old reached
+    pub followed_all : (IsTrue tells → IsClosed area (reached - 1)) → HasFollowedAll tells longest first area old reached
     followed_all closed = record {
       some = some;
       shut = λ told. record { inside = omega (arith, gate_is, (some.read told).records.inside); closed = closed told };
     }
 
     -- no record that fits stands there
-    pub bad_start : IsTrue tells → IsDamagedAt area (reached - 1) longest_area → HasBadRecord first longest_area area (reached - 1)
+    pub bad_start : IsTrue tells → IsDamagedAt area (reached - 1) longest → HasBadRecord first longest area (reached - 1)
     bad_start told damaged = record {
       commands = some.commands;
       index = old;
       read = record { has = some.read told; leads = some.leads };
       at_is = gate_is;
       is_open = damaged.is_open;
-      no_next = λ command next. damaged.no_record (record_of command) (subst (λ (n : ℕ). IsRecordAt area n longest_area (record_of command)) (sym gate_is) next.stands);
+      no_next = λ command next. damaged.no_record (record_of command) (subst (λ (n : ℕ). IsRecordAt area n longest (record_of command)) (sym gate_is) next.stands);
     }
 
     -- one stands there that is that of no command that the index takes
-    pub bad_command : IsTrue tells → (record_is : List ℕ) → IsRecordAt area (reached - 1) longest_area record_is → FollowsNot old record_is → HasBadRecord first longest_area area (reached - 1)
+    pub bad_command : IsTrue tells → (record_is : List ℕ) → IsRecordAt area (reached - 1) longest record_is → FollowsNot old record_is → HasBadRecord first longest area (reached - 1)
     bad_command told record_is stands not = record {
       commands = some.commands;
       index = old;
       read = record { has = some.read told; leads = some.leads };
       at_is = gate_is;
-      is_open = open_at area (reached - 1) longest_area record_is stands;
-      no_next = λ command next. not command (record_unique area record_is (record_of command) (gate_behind first.front some.commands) longest_area (at_gate record_is stands) next.stands) next.taken;
+      is_open = open_at area (reached - 1) longest record_is stands;
+      no_next = λ command next. not command (record_unique area record_is (record_of command) (gate_behind first.front some.commands) longest (at_gate record_is stands) next.stands) next.taken;
     }
 
 -- ---- a step
 
 -- what a step was given: the journal in its file, the index, and the commands that led to it
-pub record Stepping (tells : Bool) (seen : ℕ → List ℕ) (first : Origin) (file : ℕ) : Type 0 where
+pub record Stepping (tells : Bool) (longest : ℕ) (seen : ℕ → List ℕ) (first : Origin) (file : ℕ) : Type 0 where
   pub journal : Stand
-  pub in_area : IsInArea file journal
+  pub in_area : IsInArea longest file journal
   pub index : Indexed
-  pub some : HasFollowed tells first (seen file) index journal.length
+  pub some : HasFollowed tells longest first (seen file) index journal.length
 
-module _ (tells : Bool) (seen : ℕ → List ℕ) (first : Origin) (file : ℕ) (s : Stepping tells seen first file) where
+module _ (tells : Bool) (longest : ℕ) (seen : ℕ → List ℕ) (first : Origin) (file : ℕ) (s : Stepping tells longest seen first file) where
   -- what the journal says of its file, of the area's
-  in_the_area : (P : List ℕ → ℕ → Type 0) → P (seen s.journal.file) s.journal.limit → P (seen file) longest_area
+  in_the_area : (P : List ℕ → ℕ → Type 0) → P (seen s.journal.file) s.journal.limit → P (seen file) longest
   in_the_area P holds = subst (λ (n : ℕ). P (seen file) n) s.in_area.limit_is (subst (λ (f : ℕ). P (seen f) s.journal.limit) s.in_area.file_is holds)
 
   module _ (new : Stand) (into : List ℕ) where
-    record_there : (more : Bool) → more ≡ true → NextAnswer (seen s.journal.file) s.journal new into (Ok more) → IsRecordAt (seen file) (s.journal.length - 1) longest_area into
+    record_there : (more : Bool) → more ≡ true → NextAnswer (seen s.journal.file) s.journal new into (Ok more) → IsRecordAt (seen file) (s.journal.length - 1) longest into
     record_there true e answer = in_the_area (λ area limit. IsRecordAt area (s.journal.length - 1) limit into) answer.0
     record_there false e answer = cc
 
@@ -108,47 +107,51 @@ module _ (tells : Bool) (seen : ℕ → List ℕ) (first : Origin) (file : ℕ) 
     gate_there true e answer = cc
 
     -- a fault of the journal
-    pub fault_there : (fault : JournalFault) → (IsTrue tells → NextAnswer (seen s.journal.file) s.journal new into (Err fault)) → StepAnswer tells first (seen file) (Err fault)
+    pub fault_there : (fault : JournalFault) → (IsTrue tells → NextAnswer (seen s.journal.file) s.journal new into (Err fault)) → StepAnswer tells longest first (seen file) (Err fault)
     fault_there journal.DiskFault answer = tt
     fault_there journal.NoMemory answer = tt
     fault_there (journal.Damaged at) answer = λ told.
-        let damaged : (at ≡ s.journal.length - 1) × IsDamagedAt (seen file) (s.journal.length - 1) longest_area =
+        let damaged : (at ≡ s.journal.length - 1) × IsDamagedAt (seen file) (s.journal.length - 1) longest =
         in_the_area (λ area limit. (at ≡ s.journal.length - 1) × IsDamagedAt area (s.journal.length - 1) limit) (answer told) in
-        subst (HasBadRecord first longest_area (seen file)) (sym damaged.0) (bad_start tells first (seen file) s.index s.journal.length s.some told damaged.1)
+        subst (HasBadRecord first longest (seen file)) (sym damaged.0) (bad_start tells longest first (seen file) s.index s.journal.length s.some told damaged.1)
 
     module _ (more : Bool) (e : more ≡ true) (answer : IsTrue tells → NextAnswer (seen s.journal.file) s.journal new into (Ok more)) where
       -- of a step that followed a command
       pub stepped_more : (index : Indexed) → (IsTrue more → (new.length ≡ s.journal.length + 5 + length into) × (new.length ≤ new.limit)) → FollowsRecord s.index into (Ok index)
-          → HasFollowed tells first (seen file) index new.length
+          → HasFollowed tells longest first (seen file) index new.length
       stepped_more index moved follows =
-          followed_more tells first (seen file) s.index s.journal.length s.some into index new.length follows (moved e).0 (λ told. record_there more e (answer told))
+          followed_more tells longest first (seen file) s.index s.journal.length s.some into index new.length follows (moved e).0 (λ told. record_there more e (answer told))
 
       -- of one that came to a record that isn't followed
-      pub stepped_bad : FollowsRecord s.index into (Err unfollowed.Refused) → (at : ℕ) → at ≡ s.journal.length - 1 → IsTrue tells → HasBadRecord first longest_area (seen file) at
-      stepped_bad follows at at_is told = subst (HasBadRecord first longest_area (seen file)) (sym at_is)
-          (bad_command tells first (seen file) s.index s.journal.length s.some told into (record_there more e (answer told)) follows)
+      pub stepped_bad : FollowsRecord s.index into (Err unfollowed.Refused) → (at : ℕ) → at ≡ s.journal.length - 1 → IsTrue tells → HasBadRecord first longest (seen file) at
+      stepped_bad follows at at_is told = subst (HasBadRecord first longest (seen file)) (sym at_is)
+          (bad_command tells longest first (seen file) s.index s.journal.length s.some told into (record_there more e (answer told)) follows)
 
 -- ---- of the same bytes, where the disk tells them
 
-module _ (tells : Bool) (first : Origin) (a b : List ℕ) (same : IsTrue tells → a ≡ b) where
-  pub followed_same : (index : Indexed) (reached : ℕ) → HasFollowed tells first a index reached → HasFollowed tells first b index reached
+module _ (tells : Bool) (longest : ℕ) (first : Origin) (a b : List ℕ) (same : IsTrue tells → a ≡ b) where
+  pub followed_same : (index : Indexed) (reached : ℕ) → HasFollowed tells longest first a index reached → HasFollowed tells longest first b index reached
   followed_same index reached some = record {
     commands = some.commands;
     leads = some.leads;
     reached_is = some.reached_is;
-    read = λ told. subst (λ (l : List ℕ). HasCommands first.front longest_area l some.commands) (same told) (some.read told);
+    read = λ told. subst (λ (l : List ℕ). HasCommands first.front longest l some.commands) (same told) (some.read told);
   }
 
-  pub followed_all_same : (index : Indexed) (reached : ℕ) → HasFollowedAll tells first a index reached → HasFollowedAll tells first b index reached
+  pub followed_all_same : (index : Indexed) (reached : ℕ) → HasFollowedAll tells longest first a index reached → HasFollowedAll tells longest first b index reached
   followed_all_same index reached all = record {
     some = followed_same index reached all.some;
     shut = λ told. subst (λ (l : List ℕ). IsShut l (reached - 1)) (same told) (all.shut told);
   }
 
-  pub fault_same : (fault : JournalFault) → StepAnswer tells first a (Err fault) → AllAnswer tells first b (Err fault)
-  fault_same (journal.Damaged at) is = λ told. subst (λ (l : List ℕ). HasBadRecord first longest_area l at) (same told) (is told)
+  pub fault_same : (fault : JournalFault) → StepAnswer tells longest first a (Err fault) → AllAnswer tells longest first b (Err fault)
+  fault_same (journal.Damaged at) is = λ told. subst (λ (l : List ℕ). HasBadRecord first longest l at) (same told) (is told)
   fault_same journal.DiskFault is = tt
   fault_same journal.NoMemory is = tt
+
+-- a journal in the area, by its own limit
+pub own_area : (longest file : ℕ) (journal : Stand) → IsInArea longest file journal → IsInArea journal.limit file journal
+own_area longest file journal is = subst (λ (n : ℕ). IsInArea n file journal) (sym is.limit_is) is
 
 -- a file of a disk whose files are as they were
 pub same_bytes : (tells : Bool) (old new : DiskSeen) (file : ℕ) → (IsTrue tells → EachMoment (Unchanged old.moments.now) old.moments new.moments) → IsTrue tells → bytes_in old file ≡ bytes_in new file

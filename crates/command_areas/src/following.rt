@@ -5,10 +5,8 @@ ghost use Rattle.disk_model.specs.Moments.{EachMoment};
 ghost use Rattle.disk_model.specs.Changes.{Unchanged};
 ghost use Rattle.disk_model.specs.DiskSeen.{EndsWith, bytes_in, file_in};
 ghost use Rattle.gate_journal.specs.Stand.{IsReadable};
-ghost use Rattle.chain_commands.specs.RunState.{longest_area};
 ghost use Rattle.command_areas.specs.Reading.{FollowsArea, FollowsCommands, IsInArea};
 
-use crate::limits::LONGEST_AREA;
 use crate::reading::{Reading, read_all};
 use chain_state::Chain;
 use disk_model::Disk;
@@ -38,13 +36,13 @@ fn follow_area<D: Disk, L: Ledger>(
     journal: Journal,
     blank: Blank,
 ) -> Result<Reading, JournalFault>
-    requires area { IsInArea file journal }
+    requires area { IsInArea journal.limit file journal }
     requires readable { IsTrue D.tells → IsReadable journal (file_in (D.seen disk.old) file) }
     requires name { blank.name ≡ L.name }
     requires parts { blank.parts ≡ L.parts }
     requires some { 0 < blank.parts }
-    ensures follows { FollowsArea D.tells first journal (bytes_in (D.seen disk.old) file) result }
-    ensures in_area { IfOk result (λ reading. IsInArea file reading.journal) }
+    ensures follows { FollowsArea D.tells journal.limit first journal (bytes_in (D.seen disk.old) file) result }
+    ensures in_area { IfOk result (λ reading. IsInArea journal.limit file reading.journal) }
     ensures time { IsTrue D.tells → EachMoment (Unchanged (D.seen disk.old).moments.now) (D.seen disk.old).moments (D.seen disk.new).moments }
     ensures reads { (D.seen disk.new).changes ≡ (D.seen disk.old).changes }
     ensures ends { EndsWith JournalFault.DiskFault (D.seen disk.old) (D.seen disk.new) result }
@@ -58,9 +56,6 @@ fn follow_area<D: Disk, L: Ledger>(
     read_all(reading, alloc, disk, file, &mut steps)
 }
 
-/// Lets go of an index, in a place of its own: such a place is dear to prove.
-fn let_go(_index: Chain) {}
-
 /// What stands behind the last command of a reading.
 fn end_of(reading: Reading) -> Followed
     ensures { result ≡ record { index = reading.chain; length = reading.journal.length } }
@@ -73,7 +68,7 @@ fn end_of(reading: Reading) -> Followed
 }
 
 /// Follows all commands of the area in this file, from the index on that stands before the first of them. Their first gate stands at this
-/// place inside the file, which was synced and not written since.
+/// place inside the file, which was synced and not written since. The area has no more bytes than `longest`.
 ///
 /// `Damaged` comes exactly where at a command's turn an open gate is followed by no record that fits the file and the area, or by that of
 /// no command that the index takes; the place is that of the gate. It asks for no write and no cut. Memory is taken for the index and for
@@ -84,15 +79,16 @@ pub fn follow_commands<D: Disk>(
     file: u8,
     gate: u64,
     first: Chain,
+    longest: u64,
 ) -> Result<Followed, JournalFault>
     requires file { file < 3 }
     requires front { 8 ≤ gate }
-    requires low { gate < longest_area }
+    requires low { gate < longest }
     requires settled { IsTrue D.tells → IsSettled (file_in (D.seen disk.old) file) }
     requires inside { IsTrue D.tells → gate < length (bytes_in (D.seen disk.old) file) }
-    ensures { FollowsCommands D.tells first file gate (D.seen disk.old) (D.seen disk.new) result }
+    ensures { FollowsCommands D.tells longest first file gate (D.seen disk.old) (D.seen disk.new) result }
 {
-    match Journal::open(disk, file, gate, LONGEST_AREA) {
+    match Journal::open(disk, file, gate, longest) {
         Ok(journal) => {
             match follow_area::<D, Brand>(alloc, disk, file, first, journal, Blank::new(1)) {
                 Ok(reading) => Ok(end_of(reading)),
@@ -100,7 +96,7 @@ pub fn follow_commands<D: Disk>(
             }
         }
         Err(fault) => {
-            let_go(first);
+            first.let_go();
             Err(fault)
         }
     }

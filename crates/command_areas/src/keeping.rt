@@ -3,14 +3,13 @@ ghost use Rattle.std.specs.Prelude.{ℕ, ◌+◌, ◌<◌, ◌≤◌, ◌∷◌,
 ghost use Rattle.nmc_base.specs.declared.limits.TheConstants.{LONGEST_BLOCK};
 ghost use Rattle.disk_model.specs.FileState.{IsSettled};
 ghost use Rattle.disk_model.specs.DiskSeen.{file_in, bytes_in};
-ghost use Rattle.chain_commands.specs.RunState.{longest_area};
 ghost use Rattle.command_areas.specs.Keeping.{HoldsRecords, Keeps};
 
-use crate::limits::LONGEST_AREA;
 use disk_model::{Disk, Failed};
 use gate_journal::{AppendFault, Journal};
 
-/// Keeps a command: appends a record of this head and body to the area of this length in bytes, in this file, and says the new length.
+/// Keeps a command: appends a record of this head and body to the area of this length in bytes, in this file, and says the new length, which
+/// is no more than `longest`.
 ///
 /// A crash meanwhile leaves the records of the area, with that one or without.
 pub fn keep<D: Disk>(
@@ -19,16 +18,17 @@ pub fn keep<D: Disk>(
     area: u64,
     head: u8,
     body: &[u8],
+    longest: u64,
 ) -> Result<u64, Failed>
     requires file { file < 3 }
     requires short { length body.now ≤ LONGEST_BLOCK }
-    requires room { area + 6 + length body.now ≤ longest_area }
+    requires room { area + 6 + length body.now ≤ longest }
     requires settled { IsTrue D.tells → IsSettled (file_in (D.seen disk.old) file) }
     requires records { IsTrue D.tells → (image : List ℕ) × (records : List (List ℕ)) × HoldsRecords area image records (bytes_in (D.seen disk.old) file) }
     requires gate { 1 ≤ area }
     ensures { Keeps D.tells file area (head ∷ body.now) (D.seen disk.old) (D.seen disk.new) result }
 {
-    let mut journal = Journal::at_gate(file, area, LONGEST_AREA);
+    let mut journal = Journal::at_gate(file, area, longest);
     match journal.append(disk, &[head], body) {
         Ok(()) => Ok(journal.length()),
         Err(AppendFault::DiskFault) => Err(Failed),

@@ -32,9 +32,6 @@ pub enum Stepped {
     All(Reading),
 }
 
-/// Lets go of what was read, in a place of its own: such a place is dear to prove.
-fn let_go(_reading: Reading) {}
-
 /// Follows the next command of the area in this file.
 fn step<D: Disk, L: Ledger>(
     reading: Reading,
@@ -43,10 +40,10 @@ fn step<D: Disk, L: Ledger>(
     file: u8,
     steps: &mut Steps<L>,
 ) -> Result<Stepped, JournalFault>
-    requires area { IsInArea file reading.journal }
+    requires area { IsInArea reading.journal.limit file reading.journal }
     requires readable { IsTrue D.tells → IsReadable reading.journal (file_in (D.seen disk.old) file) }
-    ensures steps_on { StepsOn D.tells reading (bytes_in (D.seen disk.old) file) result }
-    ensures moves { IfOk result (MovesOn file reading.journal) }
+    ensures steps_on { StepsOn D.tells reading.journal.limit reading (bytes_in (D.seen disk.old) file) result }
+    ensures moves { IfOk result (MovesOn reading.journal.limit file reading.journal) }
     ensures readable { IsTrue D.tells → IfOk result (λ stepped. IsReadable (reading_of stepped).journal (file_in (D.seen disk.new) file)) }
     ensures time { IsTrue D.tells → EachMoment (Unchanged (D.seen disk.old).moments.now) (D.seen disk.old).moments (D.seen disk.new).moments }
     ensures reads { (D.seen disk.new).changes ≡ (D.seen disk.old).changes }
@@ -78,11 +75,7 @@ fn step<D: Disk, L: Ledger>(
             }
         }
         Err(fault) => {
-            let_go(Reading {
-                journal,
-                chain,
-                held,
-            });
+            chain.let_go();
             Err(fault)
         }
     }
@@ -96,10 +89,10 @@ pub fn read_all<D: Disk, L: Ledger>(
     file: u8,
     steps: &mut Steps<L>,
 ) -> Result<Reading, JournalFault>
-    requires area { IsInArea file reading.journal }
+    requires area { IsInArea reading.journal.limit file reading.journal }
     requires readable { IsTrue D.tells → IsReadable reading.journal (file_in (D.seen disk.old) file) }
-    ensures follows { ReadsAll D.tells reading (bytes_in (D.seen disk.old) file) result }
-    ensures in_area { IfOk result (λ reading. IsInArea file reading.journal) }
+    ensures follows { ReadsAll D.tells reading.journal.limit reading (bytes_in (D.seen disk.old) file) result }
+    ensures in_area { IfOk result (λ all. IsInArea reading.journal.limit file all.journal) }
     ensures time { IsTrue D.tells → EachMoment (Unchanged (D.seen disk.old).moments.now) (D.seen disk.old).moments (D.seen disk.new).moments }
     ensures reads { (D.seen disk.new).changes ≡ (D.seen disk.old).changes }
     ensures ends { EndsWith JournalFault.DiskFault (D.seen disk.old) (D.seen disk.new) result }

@@ -31,16 +31,23 @@ pub record HasFailed (old new : DiskSeen) : Type 0 where
   pub last : IsTrue new.failed
   pub rose : Rose old.faults new.faults
 
--- One call or several, where this one of the errors is a fault of the disk: with it the last call failed, and at Ok it worked.
+-- no call failed since: the disk has failed as often as before
+abbrev pub NoneFailed : DiskSeen → DiskSeen → Type 0
+NoneFailed old new = new.faults ≡ old.faults
+
+-- One call or several, where this one of the errors is a fault of the disk: with it the last call failed, and at Ok it worked
+-- and none before it failed.
 pub record EndsWith {T E : Type 0} (fault : E) (old new : DiskSeen) (result : Result T E) : Type 0 where
   pub later : NeverFell old.faults new.faults
   pub worked : OnOk result (IsFalse new.failed)
+  pub none : OnOk result (NoneFailed old new)
   pub failed : IsErrOf result fault → HasFailed old new
 
 -- One call or several, where each error is a fault of the disk.
 pub record Ends {T E : Type 0} (old new : DiskSeen) (result : Result T E) : Type 0 where
   pub later : NeverFell old.faults new.faults
   pub worked : OnOk result (IsFalse new.failed)
+  pub none : OnOk result (NoneFailed old new)
   pub failed : OnErr result (HasFailed old new)
 
 -- ---- the calls

@@ -1,3 +1,4 @@
+pub mod LabelLemmas
 pub mod NumberTests
 pub mod BufferLemmas
 pub mod RecordLemmas

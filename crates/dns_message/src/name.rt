@@ -16,20 +16,21 @@ fn is_label_length(length: usize) -> bool
 pub(crate) fn name_len(bytes: &[u8]) -> Option<usize>
     ensures { result ≡ name_length 0 bytes.now }
 {
-    let mut left: usize = 0;
+    let mut rest = bytes;
     let mut len: usize = 0;
-    for byte in bytes {
+    while let Some((byte, more)) = rest.split_first() {
         let length = usize::from(*byte);
-        if left != 0 {
-            left -= 1;
-        } else if length == 0 {
+        if length == 0 {
             return Some(len + 1);
-        } else if !is_label_length(length) {
-            return None;
-        } else {
-            left = length;
         }
-        len += 1;
+        if !is_label_length(length) {
+            return None;
+        }
+        if length > more.len() {
+            return None;
+        }
+        rest = more.split_at(length).1;
+        len += 1 + length;
     }
     None
 }

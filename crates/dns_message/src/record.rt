@@ -21,10 +21,14 @@ pub(crate) fn put_question(buf: &mut [u8], asked: &Question<'_>) -> usize
     put(buf, end, &[kind_high, kind_low, class_high, class_low])
 }
 
-/// Whether an owner is the question's name, without regard to the case of ASCII letters (RFC 1035, 2.3.3).
+/// Whether an owner is the question's name, without regard to the case of ASCII letters (RFC 1035, 2.3.3). Most askers write the
+/// name as it stands in the owner, so their bytes are compared first, which is quicker.
 pub(crate) fn is_asked(asked: &[u8], owner: &[u8]) -> bool
     ensures { result ≡ bytes_eq (lower owner.now) (lower asked.now) }
 {
+    if owner == asked {
+        return true;
+    }
     owner.eq_ignore_ascii_case(asked)
 }
 

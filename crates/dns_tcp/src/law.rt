@@ -39,3 +39,8 @@ pub fn clients_apart()
     ensures no_room { (client : ℕ) (streams : List Stream) → ¬ (MayHold client streams) → (left_of client streams ≡ None) × (CLIENTS ≤ length streams) }
     ensures fewer_held { (client : ℕ) (streams : List Stream) → AreStreams streams → AreStreams (without client streams) }
 {}
+
+/// The number that definitions cite by its name: of how many clients the streams are held at once.
+pub fn number_of_clients()
+    ensures { CLIENTS ≡ 16 }
+{}

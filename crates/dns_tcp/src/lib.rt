@@ -6,7 +6,7 @@ mod law;
 mod message;
 mod streams;
 
-pub use law::{any_pieces, clients_apart, one_splitting};
+pub use law::{any_pieces, clients_apart, number_of_clients, one_splitting};
 pub use streams::{CLIENTS, LONGEST_PIECE, Streams};
 
 #[cfg(test)]

@@ -3,6 +3,10 @@ use Rattle.std.specs.Prelude.{◌≡◌, ◌⊎◌, ℕ, ◌≤◌, Bool, ◌==�
 use Rattle.feed_frames.specs.declared.kinds.Kind.{Kind}
 use Rattle.feed_frames.specs.declared.kinds.TheConstants.{KINDS}
 
+-- a row as numbers: the kind, and the least and the greatest length of its payload
+abbrev pub numbers_of : Kind → ℕ × ℕ × ℕ
+numbers_of row = (row.byte, row.least, row.greatest)
+
 -- one of the rows is so
 abbrev pub HasRow : (Kind → Type 0) → List Kind → Type 0
 HasRow IsSo [] = ⊥

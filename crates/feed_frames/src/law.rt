@@ -1,7 +1,10 @@
-ghost use Rattle.std.specs.Prelude.{◌≡◌, ℕ, List, ◌++◌, length};
+ghost use Rattle.std.specs.Prelude.{◌≡◌, ℕ, List, [], ◌∷◌, ◌++◌, length, map};
 ghost use Rattle.feed_frames.specs.Frames.{Frame, frames_text, Splits, IsRest, IsBadFrame, IsPartialFrame};
 ghost use Rattle.feed_frames.specs.Feed.{Feed};
+ghost use Rattle.feed_frames.specs.Kinds.{numbers_of};
 ghost use Rattle.feed_frames.specs.Law.{Came, joined, AreBytes, HasSplitting};
+ghost use Rattle.feed_frames.specs.declared.kinds.TheConstants.{KINDS};
+ghost use Rattle.feed_frames.specs.declared.reader.TheConstants.{PIECE};
 
 /// Bytes are whole frames and a rest that is none, and in one way: so a stream has one list of frames.
 pub fn one_splitting()
@@ -23,4 +26,13 @@ pub fn any_pieces()
     ensures all_frames { (kinds : ℕ) (pieces : List (List ℕ)) (frames others : List Frame) (feed : Feed) (rest : List ℕ)
         → Came kinds pieces frames feed → IsRest kinds feed.left → Splits kinds (joined pieces) others rest → IsRest kinds rest
         → (frames ≡ others) × (feed.left ≡ rest) }
+{}
+
+/// The numbers that definitions cite by their names: each kind of frame with the least and the greatest length of its payload (a
+/// block to connect, a hash to disconnect, a message of DNS, a save, a listing to open, one to go on with, one to close, a save in
+/// slices, its next slice), and how many bytes may be fed at once.
+pub fn numbers_of_frames()
+    ensures kinds { map numbers_of KINDS
+        ≡ (1, 0, 8388608) ∷ (2, 32, 32) ∷ (3, 0, 65535) ∷ (4, 0, 0) ∷ (5, 0, 0) ∷ (6, 4, 4) ∷ (7, 4, 4) ∷ (8, 0, 0) ∷ (9, 4, 4) ∷ [] }
+    ensures piece { PIECE ≡ 65536 }
 {}

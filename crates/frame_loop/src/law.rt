@@ -1,9 +1,10 @@
 ghost use Rattle.frame_loop.specs.Transcript.{Streams, Transcript};
 ghost use Rattle.frame_loop.specs.Determined.{IsDetermined, IsComplete};
+ghost use Rattle.frame_loop.specs.declared.answerer.TheConstants.{QUERY, STREAM_QUERY};
 ghost use Rattle.frame_loop.specs.declared.following.Ending.{Ending};
 ghost use Rattle.feed_frames.specs.Frames.{Frame};
 ghost use Rattle.feed_frames.specs.Replies.{Reply};
-ghost use Rattle.std.specs.Prelude.{List, ℕ};
+ghost use Rattle.std.specs.Prelude.{◌≡◌, List, ℕ};
 
 use crate::answerer::Answerer;
 
@@ -14,4 +15,10 @@ pub fn one_ending<W, T: Answerer<W>>()
         → Transcript T.KINDS (T.reached start) (T.broken start) old new limit how now → IsDetermined T.KINDS old new limit how }
     ensures complete { (start : T.Start) (old new : Streams) (limit : ℕ) (how : Ending) (now : T × W)
         → Transcript T.KINDS (T.reached start) (T.broken start) old new limit how now → IsComplete T.KINDS old new limit how }
+{}
+
+/// The numbers that definitions cite by their names: the kind of a frame with a message of DNS, and what stands in its place for a
+/// message of a client's stream, which is no kind of the feed.
+pub fn numbers_of_queries()
+    ensures { (QUERY ≡ 3) × (STREAM_QUERY ≡ 0) }
 {}

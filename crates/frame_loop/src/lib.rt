@@ -15,7 +15,7 @@ pub use answering::{Halted, answer_all};
 pub use delivery::{Undelivered, deliver};
 pub use filling::Buffers;
 pub use following::{Ending, follow};
-pub use law::one_ending;
+pub use law::{numbers_of_queries, one_ending};
 pub use outlet::{Outlet, ToSink};
 pub use reply::{LONGEST_REPLY, ReplyBuf};
 

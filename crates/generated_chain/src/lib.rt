@@ -10,3 +10,4 @@ mod texts;
 
 pub use law::{queries_ask, round_after_round, small_draws_and_texts};
 pub use run::{Round, Run};
+pub use stand::{Deed, Made, Stand};

@@ -8,21 +8,25 @@ use nmc_base::OutPoint;
 
 /// An output that a name transaction made, and the height of its block.
 #[derive(Clone, Copy)]
-pub(crate) struct Made {
-    pub(crate) height: u32,
-    pub(crate) output: OutPoint,
+pub struct Made {
+    /// The height of the block.
+    pub height: u32,
+    /// The first output of its second transaction.
+    pub output: OutPoint,
 }
 
 /// How a name stands: its NAME_NEW that waits to be opened, and its last change.
 #[derive(Clone, Copy)]
-pub(crate) struct Stand {
-    pub(crate) waiting: Option<Made>,
-    pub(crate) changed: Option<Made>,
+pub struct Stand {
+    /// Its NAME_NEW that no block has opened yet.
+    pub waiting: Option<Made>,
+    /// What opened or updated it last.
+    pub changed: Option<Made>,
 }
 
 /// What a block does to a name.
 #[derive(Clone, Copy)]
-pub(crate) enum Deed {
+pub enum Deed {
     /// Nothing, since its NAME_NEW isn't old enough.
     Nothing,
     /// OP_NAME_NEW.

@@ -1,4 +1,6 @@
 pub mod Elements
+pub mod Labels
 pub mod Object
 pub mod Shapes
+pub mod Sizes
 pub mod Values

@@ -4,9 +4,12 @@
 mod elements;
 mod import;
 mod item;
+mod labels;
 mod object;
 mod shape;
+mod size;
 mod text;
 
 pub use item::{Element, Elements, Key};
+pub use labels::label_number;
 pub use object::{IfaObject, read_value};

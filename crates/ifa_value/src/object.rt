@@ -1,14 +1,19 @@
 //! The object that a value is.
 
-ghost use Rattle.std.specs.Prelude.{◌≡◌, Some, None, is_some, IfOk};
+ghost use Rattle.std.specs.Prelude.{◌≡◌, ◌-◌, ◌+◌, true, Some, None, is_some, IfOk};
 ghost use Rattle.std.specs.Option.{option_map};
 ghost use Rattle.serde_json.specs.View.{view};
 ghost use Rattle.ifa_value.specs.Elements.{elements_in, elements_of};
+ghost use Rattle.domain_text.specs.Label.{is_entry_label as is_entry_label_of};
+ghost use Rattle.ifa_value.specs.Labels.{map_labels, label_numbers};
 ghost use Rattle.ifa_value.specs.Object.{members};
+ghost use Rattle.ifa_value.specs.Sizes.{members_size};
 ghost use Rattle.ifa_value.specs.Values.{object_of, item_of, entry_of};
 
 use crate::elements::{alone, each, element, imports};
 use crate::item::{Elements, Key};
+use crate::labels::add_numbers;
+use crate::size::left_by_members;
 use domain_text::is_entry_label;
 use nmc_base::NoMemory;
 use serde_json::Value;
@@ -81,6 +86,44 @@ impl IfaObject {
                 }
             }
             None => Ok(None),
+        }
+    }
+}
+
+impl IfaObject {
+    /// Whether there is an object under a label in the map. The label is `*` or empty or a label without capital letters.
+    pub fn has_entry(&self, label: &str) -> bool
+        requires { is_entry_label_of label.now ≡ true }
+        ensures { result ≡ is_some (entry_of label.now (members self.now)) }
+    {
+        match self.value.get("map") {
+            Some(map) => match map.get(label) {
+                Some(value) => value.is_object(),
+                None => false,
+            },
+            None => false,
+        }
+    }
+
+    /// The numbers that stand for the labels of the map under which an object stands, in the order of their bytes.
+    pub fn label_numbers(&self, alloc: Global) -> Result<Vec<u64>, NoMemory>
+        ensures { IfOk result (λ v. v.items ≡ label_numbers (map_labels (members self.now))) }
+    {
+        let mut numbers = Vec::new(alloc);
+        match self.value.get("map").and_then(Value::as_object) {
+            Some(map) => add_numbers(map, &mut numbers)?,
+            None => {}
+        }
+        Ok(numbers)
+    }
+
+    /// What the object leaves of so many bytes: none where its members have as many or more.
+    pub fn left_of(&self, left: usize) -> usize
+        ensures { result ≡ left - members_size (members self.now) }
+    {
+        match self.value.as_object() {
+            Some(members) => left_by_members(members, left),
+            None => left,
         }
     }
 }

@@ -136,7 +136,7 @@ module _ (image : List ℕ) (records : List (List ℕ)) (file : List ℕ) (short
   pub area_front : HasFront file
   area_front =
       let long : 9 + length image ≤ length file = omega (arith, is.closed.inside, length-append (image_front image) (records_text records)) in
-      subst (λ (k : ℕ). LiesInside k (length file)) (sym length_at) (record { long = omega (arith, long); short = short; inside = long })
+      subst (λ (k : ℕ). LiesInside (2 ^ 37) k (length file)) (sym length_at) (record { long = omega (arith, long); short = short; inside = long })
 
   pub area_image : image_at file ≡ image
   area_image =

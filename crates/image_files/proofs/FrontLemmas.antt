@@ -5,9 +5,9 @@ use Rattle.std.proofs.lemmas.List.{take_all}
 use Rattle.disk_model.specs.Reads.{IsRead}
 use Rattle.gate_journal.specs.Records.{image_front}
 use Rattle.gate_journal.proofs.ReadLemmas.{take_more_of}
-use Rattle.image_files.specs.Fronts.{LiesInside, HasFront, HasLength, image_length_at, image_at, behind_length}
+use Rattle.image_files.specs.Fronts.{LiesInside, HasFrontWithin, HasLength, HasLengthWithin, image_length_at, image_at, behind_length}
 
-module _ (file into : List ℕ) (n : ℕ) (read : IsRead file 0 8 n into) (whole : length into ≡ 8) (image : ℕ) (image_is : image ≡ from_le_bytes w64 into) where
+module _ (file into : List ℕ) (n : ℕ) (read : IsRead file 0 8 n into) (whole : length into ≡ 8) (image : ℕ) (image_is : image ≡ from_le_bytes w64 into) (longest : ℕ) where
   bytes_read : 8 ≤ length file → into ≡ take 8 file
   bytes_read long =
       let is : n ≡ 8 = omega (arith, read.count) in
@@ -16,17 +16,17 @@ module _ (file into : List ℕ) (n : ℕ) (read : IsRead file 0 8 n into) (whole
   length_read : 8 ≤ length file → image ≡ image_length_at file
   length_read long = image_is ∙ ap (λ (l : List ℕ). from_le_bytes w64 l) (bytes_read long)
 
-  pub front_read : LiesInside image (length file) → to_le_bytes w64 image ≡ into → HasLength file image
+  pub front_read : LiesInside longest image (length file) → to_le_bytes w64 image ≡ into → HasLengthWithin longest file image
   front_read lies bytes =
       let long : 8 ≤ length file = omega (arith, lies.long) in
       record {
-        front = subst (λ (k : ℕ). LiesInside k (length file)) (length_read long) lies;
+        front = subst (λ (k : ℕ). LiesInside longest k (length file)) (length_read long) lies;
         length_is = length_read long;
         bytes = bytes ∙ bytes_read long;
       }
 
-  pub no_front_read : ¬ (LiesInside image (length file)) → ¬ (HasFront file)
-  no_front_read not front = not (subst (λ (k : ℕ). LiesInside k (length file)) (sym (length_read (omega (arith, front.long)))) front)
+  pub no_front_read : ¬ (LiesInside longest image (length file)) → ¬ (HasFrontWithin longest file)
+  no_front_read not front = not (subst (λ (k : ℕ). LiesInside longest k (length file)) (sym (length_read (omega (arith, front.long)))) front)
 
 -- ---- the image behind
 

@@ -1,5 +1,5 @@
 -- The index of parts that were loaded, and that with which an area begins.
-use Rattle.std.proofs.Common.{◌≡◌, ◌≢◌, inl, inr, ℕ, ◌+◌, ◌<◌, List, [], ◌∷◌, length, map, reverse, refl, sym, ◌∙◌, ap, subst, arith}
+use Rattle.std.proofs.Common.{◌≡◌, ◌≢◌, inl, inr, ℕ, ◌+◌, ◌<◌, ◌^◌, List, [], ◌∷◌, length, map, reverse, refl, sym, ◌∙◌, ap, subst, arith}
 use Rattle.std.specs.Prelude.{Result, Ok, Err, IfOk, IfErr}
 use Rattle.std.proofs.lemmas.List.{length-map, length-reverse}
 use Rattle.nmc_base.specs.declared.chain_ends.Base.{Base}
@@ -126,7 +126,7 @@ begin_fault base file (Damaged at) bad = bad
 begin_fault base file DiskFault none = tt
 begin_fault base file NoMemory none = tt
 
-pub length_fault : (base : Base) (file : List ℕ) (fault : ReadFault) → LengthAnswer file (Err fault) → ReadAnswer base file (Err fault)
+pub length_fault : (base : Base) (file : List ℕ) (fault : ReadFault) → LengthAnswer (2 ^ 37) file (Err fault) → ReadAnswer base file (Err fault)
 length_fault base file (Damaged at) bad = no_front bad.0 bad.1
 length_fault base file DiskFault none = tt
 length_fault base file NoMemory none = tt

@@ -4,7 +4,7 @@ use Rattle.std.specs.Prelude.{Result, Ok, Err, IsTrue, IsFalse, IsErrAnd}
 use Rattle.fault_counts.specs.Faults.{Faults, NeverFell, Rose}
 use Rattle.disk_model.specs.Moments.{Files, EachMoment, start}
 use Rattle.disk_model.specs.Changes.{Unchanged}
-use Rattle.disk_model.specs.DiskSeen.{DiskSeen, IsCall, HasFailed, bytes_in}
+use Rattle.disk_model.specs.DiskSeen.{DiskSeen, IsCall, HasFailed, NoneFailed, bytes_in}
 use Rattle.disk_model.specs.declared.disk.Failed.{Failed}
 use Rattle.disk_model.proofs.MomentLemmas.{last_moment}
 use Rattle.gate_journal.proofs.ReadLemmas.{unchanged_then}
@@ -51,12 +51,14 @@ module _ (tells : Bool) (old mid new : DiskSeen) (first : Quiet tells old mid) w
     reads = second.reads ∙ first.reads;
   }
 
-  pub only_then : {T : Type 0} (result : Result T ReadFault) → OnlyReads tells mid new result → OnlyReads tells old new result
-  only_then result only = record {
+  -- a fault that came behind it
+  pub fault_then : {T : Type 0} (fault : ReadFault) → OnlyReads {T = T} tells mid new (Err fault) → OnlyReads {T = T} tells old new (Err fault)
+  fault_then fault only = record {
     unchanged = λ told. unchanged_then (first.unchanged told) (only.unchanged told);
     ends = record {
       later = fell_then first.later only.ends.later;
-      worked = only.ends.worked;
+      worked = tt;
+      none = tt;
       failed = λ is. failed_since first.later (only.ends.failed is);
     };
     reads = only.reads ∙ first.reads;
@@ -69,22 +71,22 @@ module _ (tells : Bool) (old mid new : DiskSeen) (first : Quiet tells old mid) w
 -- ---- what came of it
 
 module _ {T : Type 0} (tells : Bool) (old new : DiskSeen) (quiet : Quiet tells old new) where
-  pub only_ok : (value : T) → IsFalse new.failed → OnlyReads tells old new (Ok value)
-  only_ok value worked = record { unchanged = quiet.unchanged; ends = record { later = quiet.later; worked = worked; failed = λ is. absurd cc }; reads = quiet.reads }
+  pub only_ok : (value : T) → IsFalse new.failed → NoneFailed old new → OnlyReads tells old new (Ok value)
+  only_ok value worked none = record { unchanged = quiet.unchanged; ends = record { later = quiet.later; worked = worked; none = none; failed = λ is. absurd cc }; reads = quiet.reads }
 
   pub only_other : (fault : ReadFault) → fault ≢ DiskFault → OnlyReads {T = T} tells old new (Err fault)
   only_other fault other =
-      record { unchanged = quiet.unchanged; ends = record { later = quiet.later; worked = tt; failed = λ is. absurd (other cc) }; reads = quiet.reads }
+      record { unchanged = quiet.unchanged; ends = record { later = quiet.later; worked = tt; none = tt; failed = λ is. absurd (other cc) }; reads = quiet.reads }
 
-  -- the last call worked, and whatever fault came is none of the disk
-  pub only_since : (result : Result T ReadFault) → IsFalse new.failed → (result ≡ Err DiskFault → ⊥) → OnlyReads tells old new result
-  only_since result worked not =
-      record { unchanged = quiet.unchanged; ends = record { later = quiet.later; worked = on_ok result worked; failed = λ is. absurd (not is) }; reads = quiet.reads }
+  -- the last call worked and none failed before it, and whatever fault came is none of the disk
+  pub only_since : (result : Result T ReadFault) → IsFalse new.failed → NoneFailed old new → (result ≡ Err DiskFault → ⊥) → OnlyReads tells old new result
+  only_since result worked none not =
+      record { unchanged = quiet.unchanged; ends = record { later = quiet.later; worked = on_ok result worked; none = on_ok result none; failed = λ is. absurd (not is) }; reads = quiet.reads }
 
 -- the same fault, in the place of another value
 pub only_fault : {T U : Type 0} (tells : Bool) (old new : DiskSeen) (fault : ReadFault) → OnlyReads {T = T} tells old new (Err fault) → OnlyReads {T = U} tells old new (Err fault)
 only_fault tells old new fault only =
-    record { unchanged = only.unchanged; ends = record { later = only.ends.later; worked = tt; failed = λ is. only.ends.failed (ap (λ (f : ReadFault). Err f) cc) }; reads = only.reads }
+    record { unchanged = only.unchanged; ends = record { later = only.ends.later; worked = tt; none = tt; failed = λ is. only.ends.failed (ap (λ (f : ReadFault). Err f) cc) }; reads = only.reads }
 
 -- a fault that was passed on
 pub as_fault : {T : Type 0} (P : Result T ReadFault → Type 0) (result : Result T ReadFault) (fault : ReadFault) → IsErrAnd result (λ e. e ≡ fault) → P (Err fault) → P result

@@ -10,7 +10,7 @@ use Rattle.state_image.specs.Loading.{Loading, HasRead}
 use Rattle.chain_state.specs.Chain.{Indexed, indexed_of, kept_tip}
 use Rattle.image_files.specs.declared.fault.ReadFault.{ReadFault}
 use Rattle.image_files.specs.declared.fault.ReadFault.TheVariants.{Damaged, DiskFault, NoMemory}
-use Rattle.image_files.specs.Fronts.{HasFront, HasLength, image_at, behind_length}
+use Rattle.image_files.specs.Fronts.{HasFront, HasFrontWithin, HasLength, HasLengthWithin, image_at, behind_length}
 use Rattle.image_files.specs.Indexes.{IsIndexOf, BeginsWith, IsDamagedAt, IsOfAnotherBase, HasBadImage}
 
 -- The disk was only read: no write and no cut was asked for, and no file has changed. A fault of it has its cause.
@@ -21,16 +21,16 @@ pub record OnlyReads {T : Type 0} (tells : Bool) (old new : DiskSeen) (result : 
 
 -- ---- the front
 
-abbrev pub LengthAnswer : List ℕ → Result ℕ ReadFault → Type 0
-LengthAnswer file (Ok image) = HasLength file image
-LengthAnswer file (Err (Damaged at)) = (at ≡ 0) × ¬ (HasFront file)
-LengthAnswer file (Err DiskFault) = ⊤
-LengthAnswer file (Err NoMemory) = ⊤
+abbrev pub LengthAnswer : (longest : ℕ) → List ℕ → Result ℕ ReadFault → Type 0
+LengthAnswer longest file (Ok image) = HasLengthWithin longest file image
+LengthAnswer longest file (Err (Damaged at)) = (at ≡ 0) × ¬ (HasFrontWithin longest file)
+LengthAnswer longest file (Err DiskFault) = ⊤
+LengthAnswer longest file (Err NoMemory) = ⊤
 
--- The length of the image in this file was read.
-pub record ReadsLength (tells : Bool) (file : ℕ) (old new : DiskSeen) (result : Result ℕ ReadFault) : Type 0 where
-  pub answer : IsTrue tells → LengthAnswer (bytes_in old file) result
-  pub short : IfOk result (λ image. image ≤ 2 ^ 37)
+-- The length of the image in this file was read, where no image is longer than the longest.
+pub record ReadsLength (tells : Bool) (longest file : ℕ) (old new : DiskSeen) (result : Result ℕ ReadFault) : Type 0 where
+  pub answer : IsTrue tells → LengthAnswer longest (bytes_in old file) result
+  pub short : IfOk result (λ image. image ≤ longest)
   pub only : OnlyReads tells old new result
 
 -- ---- the image

@@ -15,6 +15,7 @@ mod saving;
 mod writing;
 
 pub use fault::ReadFault;
+pub use front::read_length;
 pub use law::{a_saved_index_is_read, images_of_a_save, one_bad_image, one_index_of_an_image};
 pub use making::make_image;
 pub use reading::read_image;

@@ -11,6 +11,9 @@ use disk_model::Disk;
 use nmc_base::Base;
 use std::alloc::Global;
 
+/// No image has more bytes: 2^37.
+const LONGEST_IMAGE: u64 = 1 << 37;
+
 /// Reads the image with which the area in this file begins: its index, and the place of the gate behind it. An image of length 0
 /// stands for the index of the base alone.
 ///
@@ -26,7 +29,7 @@ pub fn read_image<D: Disk>(
     requires low { base.now.height ≤ HIGHEST_HEIGHT }
     ensures { ReadsImage D.tells file base.now (D.seen disk.old) (D.seen disk.new) result }
 {
-    let image = read_length(disk, file)?;
+    let image = read_length(disk, LONGEST_IMAGE, file)?;
     match begin_index(alloc, disk, file, image, base) {
         Ok(chain) => Ok((chain, LENGTH_SIZE + image)),
         Err(fault) => Err(fault),

@@ -69,5 +69,5 @@ refused tells slots image disk fault (Err e) why no_disk told = subst (λ (f : D
   answer = why;
   holds = λ tells. tt;
   others = λ tells. start (λ other differ. refl);
-  ends = record { later = record { count = omega arith; at_limit = λ h. h }; worked = tt; failed = λ is. absurd (no_disk cc) };
+  ends = record { later = record { count = omega arith; at_limit = λ h. h }; worked = tt; none = tt; failed = λ is. absurd (no_disk cc) };
 })

@@ -1,56 +1,62 @@
 -- Sources that have no entry under a label.
-use Rattle.std.proofs.Common.{◌≡◌, ℕ, zero, suc, ◌+◌, ◌<◌, ◌≤◌, List, [], ◌∷◌, ◌++◌, length, get_or, Option, None, refl, sym, arith, below_more}
-use Rattle.std.proofs.lemmas.List.{length-append}
+use Rattle.std.proofs.Common.{◌≡◌, ℕ, suc, ◌+◌, ◌<◌, ◌≤◌, List, [], ◌∷◌, length, get_or, None, refl, arith, below_more}
 use Rattle.serde_json.specs.Data.{Members}
-use Rattle.ifa_value.specs.Values.{entry_of}
-use Rattle.import_expand.specs.Sources.{Live, entries, child_of}
-use Rattle.import_expand.specs.Books.{objects, IsAt, Finds, Shows, IsSound, Keeps}
-use Rattle.import_expand.specs.declared.book.Book.{Book}
-use Rattle.import_expand.proofs.ExpandLemmas.{finds_is_none}
+use Rattle.std.proofs.Common.{false}
+use Rattle.std.specs.Prelude.{is_some}
+use Rattle.std.specs.List.{AllByRecursion}
+use Rattle.domain_text.specs.Label.{is_entry_label}
+use Rattle.ifa_value.specs.declared.item.Key.{Key}
+use Rattle.ifa_value.specs.declared.item.Key.TheVariants as key
+use Rattle.ifa_value.specs.Values.{entry_of, item_of}
+use Rattle.import_expand.specs.Sources.{Live, entries, child_of, first_of, EndsNoWay}
+use Rattle.import_expand.specs.Books.{IsAt, Shows}
+use Rattle.import_expand.specs.Rooms.{IsPlain}
 
--- the first so many of these numbers' objects have no entry under a label
-abbrev pub HaveNone : Book → List ℕ → List ℕ → ℕ → Type 0
-HaveNone b label numbers n = (live : Live) → IsSound live b → (k : ℕ) → k < n → (o : Members) → IsAt (objects b) (get_or numbers k 0) o → entry_of label o ≡ None
+-- of the first so many of these numbers' objects this is so
+abbrev pub AllAre : (Members → Type 0) → List Members → List ℕ → ℕ → Type 0
+AllAre P os numbers n = (k : ℕ) → k < n → (o : Members) → IsAt os (get_or numbers k 0) o → P o
 
--- the object of a number has no entry under a label
-abbrev pub HasNone : Book → List ℕ → ℕ → Type 0
-HasNone b label at = (live : Live) → IsSound live b → (o : Members) → IsAt (objects b) at o → entry_of label o ≡ None
+pub one_more : (P : Members → Type 0) (os : List Members) (numbers : List ℕ) (n at : ℕ) → get_or numbers n 0 ≡ at → ((o : Members) → IsAt os at o → P o) → AllAre P os numbers n → AllAre P os numbers (n + 1)
+one_more P os numbers n at e so have = below_more _ _ have (λ o here. so o (rw e at here))
 
-pub has_none : (b c later : Book) (label : List ℕ) (at : ℕ) (r : Option ℕ) → Keeps b c → r ≡ None → ((live : Live) (o : Members) → IsSound live c → IsAt (objects c) at o → Finds (objects later) r (entry_of label o)) → HasNone b label at
-has_none b c later label at r k none found = λ live sound o here. finds_is_none (objects later) (entry_of label o) (rw none at (found live o (k.sound live sound) (k.grows at o here)))
+-- an object has no entry under a label
+abbrev pub HasNone : List ℕ → Members → Type 0
+HasNone label o = entry_of label o ≡ None
 
-pub one_more : (b : Book) (label numbers : List ℕ) (n at : ℕ) → get_or numbers n 0 ≡ at → HasNone b label at → HaveNone b label numbers n → HaveNone b label numbers (n + 1)
-one_more b label numbers n at e none have = λ live sound. below_more _ _ (have live sound) (λ o here. none live sound o (rw e at here))
+-- what is so of all is so of the objects that they show
+all_shown : (P : Members → Type 0) (os : List Members) (is : List ℕ) (ns : List Members) → Shows os is ns → AllAre P os is (length is) → AllByRecursion P ns
+all_shown P os [] [] h so = tt
+all_shown P os (i ∷ is) (n ∷ ns) h so = (so 0 (omega arith) n h.0, all_shown P os is ns h.1 (λ k l o here. so (suc k) (omega arith) o here))
+all_shown P os [] (n ∷ ns) h so = absurd h
+all_shown P os (i ∷ is) [] h so = absurd h
 
-get_or_front : (xs ys : List ℕ) (k : ℕ) → k < length xs → get_or (xs ++ ys) k 0 ≡ get_or xs k 0
-get_or_front [] ys k h = absurd (omega arith)
-get_or_front (x ∷ xs) ys zero h = refl
-get_or_front (x ∷ xs) ys (suc k) h = get_or_front xs ys k (omega arith)
+none_of : (label : List ℕ) (ns : List Members) → AllByRecursion (HasNone label) ns → entries label ns ≡ []
+none_of label [] none = refl
+none_of label (n ∷ ns) none = rw none.0 (none_of label ns none.1)
 
-get_or_end : (xs : List ℕ) (y : ℕ) → get_or (xs ++ y ∷ []) (length xs) 0 ≡ y
-get_or_end [] y = refl
-get_or_end (x ∷ xs) y = get_or_end xs y
+first_none : (key : Key) (ns : List Members) → AllByRecursion (λ o. is_some (item_of key o) ≡ false) ns → first_of key ns ≡ None
+first_none key [] none = refl
+first_none key (n ∷ ns) none = rw none.0 (first_none key ns none.1)
 
-pub pushed : (b : Book) (label asked more : List ℕ) (at : ℕ) → more ≡ asked ++ at ∷ [] → HasNone b label at → HaveNone b label asked (length asked) → HaveNone b label more (length more)
-pushed b label asked more at e none have =
-    rw e (λ live sound i within. let w : i < length asked + 1 = rw (length-append asked (at ∷ [])) at within in
-    below_more (λ (i : ℕ). (o : Members) → IsAt (objects b) (get_or (asked ++ at ∷ []) i 0) o → entry_of label o ≡ None) (length asked)
-    (λ j l o here. have live sound j l o (rw (get_or_front asked (at ∷ []) j l) at here))
-    (λ o here. none live sound o (rw (get_or_end asked at) at here)) i w)
+only : (P Q : Members → Type 0) (ns : List Members) → ((o : Members) → P o → Q o) → AllByRecursion P ns → AllByRecursion Q ns
+only P Q [] weaker so = tt
+only P Q (n ∷ ns) weaker so = (weaker n so.0, only P Q ns weaker so.1)
 
--- a source that was asked before
-pub asked_before : (b : Book) (label numbers asked : List ℕ) (n j : ℕ) → j < length asked → get_or asked j 0 ≡ get_or numbers n 0 → HaveNone b label asked (length asked) → HaveNone b label numbers n → HaveNone b label numbers (n + 1)
-asked_before b label numbers asked n j within same before have =
-    λ live sound. below_more _ _ (have live sound) (λ o here. before live sound j within o (rw (sym same) at here))
+pub all_none : (os : List Members) (label numbers : List ℕ) (n : ℕ) (ns : List Members) → length numbers ≤ n → AllAre (HasNone label) os numbers n → Shows os numbers ns → entries label ns ≡ []
+all_none os label numbers n ns over so shown = none_of label ns (all_shown (HasNone label) os numbers ns shown (λ k l. so k (omega arith)))
 
-none_of : (os : List Members) (label : List ℕ) (is : List ℕ) (ns : List Members) → Shows os is ns → ((k : ℕ) → k < length is → (o : Members) → IsAt os (get_or is k 0) o → entry_of label o ≡ None) → entries label ns ≡ []
-none_of os label [] [] h none = refl
-none_of os label (i ∷ is) (n ∷ ns) h none = rw (none 0 (omega arith) n h.0) (none_of os label is ns h.1 (λ k l o here. none (suc k) (omega arith) o here))
-none_of os label [] (n ∷ ns) h none = absurd h
-none_of os label (i ∷ is) [] h none = absurd h
+pub all_plain : (os : List Members) (numbers : List ℕ) (n : ℕ) (ns : List Members) → length numbers ≤ n → AllAre EndsNoWay os numbers n → Shows os numbers ns → IsPlain ns
+all_plain os numbers n ns over so shown =
+    let none : AllByRecursion EndsNoWay ns = all_shown EndsNoWay os numbers ns shown (λ k l. so k (omega arith)) in
+    record {
+      ns = first_none key.Ns ns (only EndsNoWay (λ o. is_some (item_of key.Ns o) ≡ false) ns (λ o e. e.ns) none);
+      translate = first_none key.Translate ns (only EndsNoWay (λ o. is_some (item_of key.Translate o) ≡ false) ns (λ o e. e.translate) none);
+    }
 
-pub all_none : (b : Book) (label numbers : List ℕ) (n : ℕ) (live : Live) (ns : List Members) → length numbers ≤ n → HaveNone b label numbers n → IsSound live b → Shows (objects b) numbers ns → entries label ns ≡ []
-all_none b label numbers n live ns over have sound shown = none_of (objects b) label numbers ns shown (λ k l. have live sound k (omega arith))
+-- a label that no map has
+pub no_label : (label : List ℕ) (ns : List Members) → is_entry_label label ≡ false → entries label ns ≡ []
+no_label label [] e = refl
+no_label label (o ∷ ns) e = rw e (no_label label ns e)
 
 -- where no source has an entry under a label, the child is that under `*`
 pub child_of_any : (live : Live) (ns : List Members) (label : List ℕ) → entries label ns ≡ [] → child_of live ns (42 ∷ []) ≡ child_of live ns label

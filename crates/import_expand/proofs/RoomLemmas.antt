@@ -1,5 +1,5 @@
 -- What a room remembers, where it grows.
-use Rattle.std.proofs.Common.{◌≡◌, ℕ, zero, suc, ◌<◌, List, [], ◌∷◌, ◌++◌, length, map, slice_get, get_or, Some, None, true, nat_lt, All, refl, sym, ap, subst, ◌∙◌, arith}
+use Rattle.std.proofs.Common.{◌≡◌, ℕ, zero, suc, ◌<◌, ◌≤◌, List, [], ◌∷◌, ◌++◌, length, map, slice_get, get_or, Some, None, true, nat_lt, All, refl, sym, ap, subst, ◌∙◌, arith}
 use Rattle.std.proofs.lemmas.List.{map-append}
 use Rattle.std.proofs.lemmas.List.Elements.{All-push, All-weaker, All-get_or, All-from_recursion}
 use borrow.Author.Tests.{ltb-true}
@@ -8,7 +8,7 @@ use Rattle.serde_json.specs.Data.{Members}
 use Rattle.import_expand.specs.Sources.{Live, sources_of, child_of}
 use Rattle.import_expand.specs.Books as books
 use Rattle.import_expand.specs.Books.{objects, IsAt, Shows, Grows}
-use Rattle.import_expand.specs.Rooms.{objects_in, nodes_in, numbers_of, IsNodeAt, IsNode, GrowsBy, IsPlain, IsShown, IsChild, IsTop, IsSound, Keeps, LacksEntry, Later}
+use Rattle.import_expand.specs.Rooms.{objects_in, held, nodes_in, numbers_of, IsNodeAt, IsNode, GrowsBy, IsPlain, IsShown, IsChild, IsTop, IsSound, Keeps, LacksEntry, Later}
 use Rattle.import_expand.specs.declared.room.Room.{Room}
 use Rattle.import_expand.specs.declared.room.Sources.{Sources}
 use Rattle.import_expand.specs.declared.room.Child.{Child}
@@ -49,10 +49,13 @@ all_shown live r later g n sound = rw n (All-weaker (IsShown (objects_in r)) (Is
 
 -- the book grew
 pub book_later : (live : Live) (r later : Room) → books.Later live r.book later.book → later.nodes.items ≡ r.nodes.items → later.children.items ≡ r.children.items → later.tops.items ≡ r.tops.items → IsSound live r → Later live r later
-book_later live r later b n c t sound = record { grows = b.grows; nodes = same_nodes r later n; sound = same_memory live r later b.grows (same_nodes r later n) b.sound (all_shown live r later b.grows n sound) c t sound }
+book_later live r later b n c t sound = record { grows = b.grows; held = b.held; nodes = same_nodes r later n; sound = same_memory live r later b.grows (same_nodes r later n) b.sound (all_shown live r later b.grows n sound) c t sound }
+
+same_held : (r later : Room) → later.book ≡ r.book → held r ≤ held later
+same_held r later b = rw b (omega arith)
 
 pub book_keeps : (r later : Room) → books.Keeps r.book later.book → later.nodes.items ≡ r.nodes.items → later.children.items ≡ r.children.items → later.tops.items ≡ r.tops.items → Keeps r later
-book_keeps r later b n c t = record { grows = b.grows; nodes = same_nodes r later n; sound = λ live sound. same_memory live r later b.grows (same_nodes r later n) (b.sound live sound.book) (all_shown live r later b.grows n sound) c t sound }
+book_keeps r later b n c t = record { grows = b.grows; held = b.held; nodes = same_nodes r later n; sound = λ live sound. same_memory live r later b.grows (same_nodes r later n) (b.sound live sound.book) (all_shown live r later b.grows n sound) c t sound }
 
 at_left : {A : Type 0} (xs more : List A) (i : ℕ) (x : A) → slice_get xs i ≡ Some x → slice_get (xs ++ more) i ≡ Some x
 at_left [] more i x h = absurd (cc)
@@ -78,6 +81,7 @@ put_keeps r later s n b c t ns shown plain =
     let g : Grows (objects_in r) (objects_in later) = λ i o h. rw b h in
     record {
       grows = g;
+      held = same_held r later b;
       nodes = grown r later s n;
       sound = λ live sound. same_memory live r later g (grown r later s n) (rw b sound.book)
           (rw n (All-push (IsShown (objects_in later)) _ _ (All-weaker (IsShown (objects_in r)) (IsShown (objects_in later)) (shown_later _ _ g) _ sound.nodes) (record { of = ns; shown = rw b shown; plain = plain }))) c t sound;
@@ -97,6 +101,7 @@ child_keeps live r later c cs b n t is sound =
     let h : GrowsBy (nodes_in r) (nodes_in later) = same_nodes r later n in
     record {
       grows = g;
+      held = same_held r later b;
       nodes = h;
       sound = record {
         book = rw b sound.book;
@@ -114,6 +119,7 @@ top_keeps live r later t ts b n c is sound =
     let h : GrowsBy (nodes_in r) (nodes_in later) = same_nodes r later n in
     record {
       grows = g;
+      held = same_held r later b;
       nodes = h;
       sound = record {
         book = rw b sound.book;
@@ -190,10 +196,10 @@ node_plain live r k s ns sound within e node plain =
     subst IsPlain (node_one (objects_in r) (nodes_in r) k shown.of ns there node) (shown.plain plain)
 
 pub later_both : (live : Live) (a b c : Room) → Later live a b → Later live b c → Later live a c
-later_both live a b c k l = record { grows = λ i o h. l.grows i o (k.grows i o h); nodes = λ i n h. l.nodes i n (k.nodes i n h); sound = l.sound }
+later_both live a b c k l = record { grows = λ i o h. l.grows i o (k.grows i o h); held = omega (arith, k.held, l.held); nodes = λ i n h. l.nodes i n (k.nodes i n h); sound = l.sound }
 
 pub keeps_later : (live : Live) (b c : Room) → Keeps b c → IsSound live b → Later live b c
-keeps_later live b c k h = record { grows = k.grows; nodes = k.nodes; sound = k.sound live h }
+keeps_later live b c k h = record { grows = k.grows; held = k.held; nodes = k.nodes; sound = k.sound live h }
 
 pub node_after : (live : Live) (a b : Room) (k : ℕ) (ns : List Members) → Later live a b → IsNode a k ns → IsNode b k ns
 node_after live a b k ns l n = node_later (objects_in a) (objects_in b) (nodes_in a) (nodes_in b) l.grows l.nodes k ns n

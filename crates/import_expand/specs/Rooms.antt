@@ -1,11 +1,12 @@
 -- A room: a book, and the nodes that were met, each with a number.
-use Rattle.std.specs.Prelude.{◌≡◌, ℕ, List, [], map, slice_get, Some, None, true}
+use Rattle.std.specs.Prelude.{◌≡◌, ℕ, ◌≤◌, List, [], map, slice_get, Some, None, true}
 use Rattle.std.specs.List.{All}
 use Rattle.serde_json.specs.Data.{Members}
 use Rattle.ifa_value.specs.declared.item.Key.TheVariants as key
 use Rattle.import_expand.specs.Sources.{Live, sources_of, child_of, entries, first_of}
 use Rattle.import_expand.specs.Books as books
 use Rattle.import_expand.specs.Books.{objects, IsAt, Shows, Grows}
+use Rattle.import_expand.specs.declared.exhausted.Exhausted.{Exhausted}
 use Rattle.import_expand.specs.declared.room.Room.{Room}
 use Rattle.import_expand.specs.declared.room.Sources.{Sources}
 use Rattle.import_expand.specs.declared.room.Child.{Child}
@@ -14,9 +15,13 @@ use Rattle.import_expand.specs.declared.room.Top.{Top}
 abbrev pub objects_in : Room → List Members
 objects_in r = objects r.book
 
--- how many values were read
-abbrev pub values_read : Room → ℕ
-values_read r = books.values_read r.book
+-- the bytes of the values that were read and of the entries that were taken out of them
+abbrev pub held : Room → ℕ
+held r = books.held r.book
+
+-- no value is refused but where what has to be held next doesn't fit
+abbrev pub GivesUp : Live → Room → Exhausted → Type 0
+GivesUp live r e = books.GivesUp live r.book e
 
 abbrev pub numbers_of : Sources → List ℕ
 numbers_of s = s.numbers.items
@@ -72,14 +77,16 @@ pub record IsSound (live : Live) (r : Room) : Type 0 where
   pub children : All (IsChild live (objects_in r) (nodes_in r)) r.children.items
   pub tops : All (IsTop live (objects_in r) (nodes_in r)) r.tops.items
 
--- A later room: what it remembers is so where that was so before, and each number keeps its object and its node.
+-- A later room: what it remembers is so where that was so before, each number keeps its object and its node, and no byte that was counted is lost.
 pub record Keeps (r later : Room) : Type 0 where
   pub grows : Grows (objects_in r) (objects_in later)
+  pub held : held r ≤ held later
   pub nodes : GrowsBy (nodes_in r) (nodes_in later)
   pub sound : (live : Live) → IsSound live r → IsSound live later
 
 -- a later room, under the values of these names
 pub record Later (live : Live) (r later : Room) : Type 0 where
   pub grows : Grows (objects_in r) (objects_in later)
+  pub held : held r ≤ held later
   pub nodes : GrowsBy (nodes_in r) (nodes_in later)
   pub sound : IsSound live later

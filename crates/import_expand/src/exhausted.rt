@@ -13,15 +13,15 @@ use std::fmt;
 pub enum Exhausted {
     /// Memory.
     Memory,
-    /// The values that may be read for one message.
-    Values,
+    /// The bytes of JSON that may be held for one message.
+    Held,
 }
 
 impl fmt::Display for Exhausted {
     fn fmt<W: fmt::Write>(&self, f: &mut fmt::Formatter<W>) -> fmt::Result {
         match self {
             Exhausted::Memory => write!(f, "out of memory"),
-            Exhausted::Values => write!(f, "too many values to read"),
+            Exhausted::Held => write!(f, "too many bytes of values to hold"),
         }
     }
 }

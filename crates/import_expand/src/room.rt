@@ -6,14 +6,14 @@ ghost use Rattle.ifa_value.specs.Object.{members};
 ghost use Rattle.ifa_value.specs.Values.{object_of};
 ghost use Rattle.serde_json.specs.Data.{Members};
 ghost use Rattle.import_expand.specs.Sources.{Live, sources_of, child_of, first_of, entries};
-ghost use Rattle.import_expand.specs.Books.{IsAt, Finds, Shows};
-ghost use Rattle.import_expand.specs.Rooms.{objects_in, values_read, IsNode, IsPlain, IsSound, Keeps, LacksEntry, Later};
-ghost use Rattle.import_expand.specs.declared.exhausted.Exhausted.TheVariants.{Values};
+ghost use Rattle.import_expand.specs.Books.{IsAt, IsCounted, Finds, Shows};
+ghost use Rattle.import_expand.specs.Rooms.{objects_in, held, GivesUp, IsNode, IsPlain, IsSound, Keeps, LacksEntry, Later};
+ghost use Rattle.import_expand.specs.declared.limits.TheConstants.{MOST_HELD as GREATEST};
 
 use crate::book::Book;
 use crate::exhausted::Exhausted;
-use crate::expansion::{are_absent, are_plain, child, first_with, sources};
-use crate::limits::FEW_SOURCES;
+use crate::expansion::{are_absent, are_plain, first_with, listed_child, listed_sources};
+use crate::limits::{FEW_SOURCES, LITTLE_HELD};
 use crate::names::Names;
 use ifa_value::{IfaObject, Key};
 use nmc_base::{Bytes, NoMemory};
@@ -59,7 +59,7 @@ impl Room {
     /// The empty room. It takes no memory.
     pub fn new(alloc: Global) -> Room
         ensures sound { (live : Live) → IsSound live result }
-        ensures values { values_read result ≡ 0 }
+        ensures held { held result ≡ 0 }
     {
         Room {
             book: Book::new(alloc),
@@ -70,11 +70,28 @@ impl Room {
         }
     }
 
-    /// How many values were read.
-    pub fn values_read(&self) -> u16
-        ensures { result ≡ values_read self.now }
+    /// Empties the room for the next message. Its lists keep their room where little was held.
+    pub fn clear(&mut self, alloc: Global)
+        ensures sound { (live : Live) → IsSound live self.new }
+        ensures held { held self.new ≡ 0 }
     {
-        self.book.values_read()
+        if self.held() > LITTLE_HELD {
+            *self = Room::new(alloc);
+            return;
+        }
+        self.book.clear();
+        self.nodes.clear();
+        self.children.clear();
+        self.tops.clear();
+        self.newest.clear();
+    }
+
+    /// The bytes of the values that were read and of the entries that were taken out of them.
+    pub fn held(&self) -> usize
+        ensures held { result ≡ held self.now }
+        ensures bound { result ≤ GREATEST }
+    {
+        self.book.held()
     }
 
     /// The number of the object of a name, which is read where it wasn't before. None exactly where the name isn't served.
@@ -87,9 +104,10 @@ impl Room {
         requires sound { IsSound (N.served names.now) self.old }
         ensures found { IfOk result (λ r. Finds (objects_in self.new) r (option_map object_of (N.served names.now name.now))) }
         ensures later { OnOk result (Later (N.served names.now) self.old self.new) }
-        // At most 2,048 values are read for a message, and one is refused for that cause alone.
-        ensures bound { values_read self.new ≤ 2048 }
-        ensures refused { IfErr result (λ e. e ≡ Values → values_read self.new ≡ 2048) }
+        // The value's bytes are counted.
+        ensures least { OnOk result (IsCounted (N.served names.now) (held self.new) name.now) }
+        // What has to be held next is refused where it doesn't fit, and for that cause alone.
+        ensures refused { IfErr result (GivesUp (N.served names.now) self.new) }
     {
         let found = self.book.named(alloc, names, name)?;
         Ok(found)
@@ -133,7 +151,7 @@ impl Room {
     fn put(&mut self, numbers: Vec<usize>) -> Result<usize, NoMemory>
         ensures at { IfOk result (λ k. (ns : List Members) → Shows (objects_in self.old) numbers.items ns → IsNode self.new k ns) }
         ensures keeps { OnOk result ((ns : List Members) → Shows (objects_in self.old) numbers.items ns → Keeps self.old self.new) }
-        ensures values { values_read self.new ≡ values_read self.old }
+        ensures held { held self.new ≡ held self.old }
     {
         let at = self.nodes.len();
         let plain = are_plain(numbers.as_slice(), &self.book);
@@ -145,7 +163,7 @@ impl Room {
     fn put_below(&mut self, above: usize, numbers: Vec<usize>) -> Result<usize, NoMemory>
         ensures at { IfOk result (λ k. (ns : List Members) → Shows (objects_in self.old) numbers.items ns → IsNode self.new k ns) }
         ensures keeps { OnOk result ((ns : List Members) → Shows (objects_in self.old) numbers.items ns → Keeps self.old self.new) }
-        ensures values { values_read self.new ≡ values_read self.old }
+        ensures held { held self.new ≡ held self.old }
     {
         if self.is_node_of(above, numbers.as_slice()) {
             return Ok(above);
@@ -179,7 +197,7 @@ impl Room {
     /// Remembers the node of an object at the top, where it has many sources.
     fn keep_top(&mut self, of: usize, at: usize) -> Result<(), NoMemory>
         ensures later { OnOk result ((live : Live) (o : Members) → IsAt (objects_in self.old) of o → IsNode self.old at (sources_of live 0 o) → IsSound live self.old → Later live self.old self.new) }
-        ensures values { values_read self.new ≡ values_read self.old }
+        ensures held { held self.new ≡ held self.old }
     {
         if self.len(at) <= FEW_SOURCES {
             return Ok(());
@@ -193,8 +211,7 @@ impl Room {
         requires sound { IsSound (N.served names.now) self.old }
         ensures found { IfOk result (λ k. (o : Members) → IsAt (objects_in self.old) of o → IsNode self.new k (sources_of (N.served names.now) 0 o)) }
         ensures later { OnOk result (Later (N.served names.now) self.old self.new) }
-        ensures bound { values_read self.new ≤ 2048 }
-        ensures refused { IfErr result (λ e. e ≡ Values → values_read self.new ≡ 2048) }
+        ensures refused { IfErr result (GivesUp (N.served names.now) self.new) }
     {
         match self.known_top(of) {
             Some(known) => Ok(known),
@@ -202,7 +219,7 @@ impl Room {
                 if of >= self.book.len() {
                     return Ok(0);
                 }
-                let found = sources(alloc, names, of, &mut self.book)?;
+                let found = listed_sources(alloc, names, of, &mut self.book)?;
                 let at = self.put(found)?;
                 self.keep_top(of, at)?;
                 Ok(at)
@@ -244,7 +261,7 @@ impl Room {
         at: usize,
     ) -> Result<(), NoMemory>
         ensures later { OnOk result ((live : Live) (ns : List Members) → IsNode self.old of ns → IsNode self.old at (child_of live ns label.now) → IsSound live self.old → Later live self.old self.new) }
-        ensures values { values_read self.new ≡ values_read self.old }
+        ensures held { held self.new ≡ held self.old }
     {
         if self.len(of) <= FEW_SOURCES {
             return Ok(());
@@ -266,22 +283,12 @@ impl Room {
     }
 
     /// Whether no source of a node has an entry under a label.
-    fn is_absent(&mut self, alloc: Global, of: usize, label: &[u8]) -> Result<bool, NoMemory>
-        ensures absent { IfOk result (λ b. b ≡ true → (live : Live) → IsSound live self.old → LacksEntry self.new of label.now) }
-        ensures keeps { OnOk result (Keeps self.old self.new) }
-        ensures values { values_read self.new ≡ values_read self.old }
+    fn is_absent(&self, of: usize, label: &[u8]) -> bool
+        ensures { result ≡ true → (live : Live) → IsSound live self.now → LacksEntry self.now of label.now }
     {
         match self.nodes.get(of) {
-            Some(sources) => {
-                let is_absent = are_absent(
-                    alloc,
-                    sources.numbers.as_slice(),
-                    label,
-                    &mut self.book,
-                )?;
-                Ok(is_absent)
-            }
-            None => Ok(false),
+            Some(sources) => are_absent(sources.numbers.as_slice(), label, &self.book),
+            None => false,
         }
     }
 
@@ -296,8 +303,7 @@ impl Room {
         requires sound { IsSound (N.served names.now) self.old }
         ensures found { IfOk result (λ k. (ns : List Members) → IsNode self.old of ns → IsNode self.new k (child_of (N.served names.now) ns label.now)) }
         ensures later { OnOk result (Later (N.served names.now) self.old self.new) }
-        ensures bound { values_read self.new ≤ 2048 }
-        ensures refused { IfErr result (λ e. e ≡ Values → values_read self.new ≡ 2048) }
+        ensures refused { IfErr result (GivesUp (N.served names.now) self.new) }
     {
         match self.known_child(of, label) {
             Some(known) => Ok(known),
@@ -305,7 +311,7 @@ impl Room {
                 let Some(sources) = self.nodes.get(of) else {
                     return Ok(of);
                 };
-                let found = child(
+                let found = listed_child(
                     alloc,
                     names,
                     sources.numbers.as_slice(),
@@ -331,8 +337,7 @@ impl Room {
         requires lacks { LacksEntry self.old of label.now }
         ensures found { IfOk result (λ k. (ns : List Members) → IsNode self.old of ns → IsNode self.new k (child_of (N.served names.now) ns label.now)) }
         ensures later { OnOk result (Later (N.served names.now) self.old self.new) }
-        ensures bound { values_read self.new ≤ 2048 }
-        ensures refused { IfErr result (λ e. e ≡ Values → values_read self.new ≡ 2048) }
+        ensures refused { IfErr result (GivesUp (N.served names.now) self.new) }
     {
         let at = self.child_under(alloc, names, of, b"*")?;
         self.keep_child(alloc, of, label, at)?;
@@ -351,8 +356,7 @@ impl Room {
         requires sound { IsSound (N.served names.now) self.old }
         ensures found { IfOk result (λ k. (ns : List Members) → IsNode self.old of ns → IsNode self.new k (child_of (N.served names.now) ns label.now)) }
         ensures later { OnOk result (Later (N.served names.now) self.old self.new) }
-        ensures bound { values_read self.new ≤ 2048 }
-        ensures refused { IfErr result (λ e. e ≡ Values → values_read self.new ≡ 2048) }
+        ensures refused { IfErr result (GivesUp (N.served names.now) self.new) }
     {
         match self.known_child(of, label) {
             Some(known) => return Ok(known),
@@ -362,7 +366,7 @@ impl Room {
             let at = self.child_under(alloc, names, of, label)?;
             return Ok(at);
         }
-        if self.is_absent(alloc, of, label)? {
+        if self.is_absent(of, label) {
             let at = self.child_by_any(alloc, names, of, label)?;
             return Ok(at);
         }

@@ -24,10 +24,11 @@ pub enum Unfollowed {
     NoMemory,
 }
 
-/// Lets go of the index, in this one place: each such place is dear to prove.
-fn without_chain(_chain: Chain, why: Unfollowed) -> Result<Chain, Unfollowed>
+/// Lets go of the index.
+fn without_chain(chain: Chain, why: Unfollowed) -> Result<Chain, Unfollowed>
     ensures { result ≡ Err why }
 {
+    chain.let_go();
     Err(why)
 }
 

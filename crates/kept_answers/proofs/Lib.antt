@@ -1,4 +1,5 @@
 pub mod AnswerLemmas
+pub mod HoldingLemmas
 pub mod KeepingLemmas
 pub mod QuestionLemmas
 pub mod RcodeLemmas

@@ -1,5 +1,5 @@
 -- The answers that are kept, and what a message does to them.
-use Rattle.std.specs.Prelude.{◌≡◌, ℕ, suc, ◌-◌, ◌<◌, ◌≤◌, ◌⊎◌, ◌^◌, nat_lt, if◌then◌else◌, List, length, is_some, Option, Some, None, Contains}
+use Rattle.std.specs.Prelude.{◌≡◌, ◌≢◌, ℕ, suc, ◌-◌, ◌<◌, ◌≤◌, ◌⊎◌, ◌^◌, nat_lt, if◌then◌else◌, List, length, is_some, Option, Some, None, Contains}
 use Rattle.domain_text.specs.Names.{IsName, lower}
 use Rattle.dns_message.specs.Limits.{limit_of}
 use Rattle.dns_message.specs.Query.{Query, Reading}
@@ -12,7 +12,7 @@ use Rattle.bit_resolver.specs.Replies.{contents_of, answer_text, failure_text, M
 use Rattle.bit_resolver.specs.declared.limits.TheConstants.{CLASS_IN}
 use Rattle.bit_resolver.specs.declared.zone.Zone.{Zone}
 use Rattle.answer_cache.specs.declared.cache_key.CacheKey.{CacheKey}
-use Rattle.answer_cache.specs.Cached.{Cached, empty_cache, held, found, behind_put, behind_want}
+use Rattle.answer_cache.specs.Cached.{Cached, empty_cache, held, found, counted, behind_put, behind_want}
 use Rattle.kept_replies.specs.Kept.{Kept, IsKept, kept_reply, kept_text, reply_with}
 use Rattle.kept_answers.specs.declared.limits.TheConstants.{LONGEST_KEPT, MOST_KEPT}
 
@@ -81,11 +81,12 @@ pub record GivesKept (key : CacheKey) (q : Query) (old new : Answering) (reply :
   pub found_is : new ≡ with_cache old (found key old.cache)
   pub reply_is : (other : Kept) → IsKept other → kept_text kept ≡ kept_text other → reply ≡ reply_with q other
 
--- What is kept of a reply is put under its key, unless its records are too many; the put may find no memory.
+-- What is kept of a reply is put under its key, so that it is held; or it is counted as missed: the put found no memory, or its records
+-- have too many bytes.
 pub data Stores (key : CacheKey) (kept : Kept) (old new : Answering) : Type 0 where
   done : length kept.records ≤ LONGEST_KEPT → new ≡ with_cache old (behind_put key (kept_text kept) old.cache) → Stores key kept old new
   lacked : length kept.records ≤ LONGEST_KEPT → new ≡ with_cache old (behind_want old.cache) → Stores key kept old new
-  long : LONGEST_KEPT < length kept.records → new ≡ old → Stores key kept old new
+  long : LONGEST_KEPT < length kept.records → new ≡ with_cache old (behind_want old.cache) → Stores key kept old new
 
 -- What a question that is looked for does to what is kept, by its reply: a rule a case.
 pub data Looks (live : Live) (z : Zone) (limit : ℕ) (q : Query) (reply : List ℕ) (old new : Answering) : Type 0 where
@@ -121,3 +122,14 @@ pub record AnswersMessage (live : Live) (z : Zone) (transport : Transport) (byte
   pub may : AreRight live z old → MayReply live z transport bytes reply
   pub right : AreRight live z old → AreRight live z new
   pub keeps : Keeps live z transport (reading_of bytes) reply old new
+
+-- What is held under the key gives the reply to the question.
+pub record Holds (key : CacheKey) (q : Query) (reply : Option (List ℕ)) (cached : Cached) : Type 0 where
+  pub kept : Kept
+  pub held_is : held key cached ≡ Some (kept_text kept)
+  pub reply_is : reply ≡ Some (reply_with q kept)
+
+-- The reply to a question that is looked for is held then, or one more was missed; but for SERVFAIL.
+abbrev pub IsHeldOrMissed : Transport → Reading → Option (List ℕ) → Answering → Answering → Type 0
+IsHeldOrMissed transport message reply old new = (q : Query) → message ≡ Asks q → IsLookedFor old q → reply ≢ Some (failure_text q)
+    → Holds (key_for old.accepted (limit_of transport q) q) q reply new.cache ⊎ (new.cache.missed ≡ counted old.cache.missed)

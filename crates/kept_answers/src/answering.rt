@@ -5,11 +5,12 @@ ghost use Rattle.dns_message.specs.Query.{Query, query_of};
 ghost use Rattle.dns_message.specs.Query.Reading.{Asks};
 ghost use Rattle.dns_message.specs.Reading.{reading_of};
 ghost use Rattle.dns_message.specs.declared.numbers.TheConstants.{LEAST_LIMIT, GREATEST_LIMIT};
+ghost use Rattle.import_expand.specs.declared.limits.TheConstants.{MOST_HELD};
 ghost use Rattle.bit_resolver.specs.Replies.{told, IsWithin};
 ghost use Rattle.answer_cache.specs.Cached.{held};
 ghost use Rattle.answer_cache.specs.Keys.{key_of};
 ghost use Rattle.kept_replies.specs.Kept.{Kept, IsKept, reply_with};
-ghost use Rattle.kept_answers.specs.Answering.{AnswersMessage, AnswersQuestion, GivesKept, IsLookedFor, Stores, key_for};
+ghost use Rattle.kept_answers.specs.Answering.{AnswersMessage, AnswersQuestion, GivesKept, IsHeldOrMissed, IsLookedFor, Stores, key_for};
 
 use crate::answers::Answers;
 use crate::limits::LONGEST_KEPT;
@@ -71,7 +72,7 @@ impl Answers {
         }
     }
 
-    /// Keeps the reply to a question, unless its records are too many or memory is wanting.
+    /// Keeps the reply to a question, or counts it as missed: its records have too many bytes, or memory is wanting.
     fn keep(&mut self, alloc: Global, key: AskedKey<'_>, asked: &Question<'_>, reply: &[u8])
         requires kept { (k : Kept) × IsKept k × (reply.now ≡ reply_with (query_of asked.now) k) }
         requires key { key_of key ≡ key_for key.accepted key.limit (query_of asked.now) }
@@ -81,6 +82,8 @@ impl Answers {
         let kept = keep(reply, asked);
         if kept.records.len() <= LONGEST_KEPT {
             let _ = self.cache.put(alloc, key, &kept.head, kept.records);
+        } else {
+            self.cache.miss();
         }
     }
 
@@ -112,7 +115,7 @@ impl Answers {
         asked: &Question<'_>,
         limit: usize,
         buffer: &mut [u8],
-        values: &mut u16,
+        spent: &mut usize,
     ) -> usize
         requires room { limit ≤ length buffer.old }
         requires least { LEAST_LIMIT ≤ limit }
@@ -121,15 +124,24 @@ impl Answers {
         requires looked_for { IsLookedFor self.old (query_of asked.now) }
         ensures answers { AnswersQuestion (N.served names.now) zone.now limit (query_of asked.now) self.old (take result buffer.new) self.new }
         ensures within { result ≤ limit }
-        ensures bound { values.new ≤ 2048 }
+        ensures bound { spent.new ≤ MOST_HELD }
     {
-        *values = 0;
-        let mut room = [0; LONGEST_WIRE];
-        let key = self.key(asked, limit, &mut room);
+        *spent = 0;
+        let mut name = [0; LONGEST_WIRE];
+        let key = self.key(asked, limit, &mut name);
         if let Some(size) = self.give_kept(key, asked, buffer) {
             return size;
         }
-        match reply_to_question(alloc, names, zone, asked, limit, buffer, values) {
+        match reply_to_question(
+            alloc,
+            names,
+            zone,
+            asked,
+            limit,
+            buffer,
+            &mut self.room,
+            spent,
+        ) {
             Replied::Answer(size) => {
                 self.keep(alloc, key, asked, &buffer[..size]);
                 size
@@ -139,8 +151,8 @@ impl Answers {
     }
 
     /// Writes the reply to a message at the front of the buffer, in as many bytes as the transport and the message allow. The answer to
-    /// a question of class IN is taken from those that are kept, and is kept where it isn't one of them; no SERVFAIL is. `values` becomes how
-    /// many values were read for it: an answer that would need more than 2,048 is SERVFAIL.
+    /// a question of class IN is taken from those that are kept, and is kept where it isn't one of them; no SERVFAIL is. `spent` becomes the
+    /// bytes that were held for it: an answer that would need more than 65,536 is SERVFAIL.
     pub fn answer<N: Names>(
         &mut self,
         alloc: Global,
@@ -149,19 +161,21 @@ impl Answers {
         message: &[u8],
         transport: Transport,
         buffer: &mut [u8],
-        values: &mut u16,
+        spent: &mut usize,
     ) -> Answered
         requires { most_of transport ≤ length buffer.old }
         // Where the answers that are kept are right the reply is the definition's, or SERVFAIL for want of memory.
         ensures message { AnswersMessage (N.served names.now) zone.now transport message.now self.old (told result buffer.new) self.new }
+        // A reply that is to be kept is held then, or counted as missed.
+        ensures held { IsHeldOrMissed transport (reading_of message.now) (told result buffer.new) self.old self.new }
         ensures most { IsWithin (most_of transport) result }
-        // At most 2,048 values are read for it.
-        ensures bound { values.new ≤ 2048 }
+        // At most 65,536 bytes are held for it.
+        ensures bound { spent.new ≤ MOST_HELD }
     {
         if let Some(asked) = self.question(message) {
             let limit = transport.limit(&asked);
-            return Answered::Text(self.reply(alloc, names, zone, &asked, limit, buffer, values));
+            return Answered::Text(self.reply(alloc, names, zone, &asked, limit, buffer, spent));
         }
-        bit_resolver::answer(alloc, names, zone, message, transport, buffer, values)
+        bit_resolver::answer(alloc, names, zone, message, transport, buffer, spent)
     }
 }

@@ -3,6 +3,7 @@ ghost use Rattle.kept_answers.specs.Answering.{none_kept, outdated};
 
 use crate::limits::MOST_KEPT;
 use answer_cache::Cache;
+use import_expand::Room;
 use nmc_base::NoMemory;
 use std::alloc::Global;
 use std::marker::Model;
@@ -13,6 +14,8 @@ use std::marker::Model;
 pub struct Answers {
     pub(crate) cache: Cache,
     pub(crate) accepted: u64,
+    /// For the objects and the nodes of one message.
+    pub(crate) room: Room,
 }
 
 impl Model for Answers {
@@ -34,6 +37,7 @@ impl Answers {
         Ok(Answers {
             cache: Cache::new(alloc, MOST_KEPT)?,
             accepted: 0,
+            room: Room::new(alloc),
         })
     }
 

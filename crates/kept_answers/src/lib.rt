@@ -9,5 +9,5 @@ mod lower;
 
 pub use answer_cache::Cache;
 pub use answers::Answers;
-pub use law::kept_answers_are_right;
+pub use law::{kept_answers_are_right, numbers_of_kept_answers};
 pub use limits::{LONGEST_KEPT, MOST_KEPT};

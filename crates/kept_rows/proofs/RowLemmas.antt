@@ -13,13 +13,13 @@ use Rattle.std.specs.Ordering.{nat_cmp, is_eq}
 use Rattle.std.specs.Str.{bytes_eq}
 use Rattle.std.specs.declared.cmp.Ordering.TheVariants.{Less, Greater}
 use Rattle.chain_names.specs.declared.coin.Item.{Item}
-use Rattle.pin_views.specs.Pairs.{AreInOrder, with_pair, without_key}
+use Rattle.shared_chunks.specs.Pairs.{AreInOrder, with_pair, without_key}
 use Rattle.pin_views.specs.Rows.{row_of}
 use Rattle.pin_views.specs.declared.rows.Row.{Row}
-use Rattle.pin_views.proofs.ByResult.{by_result}
-use Rattle.pin_views.proofs.Lookups.{value_at-with_pair, value_at-without_key}
-use Rattle.pin_views.proofs.Order.{order_head, order_tail, turned}
-use Rattle.pin_views.proofs.Places.{value_at-at}
+use Rattle.shared_chunks.proofs.ByResult.{by_result}
+use Rattle.shared_chunks.proofs.Lookups.{value_at-with_pair, value_at-without_key}
+use Rattle.shared_chunks.proofs.Order.{order_head, order_tail, turned}
+use Rattle.shared_chunks.proofs.Places.{value_at-at}
 use Rattle.kept_rows.specs.Rows.{AreFitRows, FitsRow, FitRows, row_in}
 use Rattle.kept_rows.specs.Steps.{RowsByName, IsFitItem, with_item}
 

@@ -14,7 +14,7 @@ use Rattle.chain_names.specs.declared.undo.UndoOp.{UndoOp}
 use Rattle.chain_names.specs.declared.undo.UndoOp.TheVariants.{New as undo_new, First as undo_first, Update as undo_update}
 use Rattle.chain_state.specs.Chain.{Indexed}
 use Rattle.name_tables.specs.Tables.{maps_by}
-use Rattle.pin_views.specs.Pairs.{AreInOrder, value_at}
+use Rattle.shared_chunks.specs.Pairs.{AreInOrder, value_at}
 use Rattle.pin_views.specs.Rows.{row_of}
 use Rattle.pin_views.specs.declared.rows.Row.{Row}
 

@@ -7,7 +7,7 @@ use crate::steps::{refresh, take_back};
 use chain_names::{KeptOp, Undo};
 use chain_state::Chain;
 use nmc_base::{NoMemory, Steps};
-use pin_views::{NameKey, Row, SharedMap, rows_of};
+use pin_views::{MapWaste, NameKey, Row, SharedMap, rows_of};
 use std::alloc::Global;
 use std::marker::Model;
 use std::sync::ledger::Ledger;
@@ -90,6 +90,11 @@ impl Rows {
     {
         let map = self.map.pin()?;
         Ok(Rows { map })
+    }
+
+    /// What is to be let go of where the rows are given up: nothing where others stand over the same parts. It takes no memory.
+    pub fn into_waste(self) -> Option<MapWaste<NameKey, Row>> {
+        self.map.into_waste()
     }
 
     /// How many rows there are.

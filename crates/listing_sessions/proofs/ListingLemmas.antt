@@ -6,7 +6,7 @@ use Rattle.std.specs.declared.cmp.Ordering.TheVariants.{Equal}
 use Rattle.std.proofs.lemmas.Map.Text.{is_eq-slice_cmp}
 use Rattle.chain_names.proofs.Changed.{bytes_eq-true}
 use Rattle.chain_commands.specs.Chain.{Chain}
-use Rattle.pin_views.proofs.Lookups.{same_pairs}
+use Rattle.shared_chunks.proofs.Lookups.{same_pairs}
 use Rattle.pin_views.specs.declared.rows.Row.{Row}
 use Rattle.listing_sessions.specs.Listing.{IsListing}
 

@@ -50,6 +50,13 @@ impl Listing {
         }
     }
 
+    /// Its rows, where nobody pages through them any more.
+    pub(crate) fn into_rows(self) -> Rows
+        ensures { result ≡ self.rows }
+    {
+        self.rows
+    }
+
     /// Writes the next page, of so many rows at most, in place of the text, and moves behind it.
     pub(crate) fn turn(&mut self, size: u32, text: &mut Vec<u8>)
         requires size { size ≤ LARGEST_PAGE }

@@ -89,6 +89,16 @@ fn take_at(held: &mut Vec<Option<Listing>>, number: usize) -> Option<Listing>
     mem::replace(&mut held[number], None)
 }
 
+/// The rows of what was held under a number.
+fn rows_of(was: Option<Listing>) -> Option<Rows>
+    ensures { result ≡ option_map (λ l. l.rows) was }
+{
+    match was {
+        None => None,
+        Some(listing) => Some(listing.into_rows()),
+    }
+}
+
 /// Writes the next page of what is held under the number, of so many rows at most, in place of the text; or answers that there is none.
 fn turn_at(held: &mut Vec<Option<Listing>>, number: usize, size: u32, text: &mut Vec<u8>) -> bool
     requires size { size ≤ LARGEST_PAGE }
@@ -157,16 +167,20 @@ impl Sessions {
         }
     }
 
-    /// Closes a session. Code 0; or code 32 where no session of this number is open.
-    pub fn close(&mut self, number: u32, reply: &mut ReplyBuf)
-        ensures { MakesStep (Closes number) self.old reply.new self.new }
+    /// Closes a session. Code 0; or code 32 where no session of this number is open. It hands back the rows that the session was
+    /// opened on, and lets go of none.
+    pub fn close(&mut self, number: u32, reply: &mut ReplyBuf) -> Option<Rows>
+        ensures step { MakesStep (Closes number) self.old reply.new self.new }
+        ensures rows { result ≡ option_map (λ l. l.rows) (listing_at self.old number) }
     {
         let place = number as usize;
         if is_held(&self.held, place) {
-            put_at(&mut self.held, place, None);
+            let was = take_at(&mut self.held, place);
             tell_closed(reply);
+            rows_of(was)
         } else {
             refuse_number(reply);
+            None
         }
     }
 }

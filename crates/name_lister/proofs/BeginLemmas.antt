@@ -24,7 +24,7 @@ use Rattle.name_store.specs.declared.drafting.DraftOutcome.TheVariants as drafts
 use Rattle.name_store.specs.declared.saving.SaveRefusal.{SaveRefusal}
 use Rattle.name_store.specs.declared.saving.SaveRefusal.TheVariants as refusals
 use Rattle.name_store.proofs.TextLemmas.{text_of}
-use Rattle.bridge_core.specs.Bridge.{fault_code, fault_reply}
+use Rattle.bridge_core.specs.Bridge.{IsUndone, fault_code, fault_reply}
 use Rattle.bridge_core.specs.Bridged as bridges
 use Rattle.bridge_core.specs.Bridged.{Bridged}
 use Rattle.bridge_core.proofs.BridgedLemmas.{stands_still}
@@ -45,7 +45,7 @@ use Rattle.name_lister.proofs.TurnLemmas.{files_stay}
 
 -- ---- what changes nothing
 
-module _ {D : Type 0} (tells : Bool) (seen : D → DiskSeen) (old : Listed) (disk : D) (on : IsTrue tells → IsListOn old (seen disk).moments.now) (reply : Reply) (no_fault : reply.code ≢ fault_code) where
+module _ {D : Type 0} (tells : Bool) (seen : D → DiskSeen) (old : Listed) (disk : D) (on : IsTrue tells → IsListOn old (seen disk).moments.now) (reply : Reply) (undone : IsUndone reply) where
   pub begin_aside : ((state : ListState) → StandsFor old state → Begins state.run state.saver reply state.saver) → AnswersList tells seen old disk Begin reply (On old) disk
   begin_aside made = record {
     step = λ state s. record {
@@ -55,10 +55,13 @@ module _ {D : Type 0} (tells : Bool) (seen : D → DiskSeen) (old : Listed) (dis
       follow = λ told stood. files_stay seen disk state.run stood;
     };
     later = NeverFell_refl (seen disk).faults;
+    none = refl;
+    works = λ zero. absurd (undone.0 zero);
+    drafts = λ told. start (λ other differ. refl);
     ends = on;
     untouched = λ asks. refl;
     others = λ told. start refl;
-    bridge = (refl, no_fault);
+    bridge = (refl, undone.1);
     page = refl;
   }
 
@@ -72,10 +75,13 @@ module _ {D : Type 0} (tells : Bool) (seen : D → DiskSeen) (old : Listed) (dis
       follow = λ told stood. files_stay seen disk state.run stood;
     };
     later = NeverFell_refl (seen disk).faults;
+    none = refl;
+    works = λ zero. absurd (undone.0 zero);
+    drafts = λ told runs. start (λ other differ. refl);
     ends = on;
     untouched = λ asks. refl;
     others = λ told. start refl;
-    bridge = (refl, no_fault);
+    bridge = (refl, undone.1);
     page = refl;
   }
 
@@ -100,6 +106,9 @@ module _ {D : Type 0} (tells : Bool) (seen : D → DiskSeen) (old : Listed) (dis
       follow = λ told stood. files_stay seen disk state.run stood;
     };
     later = NeverFell_refl (seen disk).faults;
+    none = refl;
+    works = tt;
+    drafts = λ told. tt;
     ends = on;
     untouched = λ asks. refl;
     others = λ told. start refl;
@@ -209,7 +218,10 @@ module _ {D : Type 0} (tells : Bool) (seen : D → DiskSeen) (old : Listed) (bef
             (leaves.kept told state.run s.bridge.store stood.read);
       };
       later = leaves.later;
-      ends = λ told. record { store = leaves.ends.1 told; saving = leaves.begun told slices.text image_is };
+      none = leaves.ends.1;
+      works = λ zero. leaves.ends.0;
+      drafts = leaves.others;
+      ends = λ told. record { store = leaves.ends.2 told; saving = leaves.begun told slices.text image_is };
       untouched = λ undone. absurd (undone.0 refl);
       others = λ told. weaken _ (λ files same. spares old.bridge.store (seen before).moments.now files same) (leaves.others told);
       bridge = (answers, λ is. omega (arith, is));
@@ -227,7 +239,7 @@ module _ {D : Type 0} (tells : Bool) (seen : D → DiskSeen) (old : Listed) (bef
     draft_refused refusals.ImageLimit few answer =
         subst (λ (d : D). AnswersList tells seen old before Begin (save_refusal_reply ImageLimit) (On (listed bridge old.views old.held old.page None)) d) (sym untouched)
         (subst (λ (l : Listed). AnswersList tells seen old before Begin (save_refusal_reply ImageLimit) (On l) before) (sym (same_lister answer.0))
-        (begin_aside tells seen old before on (save_refusal_reply ImageLimit) (λ is. omega (arith, is))
+        (begin_aside tells seen old before on (save_refusal_reply ImageLimit) (λ is. omega (arith, is), λ is. omega (arith, is))
         (λ state s. begins_too_long old none state s indexed slices pinned few (omega (arith, answer.2, size_is)))))
 
   -- the disk failed
@@ -247,6 +259,9 @@ module _ {D : Type 0} (tells : Bool) (seen : D → DiskSeen) (old : Listed) (bef
       };
     };
     later = leaves.later;
+    none = tt;
+    works = λ zero. absurd (omega (arith, zero));
+    drafts = leaves.others;
     ends = (refl, leaves.ends);
     untouched = λ undone. absurd (undone.1 refl);
     others = λ told. weaken _ (λ files same. spares old.bridge.store (seen before).moments.now files same) (leaves.others told);

@@ -1,4 +1,5 @@
 pub mod RunLemmas
+pub mod LeavingLemmas
 pub mod KeptLemmas
 pub mod SaverLemmas
 pub mod TurnLemmas

@@ -191,8 +191,11 @@ module _ {D : Type 0} (tells : Bool) (seen : D → DiskSeen) (old : Listed) (bef
                 (kept told state.run held.is.newer held.is.older saving.slices.text (here next state s told stood));
           };
       later = leaves.later;
+      none = leaves.ends.1;
+      works = λ zero. leaves.ends.0;
+      drafts = λ told runs. beside (leaves.others told);
       ends = λ told. record {
-        store = leaves.ends.1 told;
+        store = leaves.ends.2 told;
         saving = subst (λ (text : List ℕ). IsDraftOn bridge.store drafting text (seen after).moments.now) (sym text_is) (leaves.written told saving.slices.text (draft_on told) next);
       };
       untouched = λ undone. absurd (undone.0 refl);
@@ -239,7 +242,10 @@ module _ {D : Type 0} (tells : Bool) (seen : D → DiskSeen) (old : Listed) (bef
                 record { files = record { read = all.1; each = all.2 }; any_moment = all.0 };
           };
       later = leaves.later;
-      ends = λ told. record { store = leaves.ends.1 told; saving = tt };
+      none = leaves.ends.1;
+      works = λ zero. leaves.ends.0;
+      drafts = λ told runs. absurd (cc runs);
+      ends = λ told. record { store = leaves.ends.2 told; saving = tt };
       untouched = λ undone. absurd (undone.0 refl);
       others = leaves.spared;
       bridge = (answers, λ is. omega (arith, is));
@@ -262,7 +268,10 @@ module _ {D : Type 0} (tells : Bool) (seen : D → DiskSeen) (old : Listed) (bef
             follow = λ told stood. subst (λ (d : D). KeepsFiles state.run state.run (seen before) (seen d)) (sym untouched) (files_stay seen before state.run stood);
           };
       later = leaves.later;
-      ends = λ told. record { store = leaves.ends told; saving = tt };
+      none = leaves.ends.0;
+      works = λ zero. absurd (omega (arith, zero));
+      drafts = λ told runs. beside (leaves.others told);
+      ends = λ told. record { store = leaves.ends.1 told; saving = tt };
       untouched = λ undone. untouched;
       others = leaves.spared;
       bridge = (answers, λ is. omega (arith, is));
@@ -301,6 +310,9 @@ module _ {D : Type 0} (tells : Bool) (seen : D → DiskSeen) (old : Listed) (bef
         keeps = λ told stood. keeps_by state s told stood (cases_lt (slice_size asked) (left_of old.bridge.store saving.draft));
       };
       later = leaves.later;
+      none = tt;
+      works = λ zero. absurd (omega (arith, zero));
+      drafts = λ told runs. absurd runs;
       ends = (refl, leaves.ends);
       untouched = λ undone. absurd (undone.1 refl);
       others = leaves.spared;

@@ -153,6 +153,9 @@ module _ {D : Type 0} (tells : Bool) (seen : D → DiskSeen) (old : Listed) (bef
               follow = made.keeps;
             };
         later = turn.later;
+        none = by.leaves.none;
+        works = tt;
+        drafts = λ told. tt;
         ends = λ told. record { store = by.leaves.still_on told; saving = beside.still told };
         untouched = by.untouched;
         others = by.leaves.others;
@@ -173,6 +176,9 @@ module _ {D : Type 0} (tells : Bool) (seen : D → DiskSeen) (old : Listed) (bef
               keeps = cut.keeps;
             };
         later = failure.later;
+        none = tt;
+        works = tt;
+        drafts = λ told. tt;
         ends = (by.told, failure.failed);
         untouched = by.untouched;
         others = by.leaves.others;
@@ -211,6 +217,9 @@ module _ {D : Type 0} (tells : Bool) (seen : D → DiskSeen) (old : Listed) (dis
           follow = λ told stood. files_stay seen disk state.run stood;
         };
     later = NeverFell_refl (seen disk).faults;
+    none = refl;
+    works = tt;
+    drafts = λ told. tt;
     ends = λ told. record { store = (on told).store; saving = (on told).saving };
     untouched = λ asks. refl;
     others = λ told. start refl;
@@ -227,6 +236,9 @@ module _ {D : Type 0} (tells : Bool) (seen : D → DiskSeen) (old : Listed) (dis
       follow = λ told stood. files_stay seen disk state.run stood;
     };
     later = NeverFell_refl (seen disk).faults;
+    none = refl;
+    works = tt;
+    drafts = λ told. tt;
     ends = λ told. record { store = (on told).store; saving = (on told).saving };
     untouched = λ asks. refl;
     others = λ told. start refl;
@@ -243,6 +255,9 @@ module _ {D : Type 0} (tells : Bool) (seen : D → DiskSeen) (old : Listed) (dis
       follow = λ told stood. files_stay seen disk state.run stood;
     };
     later = NeverFell_refl (seen disk).faults;
+    none = refl;
+    works = tt;
+    drafts = λ told. tt;
     ends = λ told. record { store = (on told).store; saving = (on told).saving };
     untouched = λ asks. refl;
     others = λ told. start refl;

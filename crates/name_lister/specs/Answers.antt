@@ -1,5 +1,6 @@
 -- What the turn of a lister does, of every state that the lister stands for.
-use Rattle.std.specs.Prelude.{◌≡◌, ◌≢◌, ℕ, Bool, IsTrue, Option, Some, None}
+use Rattle.std.specs.Prelude.{◌≡◌, ◌≢◌, ℕ, Bool, IsTrue, IsFalse, Option, Some, None}
+use Rattle.std.specs.Option.{is_some}
 use Rattle.fault_counts.specs.Faults.{NeverFell}
 use Rattle.bridge_core.specs.Bridge.{AnswersEvent, AreFilesOf, IsUndone, AsksNothing, SparesFiles, fault_code, fault_reply}
 use Rattle.bridge_core.specs.Bridged.{Bridged}
@@ -7,10 +8,11 @@ use Rattle.bridge_core.specs.Runs.{KeepsFiles, KeepsEither}
 use Rattle.bridge_core.specs.declared.bridge.Turned.{Turned}
 use Rattle.bridge_core.specs.declared.bridge.Turned.TheVariants as bridge
 use Rattle.chain_commands.specs.Event.{Event, Do, Ask, Save}
-use Rattle.disk_model.specs.Changes.{Unchanged}
-use Rattle.disk_model.specs.DiskSeen.{DiskSeen, HasFailed}
+use Rattle.disk_model.specs.Changes.{LeavesOthers, Unchanged}
+use Rattle.disk_model.specs.DiskSeen.{DiskSeen, HasFailed, NoneFailed}
 use Rattle.disk_model.specs.Moments.{Files, EachMoment}
 use Rattle.feed_frames.specs.Replies.{Reply}
+use Rattle.image_slots.specs.Selections.{drafted_by}
 use Rattle.name_store.specs.Saves.{SparesSelected}
 use Rattle.name_store.specs.Stored.{Stored}
 use Rattle.name_lister.specs.Event.{ListEvent, Plain, Open, Page, Close, Begin, Slice}
@@ -46,6 +48,21 @@ abbrev pub EndsSo : Bool → DiskSeen → DiskSeen → Reply → ListTurned → 
 EndsSo tells before after reply (On lister) = IsTrue tells → IsListOn lister after.moments.now
 EndsSo tells before after reply Ended = (reply ≡ fault_reply) × HasFailed before after
 
+-- where the lister goes on, no call of the disk failed in its turn
+abbrev pub NoneFailedIn : DiskSeen → DiskSeen → ListTurned → Type 0
+NoneFailedIn before after (On lister) = NoneFailed before after
+NoneFailedIn before after Ended = Unit {0}
+
+-- Behind code 0 of a begin and of a slice the last call worked. Of the events of any run the bridge says it, and for sessions no call
+-- is made.
+abbrev pub Works : ListEvent → Reply → DiskSeen → Type 0
+Works (Plain event) reply after = Unit {0}
+Works Open reply after = Unit {0}
+Works (Page number) reply after = Unit {0}
+Works (Close number) reply after = Unit {0}
+Works Begin reply after = reply.code ≡ 0 → IsFalse after.failed
+Works (Slice asked) reply after = reply.code ≡ 0 → IsFalse after.failed
+
 -- nothing is asked of it for sessions, nor for a begin or a slice that is refused, or wants memory
 abbrev pub AsksNothingList : ListEvent → Reply → Type 0
 AsksNothingList (Plain event) reply = AsksNothing event reply
@@ -63,6 +80,24 @@ SparesList old (Page number) = Unchanged
 SparesList old (Close number) = Unchanged
 SparesList old Begin = SparesSelected old
 SparesList old (Slice asked) = SparesSelected old
+
+-- a save runs behind the turn
+abbrev pub IsSavingOnward : ListTurned → Type 0
+IsSavingOnward (On lister) = IsTrue (is_some lister.saving)
+IsSavingOnward Ended = ⊥
+
+-- the file that is drafted is the only one that changes
+abbrev pub DraftsAlone : Stored → (before after : DiskSeen) → Type 0
+DraftsAlone old before after = EachMoment (LeavesOthers (drafted_by old.slots.count) before.moments.now) before.moments after.moments
+
+-- A begin changes that file alone, and so does a slice behind which the save runs on.
+abbrev pub Drafts : Stored → ListEvent → ListTurned → (before after : DiskSeen) → Type 0
+Drafts old (Plain event) turned before after = Unit {0}
+Drafts old Open turned before after = Unit {0}
+Drafts old (Page number) turned before after = Unit {0}
+Drafts old (Close number) turned before after = Unit {0}
+Drafts old Begin turned before after = DraftsAlone old before after
+Drafts old (Slice asked) turned before after = IsSavingOnward turned → DraftsAlone old before after
 
 -- ---- the bridge below
 
@@ -106,8 +141,11 @@ KeepsPage size Ended = Unit {0}
 pub record AnswersList {D : Type 0} (tells : Bool) (seen : D → DiskSeen) (old : Listed) (before : D) (event : ListEvent) (reply : Reply) (turned : ListTurned) (after : D) : Type 0 where
   pub step : (state : ListState) → StandsFor old state → TurnsFor tells old.page state (seen before) event reply turned (seen after)
   pub later : NeverFell (seen before).faults (seen after).faults
+  pub none : NoneFailedIn (seen before) (seen after) turned
+  pub works : Works event reply (seen after)
   pub ends : EndsSo tells (seen before) (seen after) reply turned
   pub untouched : AsksNothingList event reply → after ≡ before
   pub others : IsTrue tells → EachMoment (SparesList old.bridge.store event (seen before).moments.now) (seen before).moments (seen after).moments
+  pub drafts : IsTrue tells → Drafts old.bridge.store event turned (seen before) (seen after)
   pub bridge : AsksBridge tells seen old before event reply turned after
   pub page : KeepsPage old.page turned

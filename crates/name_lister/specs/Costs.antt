@@ -10,6 +10,10 @@ use Rattle.name_lister.specs.Lister.{Listed}
 use Rattle.name_lister.specs.declared.lister.ListTurned.{ListTurned}
 use Rattle.name_lister.specs.declared.lister.ListTurned.TheVariants.{On, Ended}
 
+-- of an opening: the tables of the index are walked so often, each name in three steps and each coin in one
+abbrev pub opening_cost : Indexed → ℕ
+opening_cost index = 3 * length index.tables.names + length index.tables.coins + 3
+
 -- the operations on names of the block that joins the chain, or leaves it
 abbrev pub ops_of : Indexed → Command → Indexed → ℕ
 ops_of old (Connect bytes) new = length (newest_ops new.undos)

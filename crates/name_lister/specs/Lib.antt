@@ -3,6 +3,7 @@ pub mod Saver
 pub mod Step
 pub mod Views
 pub mod Kept
+pub mod Leavings
 pub mod Saving
 pub mod Lister
 pub mod Opening

@@ -1,18 +1,51 @@
+ghost use Rattle.std.specs.Prelude.{◌≡◌};
 ghost use Rattle.frame_loop.specs.Turns as loops;
 ghost use Rattle.name_lister.specs.Event.{list_frame};
 ghost use Rattle.name_lister.specs.Reached.{Ready, Reached, Broken};
 ghost use Rattle.name_lister.specs.Views.{list_event_of, IsListReadable};
+ghost use Rattle.name_lister.specs.declared.lister.ListTurned.TheVariants.{On};
 
 use crate::event::{ListEvent, read_list_event};
+use crate::leavings::Leavings;
 use crate::letting_go::let_go;
-use crate::lister::ListTurned;
+use crate::lister::{ListTurned, Lister};
 use disk_model::Disk;
 use feed_frames::Frame;
 use frame_loop::{Answerer, Over, ReplyBuf};
 use nmc_base::Steps;
 use std::alloc::Global;
+use std::marker::Model;
 use std::mem;
 use std::sync::ledger::Ledger;
+
+/// A run: the lister as its last turn left it, and what is still to be let go of of sessions that were closed and saves that ended.
+///
+/// Contracts see the lister alone.
+#[derive(Drop)]
+pub(crate) struct Running {
+    pub(crate) turned: ListTurned,
+    pub(crate) leavings: Leavings,
+}
+
+impl Model for Running {
+    ghost use Rattle.name_lister.specs.declared.lister.ListTurned.{ListTurned};
+
+    ghost Value = { ListTurned };
+
+    ghost view = { λ r. r.turned };
+}
+
+impl Running {
+    /// The run of a lister that was opened.
+    pub(crate) fn new(lister: Lister, leavings: Leavings) -> Running
+        ensures { result ≡ On lister }
+    {
+        Running {
+            turned: ListTurned::On(lister),
+            leavings,
+        }
+    }
+}
 
 /// Has a lister deal with an event. It is moved, as that needs; what a fault of the disk has ended stays so.
 fn deal<D: Disk, L: Ledger>(
@@ -21,6 +54,7 @@ fn deal<D: Disk, L: Ledger>(
     disk: &mut D,
     event: ListEvent<'_>,
     reply: &mut ReplyBuf,
+    leavings: &mut Leavings,
     steps: &mut Steps<L>,
 ) -> Result<(), Over>
     requires within { IsListReadable event }
@@ -29,7 +63,7 @@ fn deal<D: Disk, L: Ledger>(
 {
     match mem::replace(turned, ListTurned::Ended) {
         ListTurned::Ended => Err(Over),
-        ListTurned::On(lister) => match lister.turn(alloc, disk, event, reply, steps) {
+        ListTurned::On(lister) => match lister.turn(alloc, disk, event, reply, leavings, steps) {
             ListTurned::Ended => Err(Over),
             ListTurned::On(next) => {
                 let_go(mem::replace(turned, ListTurned::On(next)));
@@ -40,7 +74,7 @@ fn deal<D: Disk, L: Ledger>(
 }
 
 /// A lister answers frames by means of the disk that has the files of its bridge. Once a fault has ended it, it answers none.
-impl<D: Disk> Answerer<D> for ListTurned {
+impl<D: Disk> Answerer<D> for Running {
     ghost use Rattle.name_lister.specs.Event.{last_list_kind};
     ghost use Rattle.name_lister.specs.Reached.{ListBeginning, Ready, Reached, Broken};
 
@@ -64,6 +98,14 @@ impl<D: Disk> Answerer<D> for ListTurned {
         reply: &mut ReplyBuf,
         steps: &mut Steps<L>,
     ) -> Result<(), Over> {
-        deal(self, alloc, disk, read_list_event(frame), reply, steps)
+        deal(
+            &mut self.turned,
+            alloc,
+            disk,
+            read_list_event(frame),
+            reply,
+            &mut self.leavings,
+            steps,
+        )
     }
 }

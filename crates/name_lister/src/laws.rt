@@ -10,6 +10,7 @@ ghost use Rattle.name_lister.specs.Event.{ListEvent, Begin, Slice};
 ghost use Rattle.name_lister.specs.Pinning.{StaysOpen, pages_of, pages_told};
 ghost use Rattle.name_lister.specs.Saver.{begun_reply, selected_reply};
 ghost use Rattle.name_lister.specs.Step.{ListState, ListStep, ListRun};
+ghost use Rattle.name_lister.specs.declared.leavings.TheConstants.{LET_GO_AT_ONCE};
 ghost use Rattle.pin_views.specs.declared.rows.Row.{Row};
 
 /// No command is lost, and none is made up: behind a run the state has the commands that it had before and those that were accepted,
@@ -34,4 +35,9 @@ pub fn pinned_pages()
     ensures { (size number position : ℕ) (chain : Chain) (rows : List (List ℕ × Row)) (old new : ListState) (events : List ListEvent) (replies : List Reply)
         → IsListing chain rows → old.sessions number ≡ Some (session chain position) → StaysOpen number events → ListRun size old events replies new
         → pages_told number events replies ≡ pages_of chain size (drop position rows) (length (pages_told number events replies)) }
+{}
+
+/// At each event at most five parts are let go of.
+pub fn numbers_of_leavings()
+    ensures parts { LET_GO_AT_ONCE ≡ 5 }
 {}

@@ -1,15 +1,23 @@
 //! What is dear to let go of is let go of here alone: each place of it would be proved anew.
 
+use crate::answering::Running;
+use crate::leavings::{Leaving, Leavings};
 use crate::lister::{ListTurned, Lister};
 use crate::saving::Saving;
 use crate::views::Views;
 use bridge_core::Bridge;
-use listing_sessions::Sessions;
+use listing_sessions::{Rows, Sessions};
 use sliced_save::{Mirror, Slices};
 
 pub(crate) fn let_bridge_go(_bridge: Bridge) {}
 
 pub(crate) fn let_slices_go(_slices: Slices) {}
+
+pub(crate) fn let_leaving_go(_leaving: Leaving) {}
+
+pub(crate) fn let_leavings_go(_leavings: Leavings) {}
+
+pub(crate) fn let_rows_go(_rows: Option<Rows>) {}
 
 fn let_mirror_go(_mirror: Mirror) {}
 
@@ -20,11 +28,9 @@ pub(crate) fn let_saving_go(saving: Option<Saving>) {
     }
 }
 
-pub(crate) fn let_views_go(views: Views) {
-    let Views {
-        rows: _rows,
-        mirror,
-    } = views;
+fn let_views_go(views: Views) {
+    let Views { rows, mirror } = views;
+    let_rows_go(rows);
     if let Some(mirror) = mirror {
         let_mirror_go(mirror);
     }
@@ -52,4 +58,11 @@ pub(crate) fn let_go(turned: ListTurned) {
     if let ListTurned::On(lister) = turned {
         let_lister_go(lister);
     }
+}
+
+/// All that a run kept.
+pub(crate) fn let_all_go(running: Running) {
+    let Running { turned, leavings } = running;
+    let_go(turned);
+    let_leavings_go(leavings);
 }

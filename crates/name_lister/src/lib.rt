@@ -5,6 +5,7 @@
 mod answering;
 mod event;
 mod laws;
+mod leavings;
 mod letting_go;
 mod lister;
 mod listing;
@@ -15,5 +16,6 @@ mod views;
 
 pub use event::ListEvent;
 pub use laws::{accepted_commands, pinned_pages, saves_in_slices};
+pub use leavings::Leavings;
 pub use lister::{ListTurned, Lister};
 pub use listing::list;

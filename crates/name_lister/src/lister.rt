@@ -1,4 +1,4 @@
-ghost use Rattle.std.specs.Prelude.{◌≡◌, ◌≤◌, length, None, IsTrue, IfOk, OnOk};
+ghost use Rattle.std.specs.Prelude.{◌≡◌, ◌+◌, ◌≤◌, length, None, IsTrue, IfOk, OnOk};
 ghost use Rattle.nmc_base.specs.Heights.{highest};
 ghost use Rattle.nmc_base.specs.declared.limits.TheConstants.{LONGEST_BLOCK};
 ghost use Rattle.disk_model.specs.Changes.{KeepsSettled};
@@ -12,8 +12,9 @@ ghost use Rattle.name_store.specs.Opening.{IsSynced, OpenAnswer};
 ghost use Rattle.name_store.specs.Stands.{Stands};
 ghost use Rattle.bridge_core.specs.Bridged as bridges;
 ghost use Rattle.name_lister.specs.Answers.{AnswersList};
-ghost use Rattle.name_lister.specs.Costs.{IsCheapTurn};
+ghost use Rattle.name_lister.specs.Costs.{IsCheapTurn, opening_cost};
 ghost use Rattle.name_lister.specs.Event.{Plain, Open, Page, Close, Begin, Slice};
+ghost use Rattle.name_lister.specs.Leavings.{Adds, LetsGo, total};
 ghost use Rattle.name_lister.specs.Lister.{StandsFor, IsListOn};
 ghost use Rattle.name_lister.specs.Opening.{store_of};
 ghost use Rattle.name_lister.specs.Step.{beginning};
@@ -21,7 +22,8 @@ ghost use Rattle.name_lister.specs.Views.{list_event_of, IsListReadable};
 ghost use Rattle.listing_sessions.specs.declared.page.TheConstants.{LARGEST_PAGE};
 
 use crate::event::ListEvent;
-use crate::letting_go::{let_bridge_go, let_rest_go, let_views_go};
+use crate::leavings::Leavings;
+use crate::letting_go::{let_bridge_go, let_rest_go, let_rows_go};
 use crate::replies::refuse_running;
 use crate::saving::Saving;
 use crate::views::{Views, behind_connect, behind_disconnect, prepared};
@@ -93,6 +95,7 @@ impl Lister {
             → EachMoment (KeepsSettled (D.seen disk.old).moments.now) (D.seen disk.old).moments (D.seen disk.new).moments }
         ensures reads { (D.seen disk.new).changes ≡ (D.seen disk.old).changes }
         ensures ends { EndsWith OpenFault.DiskFault (D.seen disk.old) (D.seen disk.new) result }
+        ensures cost { IfOk result (λ lister. steps.new ≤ steps.old + opening_cost lister.bridge.store.index) }
     {
         match Bridge::open(alloc, disk) {
             Ok(bridge) => match Lister::over(alloc, bridge, page, steps) {
@@ -115,6 +118,7 @@ impl Lister {
         ensures begins { IfOk result (λ lister. (run : RunState) → bridges.StandsFor bridge run → StandsFor lister (beginning run)) }
         ensures page { IfOk result (λ lister. lister.page ≡ page) }
         ensures idle { IfOk result (λ lister. lister.saving ≡ None) }
+        ensures cost { IfOk result (λ lister. steps.new ≤ steps.old + opening_cost lister.bridge.store.index) }
     {
         let sessions = match Sessions::new(alloc) {
             Ok(sessions) => sessions,
@@ -197,15 +201,15 @@ impl Lister {
             page,
             saving,
         } = self;
-        let before = prepared(alloc, &views, bridge.chain(), hash);
+        let before = prepared(alloc, &views.rows, bridge.chain(), hash);
         match bridge.turn(alloc, disk, ChainCommand::Disconnect(hash), reply, steps) {
             Turned::Ended => {
-                let_views_go(before);
+                let_rows_go(before);
                 let_rest_go(views, sessions, saving);
                 ListTurned::Ended
             }
             Turned::On(bridge) => {
-                let views = behind_disconnect(views, before, reply);
+                let views = behind_disconnect(alloc, views, before, reply);
                 ListTurned::On(Lister {
                     bridge,
                     views,
@@ -292,14 +296,22 @@ impl Lister {
         ListTurned::On(lister)
     }
 
-    /// Closes a session.
-    fn close_session<D: Disk>(self, disk: &D, number: u32, reply: &mut ReplyBuf) -> ListTurned
+    /// Closes a session. What it alone held waits to be let go of.
+    fn close_session<D: Disk>(
+        self,
+        disk: &D,
+        number: u32,
+        reply: &mut ReplyBuf,
+        leavings: &mut Leavings,
+    ) -> ListTurned
         requires on_disk { IsTrue D.tells → IsListOn self (D.seen disk.now).moments.now }
-        ensures { AnswersList D.tells D.seen self disk.now (Close number) reply.new result disk.now }
+        ensures answers { AnswersList D.tells D.seen self disk.now (Close number) reply.new result disk.now }
+        ensures leavings { total leavings.old ≤ total leavings.new }
     {
         let _ = disk;
         let mut lister = self;
-        lister.sessions.close(number, reply);
+        let rows = lister.sessions.close(number, reply);
+        leavings.add_rows(rows);
         ListTurned::On(lister)
     }
 
@@ -318,26 +330,50 @@ impl Lister {
     ///
     /// Where memory for what is kept ran out behind a command, that stays accepted, and open sessions and a save that runs go on; then each
     /// later opening, or each later begin, has code FE.
+    ///
+    /// What a session that is closed, or a save in slices that ends, alone held is let go of behind it, at each event a few parts of it.
     pub fn turn<D: Disk, L: Ledger>(
         self,
         alloc: Global,
         disk: &mut D,
         event: ListEvent<'_>,
         reply: &mut ReplyBuf,
+        leavings: &mut Leavings,
         steps: &mut Steps<L>,
     ) -> ListTurned
         requires within { IsListReadable event }
         requires on_disk { IsTrue D.tells → IsListOn self (D.seen disk.old).moments.now }
         ensures answers { AnswersList D.tells D.seen self disk.old (list_event_of event.entry) reply.new result disk.new }
         ensures cost { IsCheapTurn self (list_event_of event.entry) reply.new result steps.old steps.new }
+        ensures leavings { LetsGo (list_event_of event.entry) leavings.old leavings.new }
+    {
+        leavings.let_go();
+        self.answered(alloc, disk, event, reply, leavings, steps)
+    }
+
+    /// Deals with it, once some of what waits was let go of.
+    fn answered<D: Disk, L: Ledger>(
+        self,
+        alloc: Global,
+        disk: &mut D,
+        event: ListEvent<'_>,
+        reply: &mut ReplyBuf,
+        leavings: &mut Leavings,
+        steps: &mut Steps<L>,
+    ) -> ListTurned
+        requires within { IsListReadable event }
+        requires on_disk { IsTrue D.tells → IsListOn self (D.seen disk.old).moments.now }
+        ensures answers { AnswersList D.tells D.seen self disk.old (list_event_of event.entry) reply.new result disk.new }
+        ensures cost { IsCheapTurn self (list_event_of event.entry) reply.new result steps.old steps.new }
+        ensures leavings { Adds (list_event_of event.entry) leavings.old leavings.new }
     {
         match event {
             ListEvent::Plain(event) => self.turn_plain(alloc, disk, event, reply, steps),
             ListEvent::Open => self.open_session(disk, reply),
             ListEvent::Page(number) => self.turn_page(disk, number, reply),
-            ListEvent::Close(number) => self.close_session(disk, number, reply),
+            ListEvent::Close(number) => self.close_session(disk, number, reply, leavings),
             ListEvent::Begin => self.begin_save(disk, reply),
-            ListEvent::Slice(asked) => self.slice(disk, asked, reply),
+            ListEvent::Slice(asked) => self.slice(disk, asked, reply, leavings),
         }
     }
 

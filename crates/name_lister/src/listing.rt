@@ -4,8 +4,10 @@ ghost use Rattle.bridge_core.specs.Determined.{outside};
 ghost use Rattle.listing_sessions.specs.declared.page.TheConstants.{LARGEST_PAGE};
 ghost use Rattle.name_lister.specs.Listing.{Lists};
 
-use crate::letting_go::let_go;
-use crate::lister::{ListTurned, Lister};
+use crate::answering::Running;
+use crate::leavings::Leavings;
+use crate::letting_go::{let_all_go, let_leavings_go};
+use crate::lister::Lister;
 use bridge_core::{Status, status_of, unopened};
 use byte_io::{Sink, Source};
 use disk_model::Disk;
@@ -24,6 +26,7 @@ fn list_by<S: Source, K: Sink, D: Disk, L: Ledger>(
     disk: &mut D,
     limit: u64,
     page: u32,
+    leavings: Leavings,
     steps: &mut Steps<L>,
 ) -> Status
     requires limit { limit ≤ 2 ^ 40 }
@@ -33,10 +36,10 @@ fn list_by<S: Source, K: Sink, D: Disk, L: Ledger>(
 {
     match Lister::open(alloc, disk, page, steps) {
         Ok(lister) => {
-            let mut turned = ListTurned::On(lister);
+            let mut running = Running::new(lister, leavings);
             let ending = follow(
                 alloc,
-                &mut turned,
+                &mut running,
                 disk,
                 buffers,
                 source,
@@ -44,11 +47,21 @@ fn list_by<S: Source, K: Sink, D: Disk, L: Ledger>(
                 limit,
                 steps,
             );
-            let_go(turned);
+            let_all_go(running);
             status_of(ending)
         }
-        Err(fault) => unopened(fault),
+        Err(fault) => {
+            let_leavings_go(leavings);
+            unopened(fault)
+        }
     }
+}
+
+/// What a run needs room for before it opens the files.
+fn room(alloc: Global) -> Result<(Buffers, Leavings), NoMemory> {
+    let buffers = Buffers::new(alloc)?;
+    let leavings = Leavings::new(alloc)?;
+    Ok((buffers, leavings))
 }
 
 /// A listing run whose steps are counted in the ledger of the blank.
@@ -70,10 +83,11 @@ fn list_counted<S: Source, K: Sink, D: Disk, L: Ledger>(
         (outside (streams (S.seen source.new) (K.seen sink.new)) (D.seen disk.new)) limit result }
 {
     let mut steps = Steps::<L>::new(blank);
-    let mut buffers = match Buffers::new(alloc) {
-        Ok(buffers) => buffers,
+    let (buffers, leavings) = match room(alloc) {
+        Ok(room) => room,
         Err(NoMemory) => return Status::NoMemory,
     };
+    let mut buffers = buffers;
     list_by(
         alloc,
         &mut buffers,
@@ -82,6 +96,7 @@ fn list_counted<S: Source, K: Sink, D: Disk, L: Ledger>(
         disk,
         limit,
         page,
+        leavings,
         &mut steps,
     )
 }

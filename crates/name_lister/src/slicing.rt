@@ -8,9 +8,11 @@ ghost use Rattle.name_store.specs.Stored.{IsOn};
 ghost use Rattle.name_store.specs.declared.slice_steps.TheConstants.{LONGEST_SLICE};
 ghost use Rattle.name_lister.specs.Answers.{AnswersList};
 ghost use Rattle.name_lister.specs.Event.{Begin, Slice};
+ghost use Rattle.name_lister.specs.Leavings.{total};
 ghost use Rattle.name_lister.specs.Lister.{IsListOn};
 ghost use Rattle.name_lister.specs.Saving.{IsGiven, IsPinnedBy, WritesSlice, slice_reply, left_by};
 
+use crate::leavings::Leavings;
 use crate::letting_go::{let_rest_go, let_saving_go, let_slices_go};
 use crate::lister::{ListTurned, Lister};
 use crate::replies::{
@@ -76,14 +78,17 @@ fn write_slice<D: Disk>(
     write_by(bridge, disk, saving, &mut buffer[..most])
 }
 
-/// Tells what came of a slice. Gives the bridge back, with the save where that goes on; None behind a fault of the disk.
+/// Tells what came of a slice. Gives the bridge back, with the save where that goes on; None behind a fault of the disk. Where the save
+/// has ended, what it alone held waits to be let go of.
 fn tell_slice(
     turned: SliceTurned,
     slices: Slices,
     reply: &mut ReplyBuf,
+    leavings: &mut Leavings,
 ) -> Option<(Bridge, Option<Saving>)>
     ensures told { reply.new ≡ slice_reply turned }
     ensures left { result ≡ left_by turned slices }
+    ensures leavings { total leavings.old ≤ total leavings.new }
 {
     match turned {
         SliceTurned::Written(bridge, draft) => {
@@ -91,12 +96,12 @@ fn tell_slice(
             Some((bridge, Some(Saving { draft, slices })))
         }
         SliceTurned::Selected(bridge, number) => {
-            let_slices_go(slices);
+            leavings.add_slices(slices);
             tell_selected(reply, number);
             Some((bridge, None))
         }
         SliceTurned::AreaLimit(bridge) => {
-            let_slices_go(slices);
+            leavings.add_slices(slices);
             refuse_area(reply);
             Some((bridge, None))
         }
@@ -181,9 +186,16 @@ impl Lister {
     }
 
     /// Writes the next slice of the save that runs, and selects its area behind the last.
-    pub(crate) fn slice<D: Disk>(self, disk: &mut D, asked: u32, reply: &mut ReplyBuf) -> ListTurned
+    pub(crate) fn slice<D: Disk>(
+        self,
+        disk: &mut D,
+        asked: u32,
+        reply: &mut ReplyBuf,
+        leavings: &mut Leavings,
+    ) -> ListTurned
         requires on_disk { IsTrue D.tells → IsListOn self (D.seen disk.old).moments.now }
-        ensures { AnswersList D.tells D.seen self disk.old (Slice asked) reply.new result disk.new }
+        ensures answers { AnswersList D.tells D.seen self disk.old (Slice asked) reply.new result disk.new }
+        ensures leavings { total leavings.old ≤ total leavings.new }
     {
         let Lister {
             bridge,
@@ -203,7 +215,7 @@ impl Lister {
             });
         };
         let (turned, slices) = write_slice(bridge, disk, saving, slice_size(asked));
-        match tell_slice(turned, slices, reply) {
+        match tell_slice(turned, slices, reply, leavings) {
             Some((bridge, saving)) => ListTurned::On(Lister {
                 bridge,
                 views,

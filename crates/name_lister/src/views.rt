@@ -2,7 +2,9 @@
 //! Each is there or, behind a want of memory, not.
 
 ghost use Rattle.std.specs.Prelude.{◌≡◌, ◌≢◌, ◌+◌, ◌≤◌, length, IfOk};
+ghost use Rattle.chain_state.specs.Chain.{Indexed};
 ghost use Rattle.kept_rows.specs.Rows.{names_now, names_before, newest_ops};
+ghost use Rattle.name_lister.specs.Costs.{opening_cost};
 ghost use Rattle.name_lister.specs.Kept.{AreRowsBy, IsMirrorNow, IsMirrorBefore, AreViewsNow, AreViewsBefore};
 
 use bridge_core::codes;
@@ -30,7 +32,8 @@ impl Views {
         chain: &Chain,
         steps: &mut Steps<L>,
     ) -> Result<Views, NoMemory>
-        ensures { IfOk result (AreViewsNow chain.now) }
+        ensures views { IfOk result (AreViewsNow chain.now) }
+        ensures cost { steps.new ≤ steps.old + opening_cost chain.now }
     {
         Ok(Views {
             rows: Some(Rows::of(alloc, chain, steps)?),
@@ -87,15 +90,15 @@ fn rows_without(alloc: Global, rows: &Option<Rows>, chain: &Chain) -> Option<Row
     }
 }
 
-/// The mirror as it was before the newest block.
-fn mirror_without(alloc: Global, mirror: &Option<Mirror>, chain: &Chain) -> Option<Mirror>
-    ensures { IsMirrorNow chain.now mirror.now → IsMirrorBefore chain.now result }
+/// The mirror without the newest block, which has left the chain.
+fn left_mirror(alloc: Global, mirror: Option<Mirror>) -> Option<Mirror>
+    ensures { (index : Indexed) → IsMirrorNow index mirror → IsMirrorBefore index result }
 {
     match mirror {
         None => None,
-        Some(mirror) => match mirror.disconnecting(alloc, chain) {
-            Ok(before) => Some(before),
-            Err(_) => None,
+        Some(mirror) => match mirror.disconnected(alloc) {
+            Ok(mirror) => Some(mirror),
+            Err(NoMemory) => None,
         },
     }
 }
@@ -122,30 +125,40 @@ pub(crate) fn behind_connect<L: Ledger>(
     }
 }
 
-/// What is kept as it was before the newest block, where that has this hash. Another hash can't be disconnected, and nothing is prepared.
-pub(crate) fn prepared(alloc: Global, views: &Views, chain: &Chain, hash: Hash32) -> Views
-    ensures { AreViewsNow chain.now views.now → AreViewsBefore chain.now result }
+/// The rows as they were before the newest block, where that has this hash. Another hash can't be disconnected, and nothing is prepared.
+pub(crate) fn prepared(
+    alloc: Global,
+    rows: &Option<Rows>,
+    chain: &Chain,
+    hash: Hash32,
+) -> Option<Rows>
+    ensures { AreRowsBy (names_now chain.now) rows.now → AreRowsBy (names_before chain.now) result }
 {
     if hash != chain.tip().hash {
-        return Views {
-            rows: None,
-            mirror: None,
-        };
+        return None;
     }
-    Views {
-        rows: rows_without(alloc, &views.rows, chain),
-        mirror: mirror_without(alloc, &views.mirror, chain),
-    }
+    rows_without(alloc, rows, chain)
 }
 
-/// What is kept behind a disconnect with this reply: what was prepared for it, or the old.
-pub(crate) fn behind_disconnect(views: Views, before: Views, reply: &ReplyBuf) -> Views
-    ensures done { reply.now.code ≡ 0 → result ≡ before }
+/// What is kept behind a disconnect with this reply: the rows that were prepared for it, and the mirror without the block; or the old.
+pub(crate) fn behind_disconnect(
+    alloc: Global,
+    views: Views,
+    before: Option<Rows>,
+    reply: &ReplyBuf,
+) -> Views
+    ensures done { reply.now.code ≡ 0 → (index : Indexed) → AreRowsBy (names_before index) before → AreViewsNow index views → AreViewsBefore index result }
     ensures same { reply.now.code ≢ 0 → result ≡ views }
 {
-    if reply.code() == codes::DONE {
-        before
-    } else {
-        views
+    if reply.code() != codes::DONE {
+        return views;
+    }
+    let Views {
+        rows: _rows,
+        mirror,
+    } = views;
+    Views {
+        rows: before,
+        mirror: left_mirror(alloc, mirror),
     }
 }

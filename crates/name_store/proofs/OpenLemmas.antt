@@ -1,5 +1,5 @@
 -- What an opened store stands for.
-use Rattle.std.proofs.Common.{◌≡◌, inl, inr, ℕ, zero, suc, ◌+◌, ◌<◌, ◌≤◌, Bool, List, [], ◌∷◌, ◌++◌, length, take, drop, Ok, Err, refl, sym, ◌∙◌, ap, subst, arith, length-take, length-drop, append_assoc}
+use Rattle.std.proofs.Common.{◌≡◌, inl, inr, ℕ, zero, suc, ◌+◌, ◌<◌, ◌≤◌, Bool, true, List, [], ◌∷◌, ◌++◌, length, take, drop, Ok, Err, refl, sym, ◌∙◌, ap, subst, arith, length-take, length-drop, append_assoc}
 use Rattle.std.specs.Prelude.{IsTrue, Result, slice_index}
 use Rattle.std.specs.Int.{w32, to_le_bytes}
 use Rattle.std.proofs.Math.Seq.{drop-cons, take-add}
@@ -50,7 +50,7 @@ use Rattle.name_store.specs.HeaderAnswers.{IsHeaderOf, HeaderAnswer}
 use Rattle.name_store.specs.Host.{IsHostOf}
 use Rattle.name_store.specs.Opening.{IsSynced, IsFollowed, IsOpened, OpenAnswer, AreaAnswer}
 use Rattle.name_store.specs.Stands.{Bytes, Stands}
-use Rattle.name_store.specs.Stored.{Stored, StandsFor, IsOn}
+use Rattle.name_store.specs.Stored.{Stored, StandsFor, IsOn, area_file}
 use Rattle.name_store.proofs.DamageLaws.{undamaged, bad_behind, begun_not_bad, damage_moved, stands_moved, standing_front, standing_first}
 use Rattle.name_store.proofs.RunLemmas.{one_count, standing_host, standing_selected}
 use Rattle.name_store.proofs.SavedLemmas.{saved_stands, short_text}
@@ -199,6 +199,22 @@ module _ (tells : Bool) (files : Files) (header : Header) (slots : Slotted) (fol
   opened_undamaged : (file at : ℕ) → IsDamaged bytes file at → ⊥
   opened_undamaged = undamaged bytes slots.count (record { has = has_selected; no_bad_image = λ at bad. begun_not_bad base area first at begins bad; no_bad_record = no_bad })
 
+  -- the commands were followed, of a disk that tells its files
+  told_followed : IsFollowed true base area (record { index = followed.index; length = followed.length })
+  told_followed = record {
+    first = first;
+    begins = begins;
+    all = record {
+      some = record {
+        commands = commands;
+        leads = o.area.all.some.leads;
+        reached_is = o.area.all.some.reached_is;
+        read = λ told. o.area.all.some.read o.told;
+      };
+      shut = λ told. o.area.all.shut o.told;
+    };
+  }
+
   -- of a run state that they stand for
   module _ (run : RunState) (stands : Stands bytes run) where
     count_is : slots.count ≡ run.selections
@@ -231,6 +247,8 @@ module _ (tells : Bool) (files : Files) (header : Header) (slots : Slotted) (fol
     on_disk = opened_on;
     initialised = o.has.initialised;
     undamaged = opened_undamaged;
+    selected = has_selected;
+    followed = told_followed;
     follows = stands_so;
   }
 
@@ -256,10 +274,10 @@ module _ (tells : Bool) (told : IsTrue tells) (base : Base) (file : ℕ) (area m
     inside = subst (λ (n : ℕ). n < length area) r.gate_is r.inside;
   })
 
-  pub area_followed : (followed : Followed) → FollowedAnswer tells origin mid (Ok followed) → IsFollowed tells base area followed
-  area_followed followed is = record { first = origin; begins = origin_begins; all = followed_all_same tells origin mid area (λ told. same) followed.index followed.length is }
+  pub area_followed : (followed : Followed) → FollowedAnswer tells longest_area origin mid (Ok followed) → IsFollowed tells base area followed
+  area_followed followed is = record { first = origin; begins = origin_begins; all = followed_all_same tells longest_area origin mid area (λ told. same) followed.index followed.length is }
 
-  pub area_unfollowed : (fault : JournalFault) → FollowedAnswer tells origin mid (Err fault) → AreaAnswer tells base file area (Err (of_journal file fault))
+  pub area_unfollowed : (fault : JournalFault) → FollowedAnswer tells longest_area origin mid (Err fault) → AreaAnswer tells base file area (Err (of_journal file fault))
   area_unfollowed (journal_faults.Damaged at) is = (
     refl,
     inr (record { first = origin; begins = origin_begins; bad = subst (λ (l : List ℕ). HasBadRecord origin longest_area l at) same (is told) }),
@@ -302,6 +320,9 @@ opened_before old mid new (Ok store) alike is = record {
   on_disk = is.on_disk;
   initialised = subst IsInitialised (alike 0 (omega arith)) is.initialised;
   undamaged = λ file at bad. is.undamaged file at (damage_moved old mid alike file at bad);
+  selected = subst (λ (l : List ℕ). HasSelected l store.slots.count) (alike 0 (omega arith)) is.selected;
+  followed = subst (λ (l : List ℕ). IsFollowed true (base_at (old 0)) l (record { index = store.index; length = store.area })) (alike (area_file store) (omega arith))
+      (subst (λ (l : List ℕ). IsFollowed true (base_at l) (mid (area_file store)) (record { index = store.index; length = store.area })) (alike 0 (omega arith)) is.followed);
   follows = λ run stands. is.follows run (stands_moved old mid alike run stands);
 }
 opened_before old mid new (Err faults.Uninitialised) alike is = λ has. is (subst IsInitialised (sym (alike 0 (omega arith))) has)

@@ -51,23 +51,23 @@ back_beside full chain hash (disconnecting.NotTip tip) holds = holds
 back_beside full chain hash disconnecting.JournalFull holds = absurd holds
 
 -- behind a command of this kind without a refusal stands a run state
-abbrev pub Allows : {M : Type 0} → Refusals M → (Type 0 → Chain → M → Type 0) → Command → Type 0
-Allows refusals Holds command = (run : RunState) → IsRunState run → HasNoneBelow (Holds (IsFullOf longest_area run command) (chain_of run)) refusals.order refusals.places
+abbrev pub Allows : {M : Type 0} → (most : ℕ) → Refusals M → (Type 0 → Chain → M → Type 0) → Command → Type 0
+Allows most refusals Holds command = (run : RunState) → IsRunState run → HasNoneBelow (Holds (IsFullOf most run command) (chain_of run)) refusals.order refusals.places
     → IsRunState (accepted run command)
 
-pub allows_connect : (bytes : List ℕ) → length bytes ≤ LONGEST_BLOCK → Allows connecting.connects (λ full chain. Holds full chain bytes) (Connect bytes)
-allows_connect bytes short run is valid =
-    let full = IsFullOf longest_area run (Connect bytes) in
+pub allows_connect : (most : ℕ) → most ≤ longest_area → (bytes : List ℕ) → length bytes ≤ LONGEST_BLOCK → Allows most connecting.connects (λ full chain. Holds full chain bytes) (Connect bytes)
+allows_connect most low bytes short run is valid =
+    let full = IsFullOf most run (Connect bytes) in
     let alone : IsValid ⊥ (chain_of run) bytes = record { none = λ refusal low holds. valid.none refusal low (holds_beside full (chain_of run) bytes refusal holds) } in
-    let room : ¬ (longest_area < area_of run + record_length (Connect bytes)) = valid.none connecting.JournalFull (omega arith) in
-    state_with run (Connect bytes) is (alone, short) (omega (arith, room))
+    let room : ¬ (most < area_of run + record_length (Connect bytes)) = valid.none connecting.JournalFull (omega arith) in
+    state_with run (Connect bytes) is (alone, short) (omega (arith, room, low))
 
-pub allows_disconnect : (hash : List ℕ) → length hash ≡ 32 → Allows disconnecting.disconnects (λ full chain. HoldsBack full chain hash) (Disconnect hash)
-allows_disconnect hash long run is valid =
-    let full = IsFullOf longest_area run (Disconnect hash) in
+pub allows_disconnect : (most : ℕ) → most ≤ longest_area → (hash : List ℕ) → length hash ≡ 32 → Allows most disconnecting.disconnects (λ full chain. HoldsBack full chain hash) (Disconnect hash)
+allows_disconnect most low hash long run is valid =
+    let full = IsFullOf most run (Disconnect hash) in
     let alone : IsValidBack ⊥ (chain_of run) hash = record { none = λ refusal low holds. valid.none refusal low (back_beside full (chain_of run) hash refusal holds) } in
-    let room : ¬ (longest_area < area_of run + record_length (Disconnect hash)) = valid.none disconnecting.JournalFull (omega arith) in
-    state_with run (Disconnect hash) is (alone, long) (omega (arith, room))
+    let room : ¬ (most < area_of run + record_length (Disconnect hash)) = valid.none disconnecting.JournalFull (omega arith) in
+    state_with run (Disconnect hash) is (alone, long) (omega (arith, room, low))
 
 -- ---- what was not done
 
@@ -77,6 +77,7 @@ module _ (old new : Stored) (back : IsAlike old new) where
     leaves_refused Spares same refusal = record {
       later = record { count = omega arith; at_limit = λ is. is };
       worked = tt;
+      none = refl;
       failed = tt;
       still_on = λ told. on_again old new disk.moments.now back (on told);
       others = λ told. start same;
@@ -86,6 +87,7 @@ module _ (old new : Stored) (back : IsAlike old new) where
     leaves_lacking Spares same = record {
       later = record { count = omega arith; at_limit = λ is. is };
       worked = tt;
+      none = refl;
       failed = tt;
       still_on = λ told. on_again old new disk.moments.now back (on told);
       others = λ told. start same;
@@ -100,19 +102,19 @@ module _ (old new : Stored) (back : IsAlike old new) where
 -- ---- what was staged
 
 -- A command is staged on the index of a store, of every chain that it stands for, and behind it stands a run state.
-pub record Staging {M : Type 0} (refusals : Refusals M) (Holds : Type 0 → Chain → M → Type 0) (command : Command) (old : Stored) (Commits Abandons : Indexed → Type 0) : Type 0 where
-  pub allows : Allows refusals Holds command
-  pub staged : (chain : Chain) → chains.StandsFor old.index chain → IsStagedFor refusals (Holds (IsFullWith old.area longest_area command) chain) chain command Commits Abandons
+pub record Staging {M : Type 0} (most : ℕ) (refusals : Refusals M) (Holds : Type 0 → Chain → M → Type 0) (command : Command) (old : Stored) (Commits Abandons : Indexed → Type 0) : Type 0 where
+  pub allows : Allows most refusals Holds command
+  pub staged : (chain : Chain) → chains.StandsFor old.index chain → IsStagedFor refusals (Holds (IsFullWith old.area most command) chain) chain command Commits Abandons
 
 -- a block is staged
-pub a_block : (bytes : List ℕ) → length bytes ≤ LONGEST_BLOCK → (old : Stored) (staged : StagedIndex) → StagesBytes old.area longest_area old.index bytes (Staged staged)
-    → Staging connecting.connects (λ full chain. Holds full chain bytes) (Connect bytes) old (IsConnected staged) (IsAbandoned staged)
-a_block bytes short old staged stages = record { allows = allows_connect bytes short; staged = stages }
+pub a_block : (most : ℕ) → most ≤ longest_area → (bytes : List ℕ) → length bytes ≤ LONGEST_BLOCK → (old : Stored) (staged : StagedIndex) → StagesBytes old.area most old.index bytes (Staged staged)
+    → Staging most connecting.connects (λ full chain. Holds full chain bytes) (Connect bytes) old (IsConnected staged) (IsAbandoned staged)
+a_block most low bytes short old staged stages = record { allows = allows_connect most low bytes short; staged = stages }
 
 -- the disconnect of a hash is staged
-pub a_hash : (hash : List ℕ) → length hash ≡ 32 → (old : Stored) (staged : Indexed) → StagesHash old.area longest_area old.index hash (StagedBack staged)
-    → Staging disconnecting.disconnects (λ full chain. HoldsBack full chain hash) (Disconnect hash) old (IsDisconnected staged) (λ same. SameIndex same staged)
-a_hash hash long old staged stages = record { allows = allows_disconnect hash long; staged = stages }
+pub a_hash : (most : ℕ) → most ≤ longest_area → (hash : List ℕ) → length hash ≡ 32 → (old : Stored) (staged : Indexed) → StagesHash old.area most old.index hash (StagedBack staged)
+    → Staging most disconnecting.disconnects (λ full chain. HoldsBack full chain hash) (Disconnect hash) old (IsDisconnected staged) (λ same. SameIndex same staged)
+a_hash most low hash long old staged stages = record { allows = allows_disconnect most low hash long; staged = stages }
 
 -- the new store is the old one, with an index behind the commit and an area that is longer by the command's record
 pub record IsCommitted (command : Command) (old : Stored) (Commits : Indexed → Type 0) (new : Stored) : Type 0 where
@@ -121,10 +123,10 @@ pub record IsCommitted (command : Command) (old : Stored) (Commits : Indexed →
   pub slots : new.slots ≡ old.slots
   pub area : new.area ≡ old.area + record_length command
 
-module _ {M : Type 0} {refusals : Refusals M} {Holds : Type 0 → Chain → M → Type 0} {command : Command} {old : Stored} {Commits Abandons : Indexed → Type 0}
-    (g : Staging refusals Holds command old Commits Abandons) where
-  pub valid_of : (run : RunState) → StandsFor old run → HasNoneBelow (Holds (IsFullOf longest_area run command) (chain_of run)) refusals.order refusals.places
-  valid_of run s = subst (λ (a : ℕ). HasNoneBelow (Holds (longest_area < a + record_length command) (chain_of run)) refusals.order refusals.places) s.area (g.staged (chain_of run) s.index).valid
+module _ {M : Type 0} {most : ℕ} {refusals : Refusals M} {Holds : Type 0 → Chain → M → Type 0} {command : Command} {old : Stored} {Commits Abandons : Indexed → Type 0}
+    (g : Staging most refusals Holds command old Commits Abandons) where
+  pub valid_of : (run : RunState) → StandsFor old run → HasNoneBelow (Holds (IsFullOf most run command) (chain_of run)) refusals.order refusals.places
+  valid_of run s = subst (λ (a : ℕ). HasNoneBelow (Holds (most < a + record_length command) (chain_of run)) refusals.order refusals.places) s.area (g.staged (chain_of run) s.index).valid
 
   next_of : (run : RunState) → StandsFor old run → IsRunState (accepted run command)
   next_of run s = g.allows run s.is_state (valid_of run s)
@@ -149,7 +151,7 @@ module _ {M : Type 0} {refusals : Refusals M} {Holds : Type 0 → Chain → M �
   }
 
   pub answers_done : {R : Type 0} (seen : R → M) (new : Stored) → IsCommitted command old Commits new → (run : RunState) → StandsFor old run
-      → AnswersFor refusals (Holds (IsFullOf longest_area run command) (chain_of run)) seen (IsDone run command) run (Done new new.index.tip)
+      → AnswersFor refusals (Holds (IsFullOf most run command) (chain_of run)) seen (IsDone run command) run (Done new new.index.tip)
   answers_done seen new done run s = (valid_of run s, done_is run command new new.index.tip (stands_with new done run s) refl)
 
   pub keeps_done : {T R : Type 0} (tells : Bool) (before after : DiskSeen) (new : Stored) (value : T) → (IsTrue tells → IsOn old before.moments.now)
@@ -166,13 +168,14 @@ module _ {M : Type 0} {refusals : Refusals M} {Holds : Type 0 → Chain → M �
 module _ {T R : Type 0} (tells : Bool) (before after : DiskSeen) (old : Stored) (record_is : List ℕ) where
   pub leaves_faulted : (error : Failed) → Keeps tells (area_file old) old.area record_is before after (Err error)
       → LeavesDisk {T = T} {R = R} tells (LeavesOthers (area_file old)) before after Faulted
-  leaves_faulted error kept = record { later = kept.ends.later; worked = tt; failed = kept.ends.failed; still_on = λ told. tt; others = kept.others }
+  leaves_faulted error kept = record { later = kept.ends.later; worked = tt; none = tt; failed = kept.ends.failed; still_on = λ told. tt; others = kept.others }
 
   pub leaves_done : (new : Stored) (value : T) → (IsTrue tells → IsOn old before.moments.now) → Keeps tells (area_file old) old.area record_is before after (Ok new.area)
       → IsAlike (record { index = old.index; host = old.host; slots = old.slots; area = new.area }) new → LeavesDisk {T = T} {R = R} tells (LeavesOthers (area_file old)) before after (Done new value)
   leaves_done new value on kept alike = record {
     later = kept.ends.later;
     worked = kept.ends.worked;
+    none = kept.ends.none;
     failed = tt;
     still_on = λ told. on_next tells told old before after (on told) record_is new.area kept new alike;
     others = kept.others;

@@ -156,6 +156,7 @@ module _ (tells : Bool) (old : Stored) (limits : HasLimits old) (before after : 
     save_leaves told_number = record {
       later = w.writes.ends.later;
       worked = w.writes.ends.worked;
+      none = w.writes.ends.none;
       failed = tt;
       still_on = λ told. subst (λ (x : Stored). IsOn x after.moments.now) (sym store_is) (selected_on tells told old before after (on told) (IsWhole w.text) w.text [] (refl, refl) number (9 + length w.text) new (selects (Ok number) w) (omega arith));
       others = w.writes.selected;
@@ -172,7 +173,7 @@ module _ (tells : Bool) (old : Stored) (limits : HasLimits old) (before after : 
   -- the disk failed
   module _ (error : Failed) (w : saving (Err error)) where
     pub fault_leaves : {R : Type 0} → LeavesDisk {T = ℕ} {R = R} tells (SparesSelected old) before after Faulted
-    fault_leaves = record { later = w.writes.ends.later; worked = tt; failed = w.writes.ends.failed; still_on = λ told. tt; others = w.writes.selected }
+    fault_leaves = record { later = w.writes.ends.later; worked = tt; none = tt; failed = w.writes.ends.failed; still_on = λ told. tt; others = w.writes.selected }
 
     pub fault_keeps : {R : Type 0} → KeepsOn {T = ℕ} {R = R} tells old machine.IsSaved before after Faulted
     fault_keeps = λ told run s stands. record {

@@ -33,10 +33,11 @@ use Rattle.name_store.specs.Stands.{Stands, EachStands, EachStandsForEither, IsR
 use Rattle.name_store.specs.Stored.{Stored, StandsFor, IsOn, area_file}
 use Rattle.name_store.specs.Saves.{SparesSelected}
 use Rattle.name_store.specs.Drafting.{Drafting, grown_since, left_of, length_with, IsDraftOf, IsDraftOn, IsNextOf, IsDraftFor, since_text, drafted_text}
-use Rattle.name_store.specs.Slicing.{drafting_of, LeavesBegun, KeepsRuns, LeavesSlice, KeepsSliced, IsDraftHere, HasNext, HasSelected, StandsBehind}
+use Rattle.name_store.specs.Slicing.{drafting_of, LeavesBegun, KeepsRuns, LeavesSlice, KeepsSliced, IsDraftHere, HasNext, HasSelected, SliceAnswer, SliceAnswerWithin, StandsBehind}
 use Rattle.name_store.specs.SliceSteps.{WritesNext, IsWholeWith}
 use Rattle.name_store.specs.declared.saving.SaveRefusal.{SaveRefusal}
 use Rattle.name_store.specs.declared.drafting.DraftOutcome.TheVariants as begin
+use Rattle.name_store.specs.declared.slicing.SliceOutcome.{SliceOutcome}
 use Rattle.name_store.specs.declared.slicing.SliceOutcome.TheVariants.{Written, Selected, AreaLimit, Faulted}
 use Rattle.name_store.proofs.RunDraftLemmas.{state_behind, stands_behind, allowed_parts}
 use Rattle.name_store.proofs.SelectLemmas.{selected_on, selected_moments, selected_done}
@@ -100,7 +101,7 @@ module _ (tells : Bool) (old : Stored) (before after : DiskSeen) (on : IsTrue te
   pub begun_leaves : (draft : Drafted) → Begins tells old.slots size before after (Ok draft) → LeavesBegun tells old before after (begin.Begun old (record { draft = draft; from = old.area }))
   begun_leaves draft did = subst (λ (d : Drafted). LeavesBegun tells old before after (begin.Begun old (record { draft = d; from = old.area }))) (sym did.answer.1) (record {
     later = did.ends.later;
-    ends = (did.ends.worked, on_still tells old before after on did.others);
+    ends = (did.ends.worked, did.ends.none, on_still tells old before after on did.others);
     begun = λ told image is. begun_on old size after.moments.now (subst (λ (d : Drafted). DraftHolds d [] (bytes_in after d.file)) did.answer.1 (did.holds told)) image is;
     others = did.others;
     kept = runs_still tells old before after on did.others;
@@ -118,7 +119,7 @@ module _ (tells : Bool) (old : Stored) (before after : DiskSeen) (on : IsTrue te
 pub refused_leaves : (tells : Bool) (old : Stored) (disk : DiskSeen) → (IsTrue tells → IsOn old disk.moments.now) → (refusal : SaveRefusal) → LeavesBegun tells old disk disk (begin.Refused old refusal)
 refused_leaves tells old disk on refusal = record {
   later = record { count = omega arith; at_limit = λ is. is };
-  ends = on;
+  ends = (refl, on);
   begun = λ told. tt;
   others = λ told. start (λ other differ. refl);
   kept = λ told run s stands. start (stands_again tells told old disk disk (on told) run s stands);
@@ -153,7 +154,7 @@ module _ (tells : Bool) (old : Stored) (drafting : Drafting) (is : IsDraftOf old
     pub written_leaves : 0 < most → LeavesSlice tells old drafting piece before after (Written old new)
     written_leaves some = record {
       later = did.ends.later;
-      ends = (did.ends.worked some, on_still tells old before after on (others_by (Ok tt) did));
+      ends = (did.ends.worked some, did.ends.none, on_still tells old before after on (others_by (Ok tt) did));
       written = goes_on;
       others = did.others;
       spared = spared_still tells old before after on (others_by (Ok tt) did);
@@ -183,7 +184,7 @@ module _ (tells : Bool) (old : Stored) (drafting : Drafting) (most : ℕ) (piece
   pub limit_leaves : LeavesSlice tells old drafting piece disk disk (AreaLimit old)
   limit_leaves = record {
     later = record { count = omega arith; at_limit = λ is. is };
-    ends = on;
+    ends = (refl, on);
     written = λ told. tt;
     others = λ told. start (λ other differ. refl);
     spared = λ told. start refl;
@@ -309,7 +310,7 @@ module _ (tells : Bool) (old : Stored) (drafting : Drafting) (is : IsDraftOf old
       pub selected_leaves : (IsTrue tells → HasNext old drafting piece before.moments.now) → (told_number : ℕ) → LeavesSlice tells old drafting piece before after (Selected behind told_number)
       selected_leaves next told_number = record {
         later = did.ends.later;
-        ends = (did.ends.worked, λ told. on_behind told (next told));
+        ends = (did.ends.worked, did.ends.none, λ told. on_behind told (next told));
         written = λ told. tt;
         others = λ told. tt;
         spared = did.selected;
@@ -332,3 +333,29 @@ module _ (tells : Bool) (old : Stored) (drafting : Drafting) (is : IsDraftOf old
       pub unselected_keeps : IsTrue tells → KeepsSliced old drafting piece most before after Faulted
       unselected_keeps told run newer older image here =
           (moments_next run newer older image here within told (Err error) did, λ more. absurd (omega (arith, all, low, more)))
+
+-- ---- of an area that is shorter than the longest there is
+
+-- where more is left than the slice takes
+pub written_within : (longest : ℕ) (old : Stored) (drafting : Drafting) (most : ℕ) → most < left_of old drafting → (outcome : SliceOutcome)
+    → SliceAnswer old drafting most outcome → SliceAnswerWithin longest old drafting most outcome
+written_within longest old drafting most more (Written store new) is = is
+written_within longest old drafting most more (Selected store number) is = absurd (omega (arith, more, is.all_left))
+written_within longest old drafting most more (AreaLimit store) is = absurd (omega (arith, more, is.1))
+written_within longest old drafting most more Faulted is = λ low. absurd (omega (arith, more, low))
+
+-- where no more is left, and the area has room for it
+pub ended_within : (longest : ℕ) (old : Stored) (drafting : Drafting) (most : ℕ) → length_with old drafting ≤ longest → length_with old drafting ≤ longest_area → (outcome : SliceOutcome)
+    → SliceAnswer old drafting most outcome → SliceAnswerWithin longest old drafting most outcome
+ended_within longest old drafting most within low (Written store new) is = is
+ended_within longest old drafting most within low (Selected store number) is = record {
+  all_left = is.all_left;
+  within = within;
+  index = is.index;
+  host = is.host;
+  slots = is.slots;
+  area = is.area;
+  number_is = is.number_is;
+}
+ended_within longest old drafting most within low (AreaLimit store) is = absurd (omega (arith, low, is.2))
+ended_within longest old drafting most within low Faulted is = λ all. within

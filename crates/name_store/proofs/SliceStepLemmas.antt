@@ -5,7 +5,7 @@ use Rattle.std.proofs.lemmas.List.{append-nil, take_all}
 use Rattle.fault_counts.specs.Faults.{Faults, NeverFell}
 use Rattle.disk_model.specs.Moments.{Files, Moments, EachMoment, start}
 use Rattle.disk_model.specs.Changes.{LeavesOthers, Unchanged}
-use Rattle.disk_model.specs.DiskSeen.{DiskSeen, HasFailed, file_in, bytes_in}
+use Rattle.disk_model.specs.DiskSeen.{DiskSeen, HasFailed, NoneFailed, file_in, bytes_in}
 use Rattle.disk_model.specs.Reads.{IsRead}
 use Rattle.disk_model.proofs.MomentLemmas.{weaken, last_moment}
 use Rattle.disk_model.specs.declared.disk.Failed.{Failed}
@@ -59,7 +59,7 @@ wrote_none tells draft piece disk none = record {
   ok = let same : draft.written ≡ draft.written + length piece = omega (arith, none) in λ i. record { file = draft.file; image = draft.image; written = same i };
   holds = λ told pieces holds. subst (λ (l : List ℕ). DraftHolds draft l (bytes_in disk draft.file)) (sym (ap (λ (l : List ℕ). pieces ++ l) (none_of piece none) ∙ append-nil pieces)) holds;
   others = λ told. start (λ other differ. refl);
-  ends = record { later = never_fell disk; worked = λ some. absurd (omega (arith, some, none)); failed = tt };
+  ends = record { later = never_fell disk; worked = λ some. absurd (omega (arith, some, none)); none = refl; failed = tt };
 }
 
 pub wrote_piece : {T : Type 0} (tells : Bool) (old new : Drafted) (piece : List ℕ) (before after : DiskSeen) (result : Result T DraftFault) → AddsPiece tells old new piece before after result
@@ -68,7 +68,7 @@ wrote_piece tells old new piece before after result added = record {
   ok = added.ok;
   holds = added.holds;
   others = added.others;
-  ends = record { later = added.ends.later; worked = λ some. added.ends.worked; failed = added.ends.failed };
+  ends = record { later = added.ends.later; worked = λ some. added.ends.worked; none = added.ends.none; failed = added.ends.failed };
 }
 
 -- ---- a copy
@@ -83,7 +83,7 @@ pub quiet_others : (file : ℕ) {old new : Moments} → EachMoment (Unchanged ol
 quiet_others file {old} did = weaken (LeavesOthers file old.now) (λ files same. λ other differ. ap (λ (f : Files). f other) same) did
 
 module _ {T : Type 0} (tells : Bool) (old new : Drafted) (before mid : DiskSeen) (quiet : IsTrue tells → EachMoment (Unchanged before.moments.now) before.moments mid.moments)
-    (later : NeverFell before.faults mid.faults) where
+    (later : NeverFell before.faults mid.faults) (quiet_none : NoneFailed before mid) where
   -- what was read went to the draft
   pub copied : (count : ℕ) (piece into : List ℕ) (after : DiskSeen) (result : Result T DraftFault) → length into ≡ count → (IsTrue tells → into ≡ piece) → AddsPiece tells old new into mid after result
       → WritesMore tells old new count piece before after result
@@ -96,6 +96,7 @@ module _ {T : Type 0} (tells : Bool) (old new : Drafted) (before mid : DiskSeen)
     ends = record {
       later = fell_never later added.ends.later;
       worked = λ some. added.ends.worked;
+      none = ok_so result (λ (none : NoneFailed mid after). none ∙ quiet_none) added.ends.none;
       failed = err_so result (failed_later later) added.ends.failed;
     };
   }
@@ -135,6 +136,7 @@ module _ {T : Type 0} (tells : Bool) (old mid new : Drafted) (a b : ℕ) (p q : 
     ends = record {
       later = fell_never first.ends.later second.ends.later;
       worked = λ any. second.ends.worked some;
+      none = ok_so result (λ (none : NoneFailed d1 d2). none ∙ first.ends.none) second.ends.none;
       failed = err_so result (failed_later first.ends.later) second.ends.failed;
     };
   }
@@ -166,6 +168,7 @@ wrote_next tells selected drafting new count piece before after result size wrot
       ends = record {
         later = wrote.ends.later;
         worked = λ some. wrote.ends.worked (omega (arith, some, all));
+        none = wrote.ends.none;
         failed = wrote.ends.failed;
       };
     }
@@ -213,6 +216,7 @@ module _ (tells : Bool) (old new : Slotted) (drafting : Drafting) (wrote : Draft
       ends = record {
         later = fell_never first.ends.later did.ends.later;
         worked = did.ends.worked;
+        none = ok_so result (λ (none : NoneFailed mid after). none ∙ first.ends.none) did.ends.none;
         failed = err_so result (failed_later first.ends.later) did.ends.failed;
       };
     }
@@ -228,5 +232,5 @@ module _ (tells : Bool) (old new : Slotted) (drafting : Drafting) (wrote : Draft
     area = λ told image records has. tt;
     any_moment = λ told front image records on has. saves_drafting old.count before.moments mid.moments (drafts first.others told) front image records;
     selected = λ told. keeps_drafting old.count before.moments mid.moments (drafts first.others told);
-    ends = record { later = first.ends.later; worked = tt; failed = first.ends.failed };
+    ends = record { later = first.ends.later; worked = tt; none = tt; failed = first.ends.failed };
   }

@@ -131,5 +131,5 @@ as_fault P (Ok done) fault passed holds = absurd passed
 as_fault P (Err e) fault passed holds = subst (λ (f : CreateFromFault). P (Err f)) (sym passed) holds
 
 -- its faults are those of both
-pub ends_then : (d0 d1 d2 : DiskSeen) (result : Result (Unit {0}) CreateFromFault) → NeverFell d0.faults d1.faults → EndsWith DiskFault d1 d2 result → EndsWith DiskFault d0 d2 result
-ends_then d0 d1 d2 result first ends = record { later = never_fell first ends.later; worked = ends.worked; failed = λ is. failed_since first (ends.failed is) }
+pub ends_then : (d0 d1 d2 : DiskSeen) (fault : CreateFromFault) → NeverFell d0.faults d1.faults → EndsWith {T = Unit {0}} DiskFault d1 d2 (Err fault) → EndsWith {T = Unit {0}} DiskFault d0 d2 (Err fault)
+ends_then d0 d1 d2 fault first ends = record { later = never_fell first ends.later; worked = tt; none = tt; failed = λ is. failed_since first (ends.failed is) }

@@ -1,5 +1,5 @@
 -- What opening answers, and what it leaves of the disk.
-use Rattle.std.specs.Prelude.{◌≡◌, ◌⊎◌, ℕ, ◌<◌, Bool, List, Result, Ok, Err, ⊤}
+use Rattle.std.specs.Prelude.{◌≡◌, ◌⊎◌, ℕ, ◌<◌, Bool, true, List, Result, Ok, Err, ⊤}
 use Rattle.disk_model.specs.FileState.{IsSettled}
 use Rattle.disk_model.specs.DiskSeen.{DiskSeen, file_in, bytes_in}
 use Rattle.disk_model.specs.Moments.{Files}
@@ -7,15 +7,15 @@ use Rattle.nmc_base.specs.declared.chain_ends.Base.{Base}
 use Rattle.chain_commands.specs.RunState.{RunState, longest_area}
 use Rattle.name_store.specs.declared.faults.OpenFault.{OpenFault}
 use Rattle.name_store.specs.declared.faults.OpenFault.TheVariants.{Uninitialised, Damaged, DiskFault, NoMemory}
-use Rattle.name_store.specs.Header.{IsInitialised, IsUninitialised}
+use Rattle.name_store.specs.Header.{IsInitialised, IsUninitialised, base_at}
 use Rattle.name_store.specs.Stands.{Bytes, Stands}
 use Rattle.image_files.specs.Indexes.{HasBadImage}
 use Rattle.command_areas.specs.Commands.{Origin}
 use Rattle.command_areas.specs.Damage.{HasBadRecord}
 use Rattle.command_areas.specs.Reading.{HasFollowedAll}
 use Rattle.command_areas.specs.declared.following.Followed.{Followed}
-use Rattle.name_store.specs.Damage.{BeginsAt, IsDamaged}
-use Rattle.name_store.specs.Stored.{Stored, StandsFor, IsOn}
+use Rattle.name_store.specs.Damage.{BeginsAt, HasSelected, IsDamaged}
+use Rattle.name_store.specs.Stored.{Stored, StandsFor, IsOn, area_file}
 
 -- Each of the three files was synced: it is settled, and reads give what they gave.
 pub record IsSynced (old new : DiskSeen) : Type 0 where
@@ -28,7 +28,7 @@ pub record IsSynced (old new : DiskSeen) : Type 0 where
 pub record IsFollowed (tells : Bool) (base : Base) (area : List ℕ) (followed : Followed) : Type 0 where
   pub first : Origin
   pub begins : BeginsAt base area first
-  pub all : HasFollowedAll tells first area followed.index followed.length
+  pub all : HasFollowedAll tells longest_area first area followed.index followed.length
 
 -- behind the image stands a record of no command that is taken at its turn
 pub record HasBadCommand (base : Base) (area : List ℕ) (at : ℕ) : Type 0 where
@@ -46,16 +46,19 @@ AreaAnswer tells base file area (Err NoMemory) = ⊤
 
 -- ---- all files
 
--- The store is on the disk, whose files were neither uninitialised nor damaged; and of every run state that they stood for, it
--- stands for it.
+-- The store is on the disk, whose files were neither uninitialised nor damaged. Its selections are those behind the header, and its index is
+-- the one behind all commands of the selected area, which were followed from the index of the image on: also where the image is that of no
+-- chain. And of every run state that the files stood for, it stands for it.
 pub record IsOpened (old : Bytes) (new : Files) (store : Stored) : Type 0 where
   pub on_disk : IsOn store new
   pub initialised : IsInitialised (old 0)
   pub undamaged : (file at : ℕ) → ¬ (IsDamaged old file at)
+  pub selected : HasSelected (old 0) store.slots.count
+  pub followed : IsFollowed true (base_at (old 0)) (old (area_file store)) (record { index = store.index; length = store.area })
   pub follows : (run : RunState) → Stands old run → StandsFor store run
 
 -- The answers exclude one another, so each comes exactly where its case says; a fault of the disk has its cause beside, and
--- want of memory may stand in the place of the store and of damage behind the header.
+-- want of memory may stand in the place of each.
 abbrev pub OpenAnswer : Bytes → Files → Result Stored OpenFault → Type 0
 OpenAnswer old new (Ok store) = IsOpened old new store
 OpenAnswer old new (Err Uninitialised) = IsUninitialised (old 0)

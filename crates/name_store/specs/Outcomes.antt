@@ -3,7 +3,7 @@
 use Rattle.std.specs.Prelude.{◌≡◌, ℕ, ◌+◌, ◌<◌, Bool, IsTrue, IsFalse}
 use Rattle.fault_counts.specs.Faults.{NeverFell}
 use Rattle.disk_model.specs.Moments.{Files, EachMoment}
-use Rattle.disk_model.specs.DiskSeen.{DiskSeen, HasFailed, bytes_in}
+use Rattle.disk_model.specs.DiskSeen.{DiskSeen, HasFailed, NoneFailed, bytes_in}
 use Rattle.nmc_base.specs.declared.chain_ends.Tip.{Tip}
 use Rattle.chain_commands.specs.Event.{Command}
 use Rattle.chain_commands.specs.RunState.{RunState, chain_of, area_of, record_length, accepted}
@@ -65,10 +65,12 @@ AnswersFor refusals Holds seen Does run Faulted = HasNoneBelow Holds refusals.or
 -- ---- the disk
 
 -- What a request leaves of a disk, whatever the store stands for. Its last call worked where the request was done, and failed where
--- a fault is told. A store that is handed back is on it, and at each moment what the request spares of the files is as it was.
+-- a fault is told. Where a store is handed back no call failed, and the store is on the disk. At each moment what the request spares
+-- of the files is as it was.
 pub record LeavesDisk {T R : Type 0} (tells : Bool) (Spares : (old new : Files) → Type 0) (before after : DiskSeen) (outcome : Outcome T R) : Type 0 where
   pub later : NeverFell before.faults after.faults
   pub worked : IfDone (λ store. IsFalse after.failed) outcome
+  pub none : IfHeld (λ store. NoneFailed before after) outcome
   pub failed : IfFaulted (HasFailed before after) outcome
   pub still_on : IsTrue tells → IfHeld (λ store. IsOn store after.moments.now) outcome
   pub others : IsTrue tells → EachMoment (Spares before.moments.now) before.moments after.moments

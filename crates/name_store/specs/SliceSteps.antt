@@ -3,7 +3,7 @@ use Rattle.std.specs.Prelude.{◌≡◌, ℕ, ◌+◌, ◌-◌, ◌<◌, Bool, I
 use Rattle.fault_counts.specs.Faults.{NeverFell}
 use Rattle.disk_model.specs.Moments.{EachMoment}
 use Rattle.disk_model.specs.Changes.{LeavesOthers}
-use Rattle.disk_model.specs.DiskSeen.{DiskSeen, HasFailed, bytes_in}
+use Rattle.disk_model.specs.DiskSeen.{DiskSeen, HasFailed, NoneFailed, bytes_in}
 use Rattle.gate_journal.specs.Records.{Fits, records_text}
 use Rattle.image_slots.specs.Drafted.{Drafted, DraftHolds}
 use Rattle.name_store.specs.Drafting.{Drafting, IsNextOf, drafted_text, since_text}
@@ -12,6 +12,7 @@ use Rattle.name_store.specs.Drafting.{Drafting, IsNextOf, drafted_text, since_te
 pub record EndsIfAny {T E : Type 0} (count : ℕ) (old new : DiskSeen) (result : Result T E) : Type 0 where
   pub later : NeverFell old.faults new.faults
   pub worked : 0 < count → OnOk result (IsFalse new.failed)
+  pub none : OnOk result (NoneFailed old new)
   pub failed : OnErr result (HasFailed old new)
 
 -- So many bytes went to a draft's end: these, where the disk tells its files.

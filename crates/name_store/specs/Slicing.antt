@@ -4,7 +4,7 @@ use Rattle.std.specs.Prelude.{◌≡◌, ℕ, ◌+◌, ◌<◌, ◌≤◌, Bool,
 use Rattle.fault_counts.specs.Faults.{NeverFell}
 use Rattle.disk_model.specs.Moments.{Files, EachMoment}
 use Rattle.disk_model.specs.Changes.{LeavesOthers}
-use Rattle.disk_model.specs.DiskSeen.{DiskSeen, HasFailed, bytes_in}
+use Rattle.disk_model.specs.DiskSeen.{DiskSeen, HasFailed, NoneFailed, bytes_in}
 use Rattle.chain_commands.specs.Event.{Command}
 use Rattle.chain_commands.specs.RunState.{RunState, longest_area}
 use Rattle.chain_commands.specs.Saving.{longest_image, most_selections, saved_before}
@@ -45,10 +45,11 @@ IfRefused P (begin.Begun store drafting) = Unit {0}
 IfRefused P (begin.Refused store refusal) = P
 IfRefused P begin.Faulted = Unit {0}
 
--- A draft was begun where it worked, a fault told where the disk failed, and a store that is handed back is on the disk.
+-- A draft was begun where the last call worked, a fault told where the disk failed. Where a store is handed back no call failed, and
+-- the store is on the disk.
 abbrev pub BeginEnds : Bool → DiskSeen → DiskSeen → DraftOutcome → Type 0
-BeginEnds tells before after (begin.Begun store drafting) = IsFalse after.failed × (IsTrue tells → IsOn store after.moments.now)
-BeginEnds tells before after (begin.Refused store refusal) = IsTrue tells → IsOn store after.moments.now
+BeginEnds tells before after (begin.Begun store drafting) = IsFalse after.failed × NoneFailed before after × (IsTrue tells → IsOn store after.moments.now)
+BeginEnds tells before after (begin.Refused store refusal) = NoneFailed before after × (IsTrue tells → IsOn store after.moments.now)
 BeginEnds tells before after begin.Faulted = HasFailed before after
 
 -- the draft is on the disk, of each image of its length
@@ -78,23 +79,30 @@ pub record HasWritten (old : Stored) (drafting : Drafting) (most : ℕ) (store :
   pub drafting_is : new ≡ with_written drafting most
   pub is_draft : IsDraftOf store new
 
--- the store has the old one's index and host, one selection more, and the area that was drafted
-pub record HasSelected (old : Stored) (drafting : Drafting) (most : ℕ) (store : Stored) (number : ℕ) : Type 0 where
+-- the store has the old one's index and host, one selection more, and the area that was drafted, no longer than the longest
+pub record HasSelectedWithin (longest : ℕ) (old : Stored) (drafting : Drafting) (most : ℕ) (store : Stored) (number : ℕ) : Type 0 where
   pub all_left : left_of old drafting ≤ most
-  pub within : length_with old drafting ≤ longest_area
+  pub within : length_with old drafting ≤ longest
   pub index : store.index ≡ old.index
   pub host : store.host ≡ old.host
   pub slots : store.slots ≡ with_one_more old.slots
   pub area : store.area ≡ length_with old drafting
   pub number_is : number ≡ old.slots.count + 1
 
+abbrev pub HasSelected : Stored → Drafting → (most : ℕ) → Stored → (number : ℕ) → Type 0
+HasSelected old drafting most store number = HasSelectedWithin longest_area old drafting most store number
+
 -- Where more is left than a slice takes, it is written; else the save ends, by the length of its area. The answers exclude one another;
 -- a fault of the disk may stand in the place of the first two alone.
+abbrev pub SliceAnswerWithin : (longest : ℕ) → Stored → Drafting → ℕ → SliceOutcome → Type 0
+SliceAnswerWithin longest old drafting most (Written store new) = HasWritten old drafting most store new
+SliceAnswerWithin longest old drafting most (Selected store number) = HasSelectedWithin longest old drafting most store number
+SliceAnswerWithin longest old drafting most (AreaLimit store) = (store ≡ old) × (left_of old drafting ≤ most) × (longest < length_with old drafting)
+SliceAnswerWithin longest old drafting most Faulted = left_of old drafting ≤ most → length_with old drafting ≤ longest
+
+-- of an area that has no more than 2^42 bytes
 abbrev pub SliceAnswer : Stored → Drafting → ℕ → SliceOutcome → Type 0
-SliceAnswer old drafting most (Written store new) = HasWritten old drafting most store new
-SliceAnswer old drafting most (Selected store number) = HasSelected old drafting most store number
-SliceAnswer old drafting most (AreaLimit store) = (store ≡ old) × (left_of old drafting ≤ most) × (longest_area < length_with old drafting)
-SliceAnswer old drafting most Faulted = left_of old drafting ≤ most → length_with old drafting ≤ longest_area
+SliceAnswer old drafting most outcome = SliceAnswerWithin longest_area old drafting most outcome
 
 -- P holds where the save was given up for the length of its area
 abbrev pub IfAtLimit : Type 0 → SliceOutcome → Type 0
@@ -105,11 +113,12 @@ IfAtLimit P Faulted = Unit {0}
 
 -- ---- the disk
 
--- The slice was done where its last call worked, a fault told where it failed, and a store that is handed back is on the disk.
+-- The slice was done where its last call worked, a fault told where it failed. Where a store is handed back no call failed, and the
+-- store is on the disk.
 abbrev pub SliceEnds : Bool → DiskSeen → DiskSeen → SliceOutcome → Type 0
-SliceEnds tells before after (Written store drafting) = IsFalse after.failed × (IsTrue tells → IsOn store after.moments.now)
-SliceEnds tells before after (Selected store number) = IsFalse after.failed × (IsTrue tells → IsOn store after.moments.now)
-SliceEnds tells before after (AreaLimit store) = IsTrue tells → IsOn store after.moments.now
+SliceEnds tells before after (Written store drafting) = IsFalse after.failed × NoneFailed before after × (IsTrue tells → IsOn store after.moments.now)
+SliceEnds tells before after (Selected store number) = IsFalse after.failed × NoneFailed before after × (IsTrue tells → IsOn store after.moments.now)
+SliceEnds tells before after (AreaLimit store) = NoneFailed before after × (IsTrue tells → IsOn store after.moments.now)
 SliceEnds tells before after Faulted = HasFailed before after
 
 -- the draft is on the disk still, where the piece was the next of its image

@@ -1,5 +1,6 @@
-ghost use Rattle.std.specs.Prelude.{MatchOption};
+ghost use Rattle.std.specs.Prelude.{◌≡◌, MatchOption};
 ghost use Rattle.name_store.specs.Host.{IsHostText, IsHostOf};
+ghost use Rattle.name_store.specs.declared.host.TheConstants.{LONGEST_HOST_NAME as longest_host_name};
 
 use domain_text::{Name, absolute_name};
 
@@ -21,3 +22,8 @@ pub fn host_name(text: &[u8]) -> Option<Name>
         None => None,
     }
 }
+
+/// The number that definitions cite by its name: `hostmaster` with its length takes 11 of a name's 255 bytes (RFC 1035, 2.3.4).
+pub fn number_of_hosts()
+    ensures { longest_host_name ≡ 244 }
+{}

@@ -12,7 +12,7 @@ use crate::faults::OpenFault;
 use crate::header::read_header;
 use crate::limits::SLOT_LIMITS;
 use crate::store::Store;
-use command_areas::{Followed, follow_commands};
+use command_areas::{Followed, LONGEST_AREA, follow_commands};
 use disk_model::{Disk, Failed};
 use image_files::read_image;
 use image_slots::Slots;
@@ -52,7 +52,7 @@ fn read_area<D: Disk>(
         Ok(begun) => begun,
         Err(fault) => return Err(OpenFault::of_image(file, fault)),
     };
-    match follow_commands(alloc, disk, file, gate, index) {
+    match follow_commands(alloc, disk, file, gate, index, LONGEST_AREA) {
         Ok(followed) => Ok(followed),
         Err(fault) => Err(OpenFault::of_journal(file, fault)),
     }

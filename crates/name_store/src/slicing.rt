@@ -1,7 +1,7 @@
 ghost use Rattle.std.specs.Prelude.{◌≡◌, ◌<◌, ◌≤◌, ◌-◌, length, min, IsTrue};
 ghost use Rattle.chain_commands.specs.RunState.{longest_area};
 ghost use Rattle.name_store.specs.Drafting.{IsDraftOf, left_of, length_with};
-ghost use Rattle.name_store.specs.Slicing.{HasNext, SliceAnswer, IfAtLimit, StandsBehind, LeavesSlice, KeepsSliced};
+ghost use Rattle.name_store.specs.Slicing.{HasNext, SliceAnswer, SliceAnswerWithin, IfAtLimit, StandsBehind, LeavesSlice, KeepsSliced};
 ghost use Rattle.name_store.specs.Stored.{IsOn};
 ghost use Rattle.name_store.specs.declared.slice_steps.TheConstants.{LONGEST_SLICE};
 
@@ -131,13 +131,38 @@ impl Store {
         ensures stands { StandsBehind self draft result }
         ensures kept { IsTrue D.tells → KeepsSliced self draft piece.now most (D.seen disk.old) (D.seen disk.new) result }
     {
+        self.slice_within(disk, draft, piece, most, LONGEST_AREA)
+    }
+
+    /// The same, where an area has no more bytes than `longest`.
+    pub fn slice_within<D: Disk>(
+        self,
+        disk: &mut D,
+        draft: SlicedDraft,
+        piece: &[u8],
+        most: usize,
+        longest: u64,
+    ) -> SliceOutcome
+        requires on_disk { IsTrue D.tells → IsOn self (D.seen disk.old).moments.now }
+        requires is_draft { IsDraftOf self draft }
+        requires some { 1 ≤ most }
+        requires few { most ≤ LONGEST_SLICE }
+        requires longest { longest ≤ longest_area }
+        requires piece { length piece.now ≡ min most (draft.draft.image - draft.draft.written) }
+        requires next { IsTrue D.tells → HasNext self draft piece.now (D.seen disk.old).moments.now }
+        ensures answer { SliceAnswerWithin longest self draft most result }
+        ensures undone { IfAtLimit (disk.new ≡ disk.old) result }
+        ensures leaves { LeavesSlice D.tells self draft piece.now (D.seen disk.old) (D.seen disk.new) result }
+        ensures stands { StandsBehind self draft result }
+        ensures kept { IsTrue D.tells → KeepsSliced self draft piece.now most (D.seen disk.old) (D.seen disk.new) result }
+    {
         let whole = draft.draft.image() + (self.area - draft.from);
         let left = whole - draft.draft.written();
         if (most as u64) < left {
             return self.write_slice(disk, draft, piece, most);
         }
         let area = EMPTY_AREA + whole;
-        if area > LONGEST_AREA {
+        if area > longest {
             return SliceOutcome::AreaLimit(self);
         }
         self.end_slices(disk, draft, piece, left as usize, most)

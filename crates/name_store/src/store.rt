@@ -129,13 +129,37 @@ impl Store {
         ensures adds { IsTrue D.tells → AddsRecord (Connect bytes.now) self (D.seen disk.old) (D.seen disk.new) result }
         ensures cost { connecting.IsCheapIfDone bytes.now result steps.old steps.new }
     {
+        self.connect_within(alloc, disk, bytes, LONGEST_AREA, steps)
+    }
+
+    /// The same, where an area has no more bytes than `longest`.
+    pub fn connect_within<D: Disk, L: Ledger>(
+        self,
+        alloc: Global,
+        disk: &mut D,
+        bytes: &[u8],
+        longest: u64,
+        steps: &mut Steps<L>,
+    ) -> Outcome<Tip, Refusal>
+        requires short { length bytes.now ≤ LONGEST_BLOCK }
+        requires longest { longest ≤ longest_area }
+        requires on_disk { IsTrue D.tells → IsOn self (D.seen disk.old).moments.now }
+        ensures connects { connecting.Connects longest self bytes.now result }
+        ensures on_index { ConnectsOn (IsFullWith self.area longest (Connect bytes.now)) self.index bytes.now result }
+        ensures undone { IfUndone (disk.new ≡ disk.old) result }
+        ensures leaves { LeavesDisk D.tells (LeavesOthers (area_file self)) (D.seen disk.old) (D.seen disk.new) result }
+        ensures kept { KeepsOn D.tells self (Adds (Connect bytes.now)) (D.seen disk.old) (D.seen disk.new) result }
+        ensures grows { Grows (Connect bytes.now) self result }
+        ensures adds { IsTrue D.tells → AddsRecord (Connect bytes.now) self (D.seen disk.old) (D.seen disk.new) result }
+        ensures cost { connecting.IsCheapIfDone bytes.now result steps.old steps.new }
+    {
         let Store {
             chain,
             host,
             slots,
             area,
         } = self;
-        let staged = match stage_bytes(alloc, chain, bytes, area, LONGEST_AREA, steps) {
+        let staged = match stage_bytes(alloc, chain, bytes, area, longest, steps) {
             StageOutcome::Staged(staged) => staged,
             StageOutcome::Refused(chain, refusal) => {
                 let store = Store {
@@ -156,7 +180,7 @@ impl Store {
             }
         };
         let file = slots.selected();
-        match keep(disk, file, area, CONNECT, bytes) {
+        match keep(disk, file, area, CONNECT, bytes, longest) {
             Ok(area) => Store::done(staged.commit(steps), host, slots, area),
             Err(_) => {
                 let_go(staged);
@@ -212,7 +236,7 @@ impl Store {
             }
         };
         let file = slots.selected();
-        match keep(disk, file, area, DISCONNECT, &hash.0) {
+        match keep(disk, file, area, DISCONNECT, &hash.0, LONGEST_AREA) {
             Ok(area) => Store::done(staged.commit(steps), host, slots, area),
             Err(_) => {
                 let_go_back(staged);

@@ -8,6 +8,7 @@ mod compact_bytes;
 mod hashes;
 mod limits;
 mod no_memory;
+mod numbers;
 mod roomy_list;
 mod steps;
 
@@ -21,5 +22,6 @@ pub use limits::{
     MATURITY, NAME_VERSION,
 };
 pub use no_memory::NoMemory;
+pub use numbers::numbers_of_chains;
 pub use roomy_list::{RoomyList, Words};
 pub use steps::Steps;

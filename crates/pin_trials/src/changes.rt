@@ -4,10 +4,10 @@ use crate::comparing::holds;
 use pin_views::{SharedMap, SharedStack};
 use std::alloc::Global;
 
-/// So many keys.
-const COUNT: usize = 14;
+/// So many keys: a chunk has 48 at most, so one is cut.
+const COUNT: usize = 53;
 
-/// The key that comes and goes at this place. In this order nodes are turned in each of the four ways.
+/// The key that comes and goes at this place, in no order.
 fn key_at(place: usize) -> usize {
     place.wrapping_mul(9) % COUNT
 }
@@ -93,7 +93,7 @@ fn unset_all(alloc: Global, map: &mut SharedMap<usize, usize>, want: &mut Wanted
     seen.looked(want.is(map));
 }
 
-/// A map whose keys come, get other values and go: the last by new nodes, for a pin holds those that are there.
+/// A map whose keys come, get other values and go: the last by new parts, for a pin holds those that are there.
 fn try_map(alloc: Global, seen: &mut Seen) {
     let mut map = SharedMap::new();
     let mut want = Wanted {

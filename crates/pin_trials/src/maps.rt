@@ -48,14 +48,39 @@ fn a_pin_stays_as_it_was(rt: HostRuntime) -> Result<(), Fail> {
     Ok(())
 }
 
-/// Each number below the bound is found, and stands at its own place.
-fn all_are_there(map: &SharedMap<u32, u32>, bound: u32) -> bool {
-    let mut right = true;
-    for i in 0..bound {
+/// Each number from one on to a bound is found, and they are the pairs, in their order.
+fn just_these_are_there(map: &SharedMap<u32, u32>, from: u32, bound: u32) -> bool {
+    let mut right = map.len() == bound.wrapping_sub(from) as usize;
+    for i in from..bound {
         right &= map.get(&i).copied() == Some(i.wrapping_mul(10));
-        right &= map.at(i as usize).is_some_and(|(key, _value)| *key == i);
+        right &= map
+            .at(i.wrapping_sub(from) as usize)
+            .is_some_and(|(key, _value)| *key == i);
     }
-    right
+    right && map.at(bound.wrapping_sub(from) as usize).is_none()
+}
+
+/// The numbers below the bound go one by one, from the least on; at each time those that are left are there, and the pin has all.
+fn empties(alloc: Global, bound: u32) -> Result<bool, NoMemory> {
+    let mut map = numbers(alloc, bound)?;
+    let pin = map.pin()?;
+    let mut right = just_these_are_there(&map, 0, bound);
+    for i in 0..bound {
+        right &= map.unset(alloc, &i)?;
+        right &= just_these_are_there(&map, i.wrapping_add(1), bound);
+    }
+    Ok(right && just_these_are_there(&pin, 0, bound))
+}
+
+// A chunk has 48 pairs at most, and is cut before it takes one more.
+#[test]
+fn chunks_fill_and_are_cut_and_emptied(rt: HostRuntime) -> Result<(), Fail> {
+    let mut right = true;
+    for bound in [0, 1, 2, 47, 48, 49, 96, 97] {
+        right &= empties(rt.alloc(), bound)?;
+    }
+    holds(&rt, right);
+    Ok(())
 }
 
 /// The even numbers below the bound are taken out, each once.
@@ -84,12 +109,12 @@ fn odd_are_there(map: &SharedMap<u32, u32>, bound: u32) -> bool {
     right && map.at(bound as usize / 2).is_none()
 }
 
-// So many that each way of turning nodes comes, on both sides.
+// So many that parts of both levels are cut, on both sides.
 #[test]
 fn many_keys_come_and_go(rt: HostRuntime) -> Result<(), Fail> {
     let alloc = rt.alloc();
     let mut map = numbers(alloc, 2000)?;
-    holds(&rt, all_are_there(&map, 2000));
+    holds(&rt, just_these_are_there(&map, 0, 2000));
     let taken = without_even(alloc, &mut map, 2000)?;
     holds(&rt, taken && odd_are_there(&map, 2000));
     Ok(())

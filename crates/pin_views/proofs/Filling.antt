@@ -14,8 +14,8 @@ use Rattle.chain_names.proofs.Changed.{bytes_eq-true}
 use Rattle.chain_names.specs.Coins.{entry_of}
 use Rattle.chain_names.specs.Tables.{NameSlots, AreNamesFilled, names_in}
 use Rattle.chain_names.specs.declared.coin.Item.{Item}
-use Rattle.pin_views.specs.Pairs.{value_at, with_pair}
-use Rattle.pin_views.proofs.Lookups.{value_at-with_pair}
+use Rattle.shared_chunks.specs.Pairs.{value_at, with_pair}
+use Rattle.shared_chunks.proofs.Lookups.{value_at-with_pair}
 use Rattle.pin_views.specs.Rows.{row_of, row_at, HasRows}
 use Rattle.pin_views.specs.declared.rows.Row.{Row}
 

@@ -1,6 +1,3 @@
-pub mod ByResult
 pub mod Filling
-pub mod Found
-pub mod Lookups
-pub mod Order
-pub mod Places
+pub mod PileLemmas
+pub mod Placed

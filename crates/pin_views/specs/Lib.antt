@@ -1,2 +1,3 @@
-pub mod Pairs
+pub mod Nodes
+pub mod Piles
 pub mod Rows

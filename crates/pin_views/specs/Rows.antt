@@ -9,7 +9,7 @@ use Rattle.std.specs.Str.{bytes_eq}
 use Rattle.chain_names.specs.Coins.{entry_of}
 use Rattle.chain_names.specs.Tables.{NameSlots, names_in}
 use Rattle.chain_names.specs.declared.coin.Item.{Item}
-use Rattle.pin_views.specs.Pairs.{AreInOrder, value_at}
+use Rattle.shared_chunks.specs.Pairs.{AreInOrder, value_at}
 use Rattle.pin_views.specs.declared.rows.Row.{Row}
 
 abbrev pub row_of : Item → Row

@@ -4,11 +4,14 @@
 mod laws;
 mod map;
 mod name_key;
+mod pile;
 mod rows;
 mod stack;
+mod waste;
 
 pub use laws::pairs_by_key;
 pub use map::SharedMap;
 pub use name_key::NameKey;
 pub use rows::{Row, rows_of};
 pub use stack::SharedStack;
+pub use waste::MapWaste;

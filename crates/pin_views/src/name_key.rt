@@ -2,8 +2,11 @@ ghost use Rattle.std.specs.Prelude.{◌≡◌, ◌≤◌, length, IfOk, IsOk, So
 ghost use Rattle.std.specs.Cmp.{partial_equiv_from_equiv};
 ghost use Rattle.std.specs.Cmp.Lexicographic.{pointwise, slice_cmp, nat_list_eq_equiv, nat_list_cmp_total, texts_ties, texts_po};
 ghost use Rattle.std.specs.Ordering.{nat_cmp};
+ghost use Rattle.shared_chunks.specs.Eight.{number};
+ghost use Rattle.shared_chunks.specs.Rising.{rising};
 
 use nmc_base::{CompactBytes, NoMemory};
+use shared_chunks::{Hinted, number_of};
 use std::alloc::Global;
 use std::cmp::Ordering;
 use std::marker::Model;
@@ -79,4 +82,14 @@ impl Ord for NameKey {
     fn cmp(&self, other: &NameKey) -> Ordering {
         self.as_slice().cmp(other.as_slice())
     }
+}
+
+impl Hinted for NameKey {
+    ghost hint_of = { number 8 };
+
+    fn hint(&self) -> u64 {
+        number_of(self.as_slice())
+    }
+
+    ghost hints_rise = { rising 8 };
 }

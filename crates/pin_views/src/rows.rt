@@ -2,7 +2,7 @@ ghost use Rattle.std.specs.Prelude.{◌≡◌, ◌+◌, ◌*◌, ◌≤◌, ℕ,
 ghost use Rattle.std.specs.Cmp.Lexicographic.{slice_cmp};
 ghost use Rattle.std.specs.Ordering.{nat_cmp};
 ghost use Rattle.chain_names.specs.Tables.{AreNamesFilled};
-ghost use Rattle.pin_views.specs.Pairs.{AreInOrder, value_at};
+ghost use Rattle.shared_chunks.specs.Pairs.{AreInOrder, value_at};
 ghost use Rattle.pin_views.specs.Rows.{row_at};
 
 use crate::map::SharedMap;

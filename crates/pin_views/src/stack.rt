@@ -1,8 +1,10 @@
+//! A stack whose pins share its nodes.
+
 ghost use Rattle.std.specs.Prelude.{◌≡◌, ◌+◌, ◌-◌, ◌^◌, ◌<◌, ◌≤◌, ◌++◌, ◌∷◌, [], IfOk, OnOk, OnErr, nat_lt, length, take, slice_get};
 ghost use Rattle.std.specs.Option.{option_copied};
 
+use crate::pile::Pile;
 use nmc_base::NoMemory;
-use shared_tree::Tree;
 use std::alloc::Global;
 use std::marker::Model;
 use std::rc::Rc;
@@ -13,7 +15,7 @@ use std::rc::Rc;
 #[derive(Drop)]
 pub struct SharedStack<T> {
     // An item that was popped stays until the next push, since taking it out of what is shared could want memory.
-    items: Tree<T>,
+    items: Pile<T>,
     count: usize,
 }
 
@@ -33,7 +35,7 @@ impl<T> SharedStack<T> {
         ensures { result ≡ [] }
     {
         SharedStack {
-            items: Tree::new(),
+            items: Pile::new(),
             count: 0,
         }
     }
@@ -71,6 +73,7 @@ impl<T> SharedStack<T> {
 
 impl<T: Drop> SharedStack<T> {
     /// Puts an item on top. Where memory runs out, nothing changes.
+    #[tactic(auto, using(crate::proofs::Placed::take_placed, crate::proofs::Placed::length_placed))]
     pub fn push(&mut self, alloc: Global, item: T) -> Result<(), NoMemory>
         ensures ok { OnOk result (self.new ≡ self.old ++ item ∷ []) }
         ensures err { OnErr result (self.new ≡ self.old) }
@@ -79,9 +82,9 @@ impl<T: Drop> SharedStack<T> {
             return Err(NoMemory);
         }
         let item = Rc::new(alloc, item)?;
-        let count = self.count;
-        put(alloc, &mut self.items, count, item)?;
-        self.count = count + 1;
+        let items = self.items.put(alloc, self.count, item)?;
+        self.items = items;
+        self.count += 1;
         Ok(())
     }
 
@@ -92,19 +95,5 @@ impl<T: Drop> SharedStack<T> {
         let items = self.items.pin()?;
         let count = self.count;
         Ok(SharedStack { items, count })
-    }
-}
-
-// Puts the item at the place, which may be the one behind the last.
-fn put<T: Drop>(alloc: Global, items: &mut Tree<T>, at: usize, item: Rc<T>) -> Result<(), NoMemory>
-    requires place { at ≤ length items.old.items }
-    requires fits { at + 1 < 2 ^ 64 }
-    ensures ok { OnOk result ((take (at + 1) items.new.items ≡ take at items.old.items ++ item.value ∷ []) × (at + 1 ≤ length items.new.items)) }
-    ensures err { OnErr result (items.new ≡ items.old) }
-{
-    if at < items.len() {
-        items.replace(alloc, at, item)
-    } else {
-        items.insert(alloc, at, item)
     }
 }

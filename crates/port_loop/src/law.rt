@@ -6,6 +6,7 @@ ghost use Rattle.port_loop.specs.Polls.{Parts, Closing, Brings};
 ghost use Rattle.port_loop.specs.Transcript.{DealsWithAll, BreaksOff};
 ghost use Rattle.port_loop.specs.Laws.{BringsSame, IsInItsPlace, polls_in};
 ghost use Rattle.port_loop.specs.Stretches.{KeepsStreams, BreaksStreams};
+ghost use Rattle.port_loop.specs.declared.sending.TheConstants.{DROPPED};
 
 /// A poll brings its frames in one way.
 pub fn one_reading()
@@ -30,4 +31,9 @@ pub fn streams_are_answered()
     ensures broken { (kinds polls : ℕ) (part : Parts) (frames : List Frame) (replies : List Reply) (notes : List Note)
         → (all : DealsWithAll kinds polls part frames replies notes) → (last_frames : List Frame) (last_replies : List Reply) (last_notes : List Note)
         → (last : BreaksOff kinds part last_frames last_replies last_notes) → BreaksStreams all last }
+{}
+
+/// The number that definitions cite by its name: the code of a message that gets no reply.
+pub fn number_of_dropped()
+    ensures { DROPPED ≡ 8 }
 {}

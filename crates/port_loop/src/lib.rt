@@ -12,7 +12,7 @@ mod streaming;
 
 pub use attending::{Ending, attend};
 pub use dealing::PollBuffers;
-pub use law::{in_its_place, one_reading, streams_are_answered};
+pub use law::{in_its_place, number_of_dropped, one_reading, streams_are_answered};
 pub use sending::DROPPED;
 
 #[cfg(test)]

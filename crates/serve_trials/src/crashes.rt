@@ -9,7 +9,7 @@ use std::mem;
 /// What is tried over files that a crash left.
 pub(crate) trait Crashed {
     /// Whether what comes of the files that a crash after so many calls left is right.
-    fn is_right(alloc: Global, after: &mut Outside, calls: usize) -> Result<bool, NoMemory>;
+    fn is_right(&self, alloc: Global, after: &mut Outside, calls: usize) -> Result<bool, NoMemory>;
 }
 
 static CHOICES: [Choice; 5] = [
@@ -22,6 +22,7 @@ static CHOICES: [Choice; 5] = [
 
 /// A crash after so many calls, with this choice.
 fn is_right_after<T: Crashed>(
+    tried: &T,
     alloc: Global,
     disk: &MemoryDisk,
     after: &mut Outside,
@@ -29,18 +30,19 @@ fn is_right_after<T: Crashed>(
     choice: Choice,
 ) -> Result<bool, NoMemory> {
     after.disk = disk.image(alloc, calls, choice)?;
-    T::is_right(alloc, after, calls)
+    tried.is_right(alloc, after, calls)
 }
 
 /// With each choice.
 fn is_right_by_each<T: Crashed>(
+    tried: &T,
     alloc: Global,
     disk: &MemoryDisk,
     after: &mut Outside,
     calls: usize,
 ) -> Result<bool, NoMemory> {
     for choice in &CHOICES {
-        if !is_right_after::<T>(alloc, disk, after, calls, *choice)? {
+        if !is_right_after(tried, alloc, disk, after, calls, *choice)? {
             return Ok(false);
         }
     }
@@ -49,6 +51,7 @@ fn is_right_by_each<T: Crashed>(
 
 /// Each crash of this disk, after `from` calls or more, and fewer than `to`.
 fn is_right_always<T: Crashed>(
+    tried: &T,
     alloc: Global,
     disk: &MemoryDisk,
     after: &mut Outside,
@@ -56,7 +59,7 @@ fn is_right_always<T: Crashed>(
     to: usize,
 ) -> Result<bool, NoMemory> {
     for calls in from..to {
-        if !is_right_by_each::<T>(alloc, disk, after, calls)? {
+        if !is_right_by_each(tried, alloc, disk, after, calls)? {
             return Ok(false);
         }
     }
@@ -65,11 +68,12 @@ fn is_right_always<T: Crashed>(
 
 /// Each crash of the disk, after `from` calls or more, and fewer than `to`. The files are then those that the last left.
 pub(crate) fn is_right_wherever<T: Crashed>(
+    tried: &T,
     alloc: Global,
     after: &mut Outside,
     from: usize,
     to: usize,
 ) -> Result<bool, NoMemory> {
     let disk = mem::replace(&mut after.disk, MemoryDisk::new(alloc, &[])?);
-    is_right_always::<T>(alloc, &disk, after, from, to)
+    is_right_always(tried, alloc, &disk, after, from, to)
 }

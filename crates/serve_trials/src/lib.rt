@@ -1,7 +1,9 @@
 //! Trials of the program's words over streams, files and a port in memory: each of their calls fails in turn, each stop of the disk,
-//! a name that a feed registers, saves, at once and in slices, and reports for a sink whose writes fail.
+//! a name that a feed registers, saves, at once and in slices, also over a text of version 1, and reports for a sink whose writes fail.
 #![tactic(auto)]
 
+#[cfg(test)]
+mod courses;
 #[cfg(test)]
 mod crashes;
 #[cfg(test)]
@@ -46,5 +48,7 @@ mod streams;
 mod tables;
 #[cfg(test)]
 mod texts;
+#[cfg(test)]
+mod version_1;
 #[cfg(test)]
 mod wanting;

@@ -159,7 +159,17 @@ pub(crate) fn each_is_right<T: Trial>(
     rows: &str,
 ) -> Result<(), NoMemory> {
     for row in rows.lines() {
-        holds(rt, is_right::<T>(alloc, row)?, row);
+        is_right_by::<T>(rt, alloc, row)?;
     }
+    Ok(())
+}
+
+/// All lines together are one row, and it is right.
+pub(crate) fn is_right_by<T: Trial>(
+    rt: &impl Abort,
+    alloc: Global,
+    row: &str,
+) -> Result<(), NoMemory> {
+    holds(rt, is_right::<T>(alloc, row)?, row);
     Ok(())
 }

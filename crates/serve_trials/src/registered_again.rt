@@ -1,5 +1,5 @@
-//! A name that is registered anew, a save, and the disconnects of three blocks, of which the last has the second registration: each
-//! stop of the disk, and each of its calls failing.
+//! A name that is registered, updated, expired and registered anew, a save, and the disconnects of three blocks, of which the last has
+//! the second registration: each stop of the disk, and each of its calls failing.
 
 use crate::crashes::{Crashed, is_right_wherever};
 use crate::outside::{Outside, Trial, each_is_right, end_of};
@@ -15,7 +15,7 @@ use std::test::Fail;
 mod rows;
 
 /// The height of the last block.
-pub(crate) const HIGHEST: usize = 45;
+pub(crate) const HIGHEST: usize = 52;
 
 /// So many calls of the disk make the files and open them; four connect a block; ten save the index behind the last; and four
 /// disconnect a block.
@@ -86,15 +86,19 @@ fn are_told(
 // ---- files
 
 /// From which height on a report tells these names.
-static NAMES: [(usize, &str); 3] = [
+static NAMES: [(usize, &str); 4] = [
     (0, ""),
     (
         13,
         "name 642f78 13 served 6f6e65\n  at 13 since 13 6f6e65\n",
     ),
     (
-        43,
-        "name 642f78 43 served 74776f\n  at 13 since 13 6f6e65\n  at 43 since 43 74776f\n",
+        20,
+        "name 642f78 20 served 74776f\n  at 13 since 13 6f6e65\n  at 20 since 13 74776f\n",
+    ),
+    (
+        50,
+        "name 642f78 50 served 7468726565\n  at 13 since 13 6f6e65\n  at 20 since 13 74776f\n  at 50 since 50 7468726565\n",
     ),
 ];
 
@@ -193,13 +197,13 @@ fn is_lived(alloc: Global, outside: &mut Outside) -> Result<bool, NoMemory> {
     let is_made = make(alloc, outside, 0)? == Status::Done;
     let is_done = replay_all(alloc, outside)? == Status::Done;
     let is_told = are_told(alloc, outside.sink.bytes(), HIGHEST + 4, false)?;
-    Ok(is_made && is_done && is_told && height_of(alloc, outside)? == Some(42))
+    Ok(is_made && is_done && is_told && height_of(alloc, outside)? == Some(49))
 }
 
 struct Behind;
 
 impl Crashed for Behind {
-    fn is_right(alloc: Global, after: &mut Outside, calls: usize) -> Result<bool, NoMemory> {
+    fn is_right(&self, alloc: Global, after: &mut Outside, calls: usize) -> Result<bool, NoMemory> {
         stand_behind(alloc, after, done(calls), done(calls.saturating_add(3)))
     }
 }
@@ -211,7 +215,7 @@ impl Trial for EachStop {
     fn is_right(alloc: Global, outside: &mut Outside, row: &str) -> Result<bool, NoMemory> {
         let from = number_or(field(row, 0), 0) as usize;
         let to = number_or(field(row, 1), 0) as usize;
-        Ok(is_lived(alloc, outside)? && is_right_wherever::<Behind>(alloc, outside, from, to)?)
+        Ok(is_lived(alloc, outside)? && is_right_wherever(&Behind, alloc, outside, from, to)?)
     }
 }
 
@@ -223,14 +227,14 @@ fn a_stop_before_the_expiry_leaves_a_front_of_the_blocks(rt: HostRuntime) -> Res
 
 #[test]
 fn a_stop_up_to_the_last_block_leaves_a_front_of_them(rt: HostRuntime) -> Result<(), Fail> {
-    each_is_right::<EachStop>(&rt, rt.alloc(), "110 | 202")?;
+    each_is_right::<EachStop>(&rt, rt.alloc(), "110 | 230")?;
     Ok(())
 }
 
 /// And while they are saved, disconnected below the second registration, and opened.
 #[test]
 fn a_stop_behind_the_blocks_leaves_a_front_of_the_commands(rt: HostRuntime) -> Result<(), Fail> {
-    each_is_right::<EachStop>(&rt, rt.alloc(), "202 | 250")?;
+    each_is_right::<EachStop>(&rt, rt.alloc(), "230 | 278")?;
     Ok(())
 }
 
@@ -266,6 +270,6 @@ impl Trial for EachCall {
 fn a_call_that_fails_leaves_the_files_before_or_behind_its_command(
     rt: HostRuntime,
 ) -> Result<(), Fail> {
-    each_is_right::<EachCall>(&rt, rt.alloc(), "13 | 225")?;
+    each_is_right::<EachCall>(&rt, rt.alloc(), "13 | 253")?;
     Ok(())
 }

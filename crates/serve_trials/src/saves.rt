@@ -1,12 +1,16 @@
-//! Saves: their replies, the files opened again behind them, each stop of the disk meanwhile, and each of its calls failing.
+//! Saves: their replies, the files opened again behind them and their bytes, each stop of the disk meanwhile, and each of its calls
+//! failing.
 
-use crate::crashes::{Crashed, is_right_wherever};
+ghost use Rattle.std.specs.Prelude.{◌<◌};
+
+use crate::courses::{EachCall, EachStop};
 use crate::feed::FEED;
-use crate::outside::{INIT, Outside, Trial, each_is_right, end_of, is_told_by};
-use crate::stops::make;
-use crate::texts::{bytes_of, field};
+use crate::outside::{INIT, Outside, Trial, each_is_right, end_of, is_right_by, is_told_by};
+use crate::stops::has;
+use crate::texts::{bytes_of, field, number_or};
 use bridge_core::Status;
 use byte_io::Polled;
+use memory_disk::MemoryDisk;
 use memory_io::MemoryPort;
 use nmc_base::{Bytes, NoMemory};
 use std::alloc::Global;
@@ -92,140 +96,65 @@ fn a_saved_name_is_reported_as_before(rt: HostRuntime) -> Result<(), Fail> {
     Ok(())
 }
 
-// ---- stops and failing calls
+// ---- bytes
 
-/// What came of a replay.
-#[derive(Clone, Copy, PartialEq, Eq)]
-enum Came {
-    /// The save's reply told a fault of the disk, which ended the replay.
-    Faulted,
-    /// The save was made, and had number 1.
-    Saved,
-    /// The block was there, and the save had number 1, or 2.
-    NotYet,
-    SavedBefore,
-    Other,
+/// Replays over new files, and what the files have then: the input, what it is answered with, the length of each file, and its bytes. A
+/// selection stands behind the header for each save. Behind the first save, the disconnect of the block and its return have their records
+/// there, behind the image; a second save goes to file 1.
+static FILES: &str = "\
+first save back first | accepted saved 0100000000000000 base accepted | 65 300 432 | 014e4d43494458310a0100000000 zeros 0b6e732e6578616d706c652e 010100000002 00 | 0000000000000000 011e01000001 block 00 | 5e00000000000000 4e4d4349020100000000 zeros 01000000 hash 0000000000000000 0000000000000000 012100000002 hash 011e01000001 block 00
+first save save | accepted saved 0100000000000000 saved 0200000000000000 | 71 103 103 | 014e4d43494458310a0100000000 zeros 0b6e732e6578616d706c652e 010100000002 010100000001 00 | 5e00000000000000 4e4d4349020100000000 zeros 01000000 hash 0000000000000000 0000000000000000 00 | 5e00000000000000 4e4d4349020100000000 zeros 01000000 hash 0000000000000000 0000000000000000 00
+";
+
+/// Whether the file has the length and the bytes that the row tells.
+fn is_file(alloc: Global, disk: &mut MemoryDisk, file: u8, row: &str) -> Result<bool, NoMemory>
+    requires { file < 3 }
+{
+    let bytes = bytes_of(alloc, field(row, 3 + file as usize))?;
+    let length = field(row, 2).split(' ').nth(file as usize).unwrap_or("");
+    Ok(number_or(length, 0) == bytes.len() as u64 && has(disk, file, &bytes))
 }
 
-/// Each status and output that may come.
-static CAMES: [(Status, &str, Came); 4] = [
-    (Status::DiskFault, "fd00000000", Came::Faulted),
-    (Status::Done, "saved 0100000000000000", Came::Saved),
-    (
-        Status::Done,
-        "not-on-tip saved 0100000000000000",
-        Came::NotYet,
-    ),
-    (
-        Status::Done,
-        "not-on-tip saved 0200000000000000",
-        Came::SavedBefore,
-    ),
-];
+struct Filed;
 
-fn told_by(alloc: Global, status: Status, bytes: &[u8]) -> Result<Came, NoMemory> {
-    for (ending, output, came) in &CAMES {
-        let output = bytes_of(alloc, output)?;
-        if *ending == status && output.as_slice() == bytes {
-            return Ok(*came);
+impl Trial for Filed {
+    fn is_right(alloc: Global, outside: &mut Outside, row: &str) -> Result<bool, NoMemory> {
+        let is_made = end_of(alloc, outside, INIT) == Status::Done;
+        let mut is_so = is_made && is_answered(alloc, outside, field(row, 0), field(row, 1))?;
+        for file in 0..3u8 {
+            is_so = is_so && is_file(alloc, &mut outside.disk, file, row)?;
         }
-    }
-    Ok(Came::Other)
-}
-
-fn replay_of(alloc: Global, outside: &mut Outside, input: &str) -> Result<Came, NoMemory> {
-    outside.begin(alloc, "whole", "whole", input)?;
-    let status = end_of(alloc, outside, "replay");
-    told_by(alloc, status, outside.sink.bytes())
-}
-
-/// New files with the first block, on a disk of which this call fails, and what came of a save of them.
-fn save_of(alloc: Global, outside: &mut Outside, fail: u64) -> Result<Came, NoMemory> {
-    let is_made = make(alloc, outside, fail)? == Status::Done;
-    if is_made && is_answered(alloc, outside, "first", "accepted")? {
-        return replay_of(alloc, outside, "save");
-    }
-    Ok(Came::Other)
-}
-
-/// So many calls make files with the first block and open them again: twelve make them, ten open them, four connect the block, and
-/// thirteen open them again.
-const OPENED: usize = 39;
-
-/// Behind those a save of the block, and what comes behind it, makes fewer than seventeen.
-const MANY: usize = 56;
-
-/// Whether files that were stopped after so many calls of a save may be those of which this comes: saved or not, and behind all calls
-/// saved.
-fn is_right(calls: usize, came: Came) -> bool {
-    match came {
-        Came::NotYet => calls < MANY,
-        Came::SavedBefore => true,
-        _ => false,
-    }
-}
-
-struct SavedOrNot;
-
-impl Crashed for SavedOrNot {
-    fn is_right(alloc: Global, after: &mut Outside, calls: usize) -> Result<bool, NoMemory> {
-        Ok(is_right(calls, replay_of(alloc, after, "first save")?))
-    }
-}
-
-struct EachStop;
-
-impl Trial for EachStop {
-    fn is_right(alloc: Global, outside: &mut Outside, _row: &str) -> Result<bool, NoMemory> {
-        Ok(
-            save_of(alloc, outside, 0)? == Came::Saved
-                && is_right_wherever::<SavedOrNot>(alloc, outside, OPENED, MANY + 1)?,
-        )
+        Ok(is_so)
     }
 }
 
 #[test]
-fn opens_as_before_or_saved_wherever_it_stops(rt: HostRuntime) -> Result<(), Fail> {
-    each_is_right::<EachStop>(&rt, rt.alloc(), "each stop")?;
+fn files_behind_saves_have_these_lengths_and_bytes(rt: HostRuntime) -> Result<(), Fail> {
+    each_is_right::<Filed>(&rt, rt.alloc(), FILES)?;
     Ok(())
 }
 
-/// Where this call fails. The files open again then, saved or not.
-fn fails_at(alloc: Global, outside: &mut Outside, call: usize) -> Result<Came, NoMemory> {
-    let came = save_of(alloc, outside, call as u64)?;
-    if came == Came::Saved {
-        return Ok(came);
-    }
-    match replay_of(alloc, outside, "first save")? {
-        Came::NotYet | Came::SavedBefore => Ok(came),
-        _ => Ok(Came::Other),
-    }
+// ---- stops and failing calls
+
+/// Three saves, with a disconnect and a connect between them.
+static SAVES: &str = "\
+replay | first block | 39
+save | saved 0100000000000000 | 10 | not-on-tip saved 0100000000000000 | 1
+back | base | 4 | not-on-tip saved 0200000000000000 | 1
+save | saved 0200000000000000 | 10 | accepted saved 0200000000000000 | 0
+first | accepted | 4 | accepted saved 0300000000000000 | 0
+save | saved 0300000000000000 | 10 | not-on-tip saved 0300000000000000 | 1
+ |  |  | not-on-tip saved 0400000000000000 | 1";
+
+#[test]
+fn opens_as_before_or_saved_wherever_it_stops(rt: HostRuntime) -> Result<(), Fail> {
+    is_right_by::<EachStop>(&rt, rt.alloc(), SAVES)?;
+    Ok(())
 }
 
-/// How many calls of a save fail; None where another thing came of one.
-fn failing(alloc: Global, outside: &mut Outside) -> Result<Option<u8>, NoMemory> {
-    let mut faulted = 0u8;
-    for call in OPENED + 1..MANY {
-        match fails_at(alloc, outside, call)? {
-            Came::Faulted => faulted = faulted.saturating_add(1),
-            Came::Saved => {}
-            _ => return Ok(None),
-        }
-    }
-    Ok(Some(faulted))
-}
-
-struct EachCall;
-
-impl Trial for EachCall {
-    fn is_right(alloc: Global, outside: &mut Outside, _row: &str) -> Result<bool, NoMemory> {
-        Ok(failing(alloc, outside)? == Some(10))
-    }
-}
-
-/// A save of a block makes ten calls, and where one of them fails the reply is code FD.
+/// A save makes ten calls, and where one of them fails the reply is code FD.
 #[test]
 fn tells_the_call_of_a_save_that_fails(rt: HostRuntime) -> Result<(), Fail> {
-    each_is_right::<EachCall>(&rt, rt.alloc(), "each call")?;
+    is_right_by::<EachCall>(&rt, rt.alloc(), SAVES)?;
     Ok(())
 }

@@ -1,10 +1,11 @@
-//! Files that are made from a snapshot: their bytes, faults of the snapshot, each crash meanwhile, and each call failing.
+//! Files that are made from a snapshot: their bytes, the answer to a query over them, faults of the snapshot, each crash meanwhile, and
+//! each call failing.
 
 use crate::crashes::{Crashed, is_right_wherever};
-use crate::outside::{INIT, Outside, Trial, each_is_right, end_of, is_told};
+use crate::outside::{INIT, Outside, Trial, each_is_right, end_of, is_told, is_told_by};
 use crate::stops::are_files;
 use crate::streams::{Given, Pace};
-use crate::texts::{bytes_of, field};
+use crate::texts::{bytes_of, field, number_or};
 use bridge_core::Status;
 use memory_disk::MemoryDisk;
 use nmc_base::NoMemory;
@@ -81,6 +82,28 @@ fn files_begin_with_the_image_of_a_start_list(rt: HostRuntime) -> Result<(), Fai
     Ok(())
 }
 
+// ---- a query
+
+/// A query for the address of `example.bit.` (RFC 1035, 4.1) as a frame, and its reply: code 0, a length of 45, the question, and the
+/// address 1.2.3.4.
+static QUERY: &str =
+    "031d000000 123401000001000000000000 076578616d706c650362697400 00010001 | 002d000000 123485000001000100000000 076578616d706c650362697400 00010001 c00c0001000100000258 000401020304";
+
+struct Asked;
+
+impl Trial for Asked {
+    fn is_right(alloc: Global, outside: &mut Outside, row: &str) -> Result<bool, NoMemory> {
+        let is_made = make(alloc, outside, ONE)? == Status::Done;
+        Ok(is_made && is_told_by(alloc, outside, "replay", field(row, 0), field(row, 1))?)
+    }
+}
+
+#[test]
+fn a_name_of_the_snapshot_is_served(rt: HostRuntime) -> Result<(), Fail> {
+    each_is_right::<Asked>(&rt, rt.alloc(), QUERY)?;
+    Ok(())
+}
+
 // ---- files that were made before
 
 struct Unread;
@@ -114,13 +137,22 @@ name 642f6578616d706c65 499000 served 7b226970223a22312e322e332e34227d
   at 499000 since 499000 7b226970223a22312e322e332e34227d
 ";
 
-struct Begun;
+/// How a report of the files ends; the sink has it then.
+fn report_of(alloc: Global, outside: &mut Outside) -> Result<Status, NoMemory> {
+    outside.begin(alloc, "whole", "whole", "")?;
+    Ok(end_of(alloc, outside, "dump"))
+}
+
+/// The files are made wherever so many calls were made.
+#[derive(Clone, Copy)]
+struct Begun {
+    made: usize,
+}
 
 impl Crashed for Begun {
-    fn is_right(alloc: Global, after: &mut Outside, calls: usize) -> Result<bool, NoMemory> {
-        after.begin(alloc, "whole", "whole", "")?;
-        Ok(match end_of(alloc, after, "dump") {
-            Status::Uninitialised => calls < MAKING,
+    fn is_right(&self, alloc: Global, after: &mut Outside, calls: usize) -> Result<bool, NoMemory> {
+        Ok(match report_of(alloc, after)? {
+            Status::Uninitialised => calls < self.made,
             Status::Done => after.sink.bytes() == REPORT.as_bytes(),
             _ => false,
         })
@@ -131,9 +163,10 @@ struct EachCrash;
 
 impl Trial for EachCrash {
     fn is_right(alloc: Global, outside: &mut Outside, row: &str) -> Result<bool, NoMemory> {
+        let tried = Begun { made: MAKING };
         Ok(
             make(alloc, outside, row)? == Status::Done
-                && is_right_wherever::<Begun>(alloc, outside, 0, MAKING + 2)?,
+                && is_right_wherever(&tried, alloc, outside, 0, MAKING + 2)?,
         )
     }
 }
@@ -157,12 +190,41 @@ fn make_on(
     make(alloc, outside, snapshot)
 }
 
+/// Whether it ends so where the files are made again of what is left of the source, behind a fault of this call. The first looks at
+/// file 0, and the source is as it was then; it was read to its end before each other.
+fn is_end_again(call: usize, status: Status) -> bool {
+    match status {
+        Status::Done => call == 1,
+        Status::BadSnapshot { at: 0 } | Status::Initialised => call > 1,
+        _ => false,
+    }
+}
+
+/// Where this call fails. A crash then leaves no files, or those of the snapshot; so does none.
+fn fails_at(
+    alloc: Global,
+    outside: &mut Outside,
+    snapshot: &str,
+    call: usize,
+) -> Result<bool, NoMemory> {
+    let is_fault = make_on(alloc, outside, snapshot, call)? == Status::DiskFault;
+    let again = end_of(alloc, outside, INIT_FROM);
+    let is_reported = match report_of(alloc, outside)? {
+        Status::Uninitialised => again == Status::BadSnapshot { at: 0 },
+        Status::Done => outside.sink.bytes() == REPORT.as_bytes(),
+        _ => false,
+    };
+    let is_so = is_fault && is_end_again(call, again) && is_reported;
+    let tried = Begun { made: MAKING + 1 };
+    Ok(is_so && is_right_wherever(&tried, alloc, outside, call, call.saturating_add(1))?)
+}
+
 struct EachCall;
 
 impl Trial for EachCall {
     fn is_right(alloc: Global, outside: &mut Outside, row: &str) -> Result<bool, NoMemory> {
         for call in 1..MAKING + 1 {
-            if make_on(alloc, outside, row, call)? != Status::DiskFault {
+            if !fails_at(alloc, outside, row, call)? {
                 return Ok(false);
             }
         }
@@ -173,6 +235,34 @@ impl Trial for EachCall {
 #[test]
 fn tells_the_call_of_making_from_a_snapshot_that_fails(rt: HostRuntime) -> Result<(), Fail> {
     each_is_right::<EachCall>(&rt, rt.alloc(), ONE)?;
+    Ok(())
+}
+
+/// Files that twelve calls made before are looked at by two: the call that fails, the line that is told of it, and what a replay of the
+/// source is answered with then. The third is of the replay.
+static LOOKS: &str = "\
+13 | disk fault | accepted
+14 | disk fault | accepted
+15 | already initialised | 
+";
+
+struct Unseen;
+
+impl Trial for Unseen {
+    fn is_right(alloc: Global, outside: &mut Outside, row: &str) -> Result<bool, NoMemory> {
+        outside.disk = MemoryDisk::new(alloc, &[number_or(field(row, 0), 0)])?;
+        let is_made = end_of(alloc, outside, INIT) == Status::Done;
+        let status = make(alloc, outside, "first")?;
+        let _ = end_of(alloc, outside, "replay");
+        let output = bytes_of(alloc, field(row, 2))?;
+        let is_answered = outside.sink.bytes() == output.as_slice();
+        Ok(is_made && is_told(alloc, status, field(row, 1))? && is_answered)
+    }
+}
+
+#[test]
+fn nothing_is_read_where_the_look_at_the_files_fails(rt: HostRuntime) -> Result<(), Fail> {
+    each_is_right::<Unseen>(&rt, rt.alloc(), LOOKS)?;
     Ok(())
 }
 

@@ -79,7 +79,7 @@ fn is_right(calls: usize, came: Came) -> bool {
 struct Replayed;
 
 impl Crashed for Replayed {
-    fn is_right(alloc: Global, after: &mut Outside, calls: usize) -> Result<bool, NoMemory> {
+    fn is_right(&self, alloc: Global, after: &mut Outside, calls: usize) -> Result<bool, NoMemory> {
         Ok(is_right(calls, replay_first(alloc, after)?))
     }
 }
@@ -88,7 +88,7 @@ struct EachStop;
 
 impl Trial for EachStop {
     fn is_right(alloc: Global, outside: &mut Outside, _row: &str) -> Result<bool, NoMemory> {
-        Ok(is_made(alloc, outside)? && is_right_wherever::<Replayed>(alloc, outside, 0, MANY + 1)?)
+        Ok(is_made(alloc, outside)? && is_right_wherever(&Replayed, alloc, outside, 0, MANY + 1)?)
     }
 }
 
@@ -178,10 +178,10 @@ static FILES: [&str; 3] = [
 ];
 
 /// Whether the file has these bytes, and no more.
-fn has(disk: &mut MemoryDisk, file: u8, bytes: &[u8]) -> bool
+pub(crate) fn has(disk: &mut MemoryDisk, file: u8, bytes: &[u8]) -> bool
     requires { file < 3 }
 {
-    let mut found = [0; 512];
+    let mut found = [0; 4096];
     match disk.read(file, 0, &mut found) {
         Ok(count) => &found[..count] == bytes,
         Err(Failed) => false,

@@ -1,4 +1,4 @@
-//! Tables of lines, which stand as bytes: so nothing is proved of each of their letters. What a replay of bytes is.
+//! Tables of lines, which stand as bytes: so nothing is proved of each of their letters. What a run over bytes is.
 
 use crate::outside::{Outside, end_of};
 use crate::streams::{Given, Pace, Taken};
@@ -29,13 +29,23 @@ pub(crate) fn bytes_of_lines(alloc: Global, table: &[u8]) -> Result<Vec<u8>, All
     Ok(all)
 }
 
-/// Replays the bytes over the files, into an empty sink.
+/// Runs the words over the bytes and the files, into an empty sink.
+pub(crate) fn run_of(
+    alloc: Global,
+    outside: &mut Outside,
+    words: &str,
+    input: &[u8],
+) -> Result<Status, NoMemory> {
+    outside.source = Given::new(alloc, input, Pace::Whole, 0)?;
+    outside.sink = Taken::new(alloc, Pace::Whole, 0)?;
+    Ok(end_of(alloc, outside, words))
+}
+
+/// Replays the bytes.
 pub(crate) fn replay_of(
     alloc: Global,
     outside: &mut Outside,
     input: &[u8],
 ) -> Result<Status, NoMemory> {
-    outside.source = Given::new(alloc, input, Pace::Whole, 0)?;
-    outside.sink = Taken::new(alloc, Pace::Whole, 0)?;
-    Ok(end_of(alloc, outside, "replay"))
+    run_of(alloc, outside, "replay", input)
 }

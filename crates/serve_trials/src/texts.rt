@@ -38,8 +38,9 @@ fn digit(letter: u8) -> u8 {
 }
 
 /// The words that aren't digits, each with the bytes that it stands for, in two parts.
-static WORDS: [(&str, &[u8], &[u8]); 20] = [
+static WORDS: [(&str, &[u8], &[u8]); 21] = [
     ("block", &FIRST_BLOCK, &[]),
+    ("hash", &FIRST_HASH, &[]),
     ("zeros", &[0; 32], &[]),
     ("aas", &[0xAA; 32], &[]),
     // the frame of the first block, and the reply that accepts it: code 0, a length of 36, and height 1

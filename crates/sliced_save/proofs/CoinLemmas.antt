@@ -10,7 +10,7 @@ use Rattle.chain_names.specs.Points.{same_point, changed}
 use Rattle.chain_names.specs.declared.coin.Coin.{Coin}
 use Rattle.undo_records.specs.Text.{held_text}
 use Rattle.image_writer.specs.Lengths.{capped}
-use Rattle.pin_views.specs.Pairs.{AreInOrder, with_pair, without_key}
+use Rattle.shared_chunks.specs.Pairs.{AreInOrder, with_pair, without_key}
 use Rattle.sliced_save.specs.Kept.{AreKeptCoins, IsKeptCoin, coins_length}
 use Rattle.sliced_save.specs.Lengths.{held_weight}
 use Rattle.sliced_save.specs.Mirror.{CoinPairs, coin_at, held_pair}

@@ -1,6 +1,6 @@
 -- The mirror of an index: made of its parts, with its newest block and without it.
 use Rattle.std.proofs.Common.{◌≡◌, ℕ, ◌-◌, arith, List, [], ◌∷◌, ◌++◌, length, map, reverse, take, drop, Some, None, refl, sym, ap, subst, ◌∙◌, length-append}
-use Rattle.std.proofs.lemmas.List.{reverse-append}
+use Rattle.std.proofs.lemmas.List.{reverse-append, reverse-reverse}
 use Rattle.std.specs.List.{AllByRecursion}
 use Rattle.nmc_base.specs.declared.chain_ends.Base.{Base}
 use Rattle.nmc_base.specs.declared.hashes.OutPoint.{OutPoint}
@@ -95,26 +95,23 @@ joined base tables (first ∷ undos) undo old new e forth mirror =
           (forth.names_are ∙ ap (λ (m : Maps). grown_ops tables.names undo.ops m.names) before ∙ names_forth tables.names undo.ops _ refl);
     }
 
--- it is to leave
-left : (base : Base) (tables : Tables) (undos : List UndoRecord) (undo : UndoRecord) (old new : Mirrored) → newest_of undos ≡ Some undo → IsBack old undo new
-    → IsMirrorOf base undos (maps_by tables) old → IsMirrorOf base (undos_below undos) (maps_below undos (maps_by tables)) new
-left base tables [] undo old new e back mirror = absurd (cc e)
-left base tables (first ∷ undos) undo old new e back mirror =
-    let same : undo ≡ first = cc e in
-    record {
-      base_is = back.base ∙ mirror.base_is;
-      undos_are = back.undos ∙ less_one (reverse undos) old.undos first (mirror.undos_are ∙ newest_behind first undos);
-      maps_are = back.maps ∙ ap (undone undo.ops undo.expired) mirror.maps_are ∙ ap (λ (u : UndoRecord). undone u.ops u.expired (maps_by tables)) same;
-    }
+-- it leaves
+less_newest : (undos olds : List UndoRecord) → olds ≡ reverse undos → take (length olds - 1) olds ≡ reverse (undos_below undos)
+less_newest [] olds is = rw is refl
+less_newest (first ∷ undos) olds is = less_one (reverse undos) olds first (is ∙ newest_behind first undos)
+
+pub index_left : (c : Indexed) (old new : Mirrored) → IsBack old new → MirrorsIndex c old → MirrorsBefore c new
+index_left c old new back mirror = record {
+  base_is = back.base ∙ mirror.base_is;
+  undos_are = back.undos ∙ less_newest c.undos old.undos mirror.undos_are;
+  maps_are =
+      back.maps ∙ ap (λ (l : List UndoRecord). maps_below l (maps_in old)) (ap reverse mirror.undos_are ∙ reverse-reverse c.undos) ∙ ap (maps_below c.undos) mirror.maps_are;
+}
 
 -- there is none
 pub none_joined : (base : Base) (maps : Maps) (undos : List UndoRecord) (m : Mirrored) → newest_of undos ≡ None → IsMirrorOf base (undos_below undos) (maps_below undos maps) m → IsMirrorOf base undos maps m
 none_joined base maps [] m e mirror = mirror
 none_joined base maps (undo ∷ undos) m e mirror = absurd (cc e)
-
-pub none_left : (base : Base) (maps : Maps) (undos : List UndoRecord) (m : Mirrored) → newest_of undos ≡ None → IsMirrorOf base undos maps m → IsMirrorOf base (undos_below undos) (maps_below undos maps) m
-none_left base maps [] m e mirror = mirror
-none_left base maps (undo ∷ undos) m e mirror = absurd (cc e)
 
 -- ---- chains
 
@@ -187,7 +184,3 @@ pub index_joined : (c : Indexed) (parts : Parts) (kept : List Undo) (undo : Undo
 index_joined c parts kept undo old new are is newest forth =
     subst (λ (t : Tables). IsMirrorOf c.base (undos_below c.undos) (maps_below c.undos (maps_by t)) old → IsMirrorOf c.base c.undos (maps_by t) new) are.tables
     (joined c.base (tables_of parts) c.undos undo old new (newest_is c parts kept undo are is newest) forth)
-
-pub index_left : (c : Indexed) (parts : Parts) (kept : List Undo) (undo : UndoRecord) (old new : Mirrored) → ArePartsOf c parts → kept ≡ parts.undos.items → Some undo ≡ newest_of (newest_first kept)
-    → IsBack old undo new → MirrorsIndex c old → MirrorsBefore c new
-index_left c parts kept undo old new are is newest back = left c.base c.tables c.undos undo old new (newest_is c parts kept undo are is newest) back

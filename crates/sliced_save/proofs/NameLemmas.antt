@@ -22,7 +22,7 @@ use Rattle.image_grammar.proofs.WrittenLaws.{name_short}
 use Rattle.image_writer.proofs.LengthLemmas.{history_length, item_length}
 use Rattle.image_writer.specs.Lengths.{capped}
 use Rattle.image_writer.specs.Listed.{IsShortItem}
-use Rattle.pin_views.specs.Pairs.{AreInOrder, value_at, with_pair, without_key}
+use Rattle.shared_chunks.specs.Pairs.{AreInOrder, value_at, with_pair, without_key}
 use Rattle.sliced_save.specs.Changes.{ItemsByName, grown, grown_name}
 use Rattle.sliced_save.specs.Kept.{AreKeptNames, IsKeptItem, IsKeptName, names_length}
 use Rattle.sliced_save.specs.Lengths.{SetsLength, UnsetsLength, items_length, name_weight}

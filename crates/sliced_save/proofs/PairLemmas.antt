@@ -6,10 +6,10 @@ use Rattle.std.specs.List.{AllByRecursion, flat_map, slice_get}
 use Rattle.std.specs.Ordering.{is_eq, match_ordering}
 use Rattle.std.specs.declared.cmp.Ordering.{Ordering}
 use Rattle.std.specs.declared.cmp.Ordering.TheVariants.{Less, Equal, Greater}
-use Rattle.pin_views.specs.Pairs.{AreInOrder, value_at, with_pair, without_key}
-use Rattle.pin_views.proofs.Lookups.{value_at-with_pair, value_at-without_key}
-use Rattle.pin_views.proofs.Order.{higher_back, order_tail}
-use Rattle.pin_views.proofs.Places.{value_at-gap}
+use Rattle.shared_chunks.specs.Pairs.{AreInOrder, value_at, with_pair, without_key}
+use Rattle.shared_chunks.proofs.Lookups.{value_at-with_pair, value_at-without_key}
+use Rattle.shared_chunks.proofs.Order.{higher_back, order_tail}
+use Rattle.shared_chunks.proofs.Places.{value_at-gap}
 use Rattle.sliced_save.specs.Lengths.{weight}
 
 -- ---- what is known of each

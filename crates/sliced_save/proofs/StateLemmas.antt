@@ -31,7 +31,7 @@ use Rattle.image_grammar.specs.Image.{HasItems, IsImageOf, coins_listed, names_l
 use Rattle.image_grammar.specs.Text.{IsStateText, image_text}
 use Rattle.image_grammar.specs.Widths.{HaveWidths}
 use Rattle.image_writer.specs.Whole.{IsReadAgain}
-use Rattle.pin_views.specs.Pairs.{value_at}
+use Rattle.shared_chunks.specs.Pairs.{value_at}
 use Rattle.sliced_save.specs.Kept.{AreKeptNames, IsKept, IsKeptCoin, IsKeptItem, IsKeptName, IsKeptUndo}
 use Rattle.sliced_save.specs.Mirror.{CoinPairs, IsMirrorOf, Mirrored, NamePairs, coin_at, held_pair, history_pair, items_at, items_or, maps_in, mirror_image}
 use Rattle.sliced_save.proofs.CoinLemmas.{exact_point}

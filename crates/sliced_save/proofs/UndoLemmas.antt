@@ -1,9 +1,11 @@
 -- The records of a mirror, once one was put above or taken away.
-use Rattle.std.proofs.Common.{◌≡◌, ℕ, zero, suc, ◌+◌, ◌-◌, ◌≤◌, arith, List, [], ◌∷◌, ◌++◌, length, take, map, Some, refl, sym, ap, ◌∙◌, length-append, append-nil}
+use Rattle.std.proofs.Common.{◌≡◌, ℕ, zero, suc, ◌+◌, ◌-◌, ◌≤◌, arith, List, [], ◌∷◌, ◌++◌, length, reverse, take, map, Some, None, refl, sym, ap, ◌∙◌, length-append, append-nil}
 use Rattle.std.proofs.lemmas.Grind.{flat_map-append}
 use Rattle.std.specs.List.{AllByRecursion, flat_map, slice_get}
 use Rattle.std.specs.Option.{option_map}
-use Rattle.std.proofs.lemmas.List.{length-map}
+use Rattle.std.proofs.lemmas.List.{length-map, reverse-append}
+use Rattle.chain_names.specs.Changes.{undone}
+use Rattle.chain_names.specs.Coins.{Maps}
 use Rattle.chain_names.specs.Seen.{seen_undo}
 use Rattle.chain_names.specs.Undo.{UndoRecord}
 use Rattle.chain_names.specs.declared.undo.Undo.{Undo}
@@ -11,6 +13,8 @@ use Rattle.undo_records.specs.Text.{undo_text}
 use Rattle.undo_records.specs.declared.version.Version.TheVariants.{Two}
 use Rattle.image_writer.specs.Lengths.{capped}
 use Rattle.sliced_save.specs.Kept.{undos_length}
+use Rattle.sliced_save.specs.Mirror.{maps_below}
+use Rattle.sliced_save.specs.Steps.{newest_of}
 use Rattle.sliced_save.specs.declared.most.TheConstants.{MOST}
 
 -- ---- lists
@@ -56,6 +60,34 @@ map_take f (suc n) [] = refl
 map_take f (suc n) (x ∷ xs) = ap (λ (l : List _). f x ∷ l) (map_take f n xs)
 
 -- ---- records
+
+-- the newest one stands last
+newest_front : (undos : List UndoRecord) (one other : UndoRecord) → newest_of ((undos ++ one ∷ []) ++ other ∷ []) ≡ newest_of (undos ++ one ∷ [])
+newest_front [] one other = refl
+newest_front (undo ∷ undos) one other = refl
+
+behind : (undo : UndoRecord) (undos : List UndoRecord) → reverse (undo ∷ undos) ≡ reverse undos ++ undo ∷ []
+behind undo undos = reverse-append (undo ∷ []) undos
+
+pub newest_last : (undos : List UndoRecord) (i : ℕ) → i + 1 ≡ length undos → newest_of (reverse undos) ≡ slice_get undos i
+newest_last [] i e = absurd (omega (arith, e))
+newest_last (undo ∷ []) zero e = refl
+newest_last (undo ∷ []) (suc i) e = absurd (omega (arith, e))
+newest_last (undo ∷ next ∷ undos) zero e = absurd (omega (arith, e))
+newest_last (undo ∷ next ∷ undos) (suc i) e =
+    ap newest_of (behind undo (next ∷ undos) ∙ ap (λ (l : List UndoRecord). l ++ undo ∷ []) (behind next undos)) ∙ newest_front (reverse undos) next undo
+    ∙ sym (ap newest_of (behind next undos)) ∙ newest_last (next ∷ undos) i (omega (arith, e))
+
+-- the maps that the newest one leads back to
+pub below_newest : (undos : List UndoRecord) (undo : UndoRecord) (maps : Maps) → Some undo ≡ newest_of undos → maps_below undos maps ≡ undone undo.ops undo.expired maps
+below_newest [] undo maps e = absurd (cc e)
+below_newest (first ∷ undos) undo maps e =
+    let same : first ≡ undo = cc e in
+    ap (λ (u : UndoRecord). undone u.ops u.expired maps) same
+
+pub below_none : (undos : List UndoRecord) (maps : Maps) → None ≡ newest_of undos → maps_below undos maps ≡ maps
+below_none [] maps e = refl
+below_none (first ∷ undos) maps e = absurd (cc e)
 
 -- how long the newest one is
 pub last_length : (stack : List Undo) (i : ℕ) (undo : Undo) (n : ℕ) → i + 1 ≡ length stack → Some undo ≡ slice_get stack i → undos_length (map seen_undo stack) ≤ MOST

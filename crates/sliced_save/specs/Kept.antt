@@ -16,7 +16,7 @@ use Rattle.undo_records.specs.Measured.{IsMeasured}
 use Rattle.undo_records.specs.Text.{held_text, undo_text}
 use Rattle.undo_records.specs.declared.version.Version.TheVariants.{Two}
 use Rattle.image_grammar.specs.Text.{history_text}
-use Rattle.pin_views.specs.Pairs.{AreInOrder}
+use Rattle.shared_chunks.specs.Pairs.{AreInOrder}
 use Rattle.sliced_save.specs.Mirror.{CoinPairs, Mirrored, NamePairs, held_pair, history_pair}
 
 -- ---- records

@@ -9,7 +9,7 @@ use Rattle.chain_names.specs.declared.coin.Item.{Item}
 use Rattle.undo_records.specs.Text.{held_text, item_text}
 use Rattle.undo_records.specs.declared.version.Version.TheVariants.{Two}
 use Rattle.image_grammar.specs.Text.{history_text}
-use Rattle.pin_views.specs.Pairs.{value_at}
+use Rattle.shared_chunks.specs.Pairs.{value_at}
 use Rattle.sliced_save.specs.Kept.{names_length}
 use Rattle.sliced_save.specs.Mirror.{NamePairs, held_pair, history_pair}
 

@@ -17,7 +17,7 @@ use Rattle.name_tables.specs.Tables.{maps_by}
 use Rattle.chain_state.specs.Chain.{Indexed}
 use Rattle.chain_state.specs.Standing.{chain_maps}
 use Rattle.image_grammar.specs.Image.{Image, History}
-use Rattle.pin_views.specs.Pairs.{value_at}
+use Rattle.shared_chunks.specs.Pairs.{value_at}
 
 -- each coin behind its outpoint, in the order of outpoints
 abbrev pub CoinPairs : Type 0

@@ -1,24 +1,22 @@
 //! What takes a block back from the parts of a mirror, by the block's record alone.
 
-ghost use Rattle.std.specs.Prelude.{◌≡◌, OnOk};
+ghost use Rattle.std.specs.Prelude.{◌≡◌, OnOk, reverse};
 ghost use Rattle.std.specs.List.{AllByRecursion};
-ghost use Rattle.chain_names.specs.Changes.{back_op, back_ops, moved_back, restored};
-ghost use Rattle.chain_names.specs.Limits.{IsWithinLimitsOp, HoldsName};
+ghost use Rattle.chain_names.specs.Changes.{back_op, back_ops, moved_back, restored, undone};
+ghost use Rattle.chain_names.specs.Limits.{IsWithinLimits, IsWithinLimitsOp, HoldsName};
+ghost use Rattle.chain_names.specs.Seen.{seen_undo};
 ghost use Rattle.chain_names.specs.Writable.{HasShortName};
-ghost use Rattle.sliced_save.specs.Mirror.{coin_at, maps_at};
+ghost use Rattle.sliced_save.specs.Mirror.{coin_at, maps_at, maps_below};
 
 use crate::coins::MirrorCoins;
 use crate::names::MirrorNames;
-use chain_names::{Change, HeldCoin, KeptOp, OpParts};
+use crate::undos::MirrorUndos;
+use chain_names::{Change, HeldCoin, KeptOp, OpParts, Undo};
 use nmc_base::{NoMemory, OutPoint};
 use std::alloc::Global;
 
 /// The coins that expired are back.
-pub(crate) fn put_back(
-    alloc: Global,
-    coins: &mut MirrorCoins,
-    helds: &[HeldCoin],
-) -> Result<(), NoMemory>
+fn put_back(alloc: Global, coins: &mut MirrorCoins, helds: &[HeldCoin]) -> Result<(), NoMemory>
     requires { AllByRecursion HoldsName helds.now }
     ensures { OnOk result (coin_at coins.new ≡ restored helds.now (coin_at coins.old)) }
 {
@@ -64,7 +62,7 @@ fn undo_op(
 }
 
 /// The operations are taken back, from the last to the first.
-pub(crate) fn undo_ops(
+fn undo_ops(
     alloc: Global,
     coins: &mut MirrorCoins,
     names: &mut MirrorNames,
@@ -79,4 +77,37 @@ pub(crate) fn undo_ops(
         rest = fewer;
     }
     Ok(())
+}
+
+/// The block of this record is taken back.
+fn undo_block(
+    alloc: Global,
+    coins: &mut MirrorCoins,
+    names: &mut MirrorNames,
+    undo: &Undo,
+) -> Result<(), NoMemory>
+    requires { IsWithinLimits (seen_undo undo.now) }
+    ensures { OnOk result (maps_at coins.new names.new ≡ undone (seen_undo undo.now).ops (seen_undo undo.now).expired (maps_at coins.old names.old)) }
+{
+    put_back(alloc, coins, undo.expired.as_slice())?;
+    undo_ops(alloc, coins, names, undo.ops.as_slice())?;
+    Ok(())
+}
+
+/// The newest block is taken back, if there is one.
+pub(crate) fn undo_newest(
+    alloc: Global,
+    coins: &mut MirrorCoins,
+    names: &mut MirrorNames,
+    undos: &MirrorUndos,
+) -> Result<(), NoMemory>
+    ensures { OnOk result (maps_at coins.new names.new ≡ maps_below (reverse undos.now) (maps_at coins.old names.old)) }
+{
+    match undos.newest() {
+        None => Ok(()),
+        Some(undo) => {
+            undo_block(alloc, coins, names, undo)?;
+            Ok(())
+        }
+    }
 }

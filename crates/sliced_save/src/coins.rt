@@ -12,7 +12,7 @@ use crate::most::MOST;
 use chain_names::Coin;
 use image_writer::lengths::add_held;
 use nmc_base::{NoMemory, OutPoint};
-use pin_views::SharedMap;
+use pin_views::{MapWaste, SharedMap};
 use std::alloc::Global;
 use std::marker::Model;
 use undo_records::widths::read_coin;
@@ -86,6 +86,11 @@ impl MirrorCoins {
         let map = self.map.pin()?;
         let len = self.len;
         Ok(MirrorCoins { map, len })
+    }
+
+    /// What is to be let go of where the coins are given up.
+    pub(crate) fn into_waste(self) -> Option<MapWaste<OutPoint, Coin>> {
+        self.map.into_waste()
     }
 
     /// How long the coin of the outpoint is in an image; 0 where it has none.

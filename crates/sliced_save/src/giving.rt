@@ -54,6 +54,11 @@ impl Giving {
         }
     }
 
+    /// The mirror, where no more of its text is given out.
+    pub(crate) fn into_mirror(self) -> Mirror {
+        self.mirror
+    }
+
     /// How many bytes the whole text has.
     pub(crate) fn len(&self) -> u64
         ensures { result ≡ length self.now.text }

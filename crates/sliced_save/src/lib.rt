@@ -14,7 +14,9 @@ mod names;
 mod slices;
 mod stage;
 mod undos;
+mod waste;
 
 pub use laws::mirrors_follow;
 pub use mirror::Mirror;
 pub use slices::Slices;
+pub use waste::MirrorWaste;

@@ -14,13 +14,14 @@ ghost use Rattle.sliced_save.specs.Kept.{IsKept};
 ghost use Rattle.sliced_save.specs.Mirror.{MirrorsIndex, MirrorsBefore, mirror_image};
 ghost use Rattle.sliced_save.specs.Steps.{IsForth, IsBack, newest_of};
 
-use crate::back::{put_back, undo_ops};
+use crate::back::undo_newest;
 use crate::coins::MirrorCoins;
 use crate::filling::{coins_of, names_of, undos_of};
 use crate::forth::{grow_ops, refresh_helds, refresh_ops};
 use crate::names::MirrorNames;
 use crate::slices::Slices;
 use crate::undos::MirrorUndos;
+use crate::waste::MirrorWaste;
 use chain_names::Undo;
 use chain_state::Chain;
 use image_writer::widths::read_hash;
@@ -102,19 +103,24 @@ impl Mirror {
         }
     }
 
-    /// The mirror as it is once the chain's newest block has left it, by the block's record alone. This one stays as it is. It is
-    /// refused as `of` is.
+    /// The mirror as it is once its newest block has left, by the record of that block that it keeps itself: in place, so far as nobody
+    /// else stands over its parts. Where it is refused, as `of` is, nothing is left of it.
+    pub fn disconnected(self, alloc: Global) -> Result<Mirror, NoMemory>
+        ensures { IfOk result (λ m. (index : Indexed) → MirrorsIndex index self → MirrorsBefore index m) }
+    {
+        let mut mirror = self;
+        mirror.go_back(alloc)?;
+        Ok(mirror)
+    }
+
+    /// The mirror as it is once the chain's newest block has left it. This one stays as it is. It is refused as `of` is.
     pub fn disconnecting(&self, alloc: Global, chain: &Chain) -> Result<Mirror, NoMemory>
         ensures { IfOk result (λ m. MirrorsIndex chain.now self.now → MirrorsBefore chain.now m) }
     {
-        let mut mirror = self.pin()?;
-        match newest(chain.parts().undos.as_slice()) {
-            None => Ok(mirror),
-            Some(undo) => {
-                mirror.take_back(alloc, undo)?;
-                Ok(mirror)
-            }
-        }
+        let _ = chain;
+        let mirror = self.pin()?;
+        let before = mirror.disconnected(alloc)?;
+        Ok(before)
     }
 
     /// An equal mirror, which stays as it is whatever becomes of this one. It takes no memory: it is refused only where a node can
@@ -132,6 +138,21 @@ impl Mirror {
             coins,
             names,
         })
+    }
+
+    /// What is to be let go of where it is given up: nothing where others stand over the same parts. It takes no memory, and lets go
+    /// at once of the records of blocks that it alone holds.
+    pub(crate) fn into_waste(self) -> MirrorWaste {
+        let Mirror {
+            base: _,
+            undos: _undos,
+            coins,
+            names,
+        } = self;
+        MirrorWaste {
+            coins: coins.into_waste(),
+            names: names.into_waste(),
+        }
     }
 
     /// How many bytes the image of what it mirrors has, in version 2. It takes no walk and no memory.
@@ -207,13 +228,11 @@ impl Mirror {
         Ok(())
     }
 
-    /// What takes the block of this record back.
-    fn take_back(&mut self, alloc: Global, undo: &Undo) -> Result<(), NoMemory>
-        requires { IsWithinLimits (seen_undo undo.now) }
-        ensures { OnOk result (IsBack self.old (seen_undo undo.now) self.new) }
+    /// What takes the newest block back, if there is one.
+    fn go_back(&mut self, alloc: Global) -> Result<(), NoMemory>
+        ensures { OnOk result (IsBack self.old self.new) }
     {
-        put_back(alloc, &mut self.coins, undo.expired.as_slice())?;
-        undo_ops(alloc, &mut self.coins, &mut self.names, undo.ops.as_slice())?;
+        undo_newest(alloc, &mut self.coins, &mut self.names, &self.undos)?;
         self.undos.pop();
         Ok(())
     }

@@ -19,7 +19,7 @@ use crate::most::MOST;
 use chain_names::Item;
 use image_writer::lengths::{add_item, add_name};
 use nmc_base::NoMemory;
-use pin_views::{NameKey, SharedMap, SharedStack};
+use pin_views::{MapWaste, NameKey, SharedMap, SharedStack};
 use std::alloc::Global;
 use std::marker::Model;
 use undo_records::widths::read_item;
@@ -93,6 +93,11 @@ impl MirrorNames {
         let map = self.map.pin()?;
         let len = self.len;
         Ok(MirrorNames { map, len })
+    }
+
+    /// What is to be let go of where the names are given up.
+    pub(crate) fn into_waste(self) -> Option<MapWaste<NameKey, SharedStack<Item>>> {
+        self.map.into_waste()
     }
 
     /// The name has these items. The length is that of all names with them.

@@ -5,6 +5,7 @@ ghost use Rattle.sliced_save.specs.Mirror.{mirror_image};
 
 use crate::giving::Giving;
 use crate::mirror::Mirror;
+use crate::waste::MirrorWaste;
 use std::marker::Model;
 
 /// The text of the image of a mirror as it was when this was made, given out in slices. It holds the mirror's nodes to the end, and
@@ -37,6 +38,11 @@ impl Slices {
     {
         let giving = Giving::of(mirror);
         Slices { giving, given: 0 }
+    }
+
+    /// What is to be let go of where the save has ended. It takes no memory.
+    pub fn into_waste(self) -> MirrorWaste {
+        self.giving.into_mirror().into_waste()
     }
 
     /// How many bytes the whole text has.

@@ -1,8 +1,9 @@
-ghost use Rattle.std.specs.Prelude.{◌≡◌, ◌++◌, ◌∷◌, ◌+◌, ◌-◌, ◌^◌, ◌<◌, ◌≤◌, [], Some, length, take, slice_get, IfOk, IfSome, OnOk};
+ghost use Rattle.std.specs.Prelude.{◌≡◌, ◌++◌, ◌∷◌, ◌+◌, ◌-◌, ◌^◌, ◌<◌, ◌≤◌, [], Some, length, reverse, take, slice_get, IfOk, IfSome, OnOk};
 ghost use Rattle.std.specs.Option.{option_map};
 ghost use Rattle.chain_names.specs.Limits.{IsWithinLimits};
 ghost use Rattle.chain_names.specs.Seen.{seen_undo};
 ghost use Rattle.sliced_save.specs.Kept.{AreKeptUndos, IsKeptUndo, undos_length};
+ghost use Rattle.sliced_save.specs.Steps.{newest_of};
 ghost use Rattle.sliced_save.specs.declared.most.TheConstants.{MOST};
 
 use crate::copies::copy_undo;
@@ -73,6 +74,21 @@ impl MirrorUndos {
     {
         let _count = self.stack.len();
         match self.stack.at(i) {
+            Some(undo) => Some(undo),
+            None => None,
+        }
+    }
+
+    /// The newest record, if there is one.
+    pub(crate) fn newest(&self) -> Option<&Undo>
+        ensures undo { option_map (λ u. seen_undo u.now) result ≡ newest_of (reverse self.now) }
+        ensures limits { IfSome result (λ u. IsWithinLimits (seen_undo u.now)) }
+    {
+        let count = self.count();
+        if count == 0 {
+            return None;
+        }
+        match self.at(count - 1) {
             Some(undo) => Some(undo),
             None => None,
         }

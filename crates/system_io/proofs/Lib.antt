@@ -1,1 +1,5 @@
-pub mod UnsentLemmas
+pub mod FilesLemmas
+pub mod NetLemmas
+pub mod PortLemmas
+pub mod StreamsLemmas
+pub mod WaitsLemmas

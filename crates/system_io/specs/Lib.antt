@@ -1,6 +1,14 @@
 pub mod Arrival
 pub mod Client
+pub mod FeedReplies
+pub mod Files
+pub mod FrameEnd
+pub mod Layout
+pub mod Loopback
+pub mod Net
+pub mod Notes
+pub mod Replies
 pub mod Silence
 pub mod SocketPort
 pub mod Streams
-pub mod Unsent
+pub mod Waits

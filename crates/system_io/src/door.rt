@@ -1,13 +1,18 @@
+ghost use Rattle.std.specs.Prelude.{◌≡◌, IsSome, Ok};
+ghost use Rattle.system_io.specs.Loopback.{loopback_bytes, Asks};
+
 use crate::cause::Cause;
 use crate::clock::{self, NEVER, SECOND};
-use crate::newcomer::{Newcomer, Verdict};
+use crate::loopback::bind_listener;
+use crate::net::Net;
+use crate::newcomer::{Guest, Newcomer, Verdict};
 use crate::notices::Notices;
 use crate::people::People;
 use crate::search::Tables;
 use libc::net::POLLIN;
 use libc::types::pollfd;
 use std::io::{self, ErrorKind};
-use std::net::{Ipv4Addr, SocketAddr, TcpListener, TcpStream};
+use std::net::{SocketAddr, TcpListener};
 use std::os::fd::AsRawFd;
 
 /// So much longer than it looked whose a connection is does the door do nothing: of five parts of the time four are others'.
@@ -39,13 +44,15 @@ pub(crate) struct Door<'a> {
 }
 
 impl<'a> Door<'a> {
-    pub(crate) fn bind(
+    pub(crate) fn bind<N: Net>(
+        net: &mut N,
         rt: &'a HostRuntime,
         people: &'a People<'a>,
         number: u16,
-    ) -> io::Result<Door<'a>> {
-        let listener = TcpListener::bind(rt, (Ipv4Addr::LOCALHOST, number))?;
-        listener.set_nonblocking(true)?;
+    ) -> io::Result<Door<'a>>
+        ensures { Asks (N.told net.old) (N.told net.new) (loopback_bytes number) }
+    {
+        let listener = bind_listener(net, number)?;
         Ok(Door {
             rt,
             notices: Notices::new(people),
@@ -121,9 +128,11 @@ impl<'a> Door<'a> {
         now: u64,
         newcomer: Newcomer,
         verdict: io::Result<Verdict>,
-    ) -> Option<TcpStream> {
+    ) -> Option<Guest>
+        ensures { IsSome result → verdict ≡ Ok Verdict.Taken }
+    {
         match verdict {
-            Ok(Verdict::Taken) => return Some(newcomer.stream),
+            Ok(Verdict::Taken) => return newcomer.let_in(),
             Ok(Verdict::Open) => self.newcomer = Some(newcomer),
             Ok(Verdict::Stranger(user)) => {
                 let own = libc::geteuid();
@@ -142,7 +151,7 @@ impl<'a> Door<'a> {
     }
 
     /// The next connection that is let in, where one is there.
-    pub(crate) fn next(&mut self, now: u64) -> io::Result<Option<TcpStream>> {
+    pub(crate) fn next(&mut self, now: u64) -> io::Result<Option<Guest>> {
         if now < self.rests_until {
             return Ok(None);
         }

@@ -1,9 +1,14 @@
 ghost use Rattle.std.specs.Prelude.{◌≡◌, ◌≤◌, ◌⊎◌, length, IfOk};
-ghost use Rattle.system_io.specs.Arrival.{IsWithin};
+ghost use Rattle.system_io.specs.Arrival.{IsOfFeed, IsWithin};
+ghost use Rattle.system_io.specs.Loopback.{loopback_bytes, Asks};
+ghost use Rattle.system_io.specs.FeedReplies.{SendsReply};
+ghost use Rattle.system_io.specs.Net.{Fetches, HandsOnOk, SendsOn};
 
 use crate::clock::SECOND;
 use crate::door::{Door, NOTHING_ASKED};
 use crate::feed_link::FeedLink;
+use crate::link::Peer;
+use crate::net::Net;
 use crate::people::People;
 use byte_io::Polled;
 use libc::types::pollfd;
@@ -38,14 +43,17 @@ pub(crate) struct Feed<'a> {
 }
 
 impl<'a> Feed<'a> {
-    pub(crate) fn bind(
+    pub(crate) fn bind<N: Net>(
+        net: &mut N,
         rt: &'a HostRuntime,
         people: &'a People<'a>,
         number: u16,
-    ) -> io::Result<Feed<'a>> {
+    ) -> io::Result<Feed<'a>>
+        ensures { Asks (N.told net.old) (N.told net.new) (loopback_bytes number) }
+    {
         Ok(Feed {
             alloc: rt.alloc(),
-            door: Door::bind(rt, people, number)?,
+            door: Door::bind(net, rt, people, number)?,
             place: Place::Free,
             waiting: None,
         })
@@ -82,37 +90,53 @@ impl<'a> Feed<'a> {
     }
 
     /// Goes on with letting a connection go.
-    pub(crate) fn let_leave(&mut self, now: u64) {
-        let has_left = match &mut self.place {
-            Place::Leaving(link, until) => link.leave() || now >= *until,
-            _ => false,
-        };
-        if has_left {
+    pub(crate) fn let_leave<N: Net>(&mut self, net: &mut N, now: u64)
+        ensures { SendsOn (N.told net.old) (N.told net.new) Peer.Feed }
+    {
+        if self.has_left(net, now) {
             self.place = Place::Free;
         }
     }
 
+    /// Goes on with it, and says whether it has left, or its time is over.
+    #[tactic(auto, using(crate::proofs::NetLemmas::Sends_nothing))]
+    fn has_left<N: Net>(&mut self, net: &mut N, now: u64) -> bool
+        ensures { SendsOn (N.told net.old) (N.told net.new) Peer.Feed }
+    {
+        match &mut self.place {
+            Place::Leaving(link, until) => {
+                let has_left = link.leave(net);
+                has_left || now >= *until
+            }
+            _ => false,
+        }
+    }
+
     /// Lets the connection go, if there is one.
-    pub(crate) fn close(&mut self, now: u64) {
-        self.close_until(now, now.saturating_add(LEAVE));
+    pub(crate) fn close<N: Net>(&mut self, net: &mut N, now: u64)
+        ensures { SendsOn (N.told net.old) (N.told net.new) Peer.Feed }
+    {
+        self.close_until(net, now, now.saturating_add(LEAVE));
     }
 
     /// Lets the connection go, if there is one. Its last replies are sent until then.
-    fn close_until(&mut self, now: u64, until: u64) {
+    fn close_until<N: Net>(&mut self, net: &mut N, now: u64, until: u64)
+        ensures { SendsOn (N.told net.old) (N.told net.new) Peer.Feed }
+    {
         let place = mem::replace(&mut self.place, Place::Free);
         self.place = match place {
             Place::Open(link) | Place::Ended(Some(link)) => Place::Leaving(link, until),
             Place::Ended(None) => Place::Free,
             other => other,
         };
-        self.let_leave(now);
+        self.let_leave(net, now);
     }
 
     /// Gives the place, where it is free, to the connection that waits, and lets the next one wait.
     fn receive(&mut self, now: u64) -> io::Result<()> {
         if self.waiting.is_none() {
-            if let Some(stream) = self.door.next(now)? {
-                self.waiting = Some(FeedLink::new(self.alloc, stream, now)?);
+            if let Some(guest) = self.door.next(now)? {
+                self.waiting = Some(FeedLink::new(self.alloc, guest, now)?);
             }
         }
         if matches!(self.place, Place::Free) {
@@ -124,37 +148,44 @@ impl<'a> Feed<'a> {
     }
 
     /// Reads the next piece of the connection that has the place. At 0 it has ended.
-    fn read(&mut self, buffer: &mut [u8], now: u64) -> io::Result<usize>
+    #[tactic(auto, using(crate::proofs::NetLemmas::Fetches_failed, crate::proofs::NetLemmas::Hears_nothing))]
+    fn read<N: Net>(&mut self, net: &mut N, buffer: &mut [u8], now: u64) -> io::Result<usize>
+        ensures told { Fetches (N.told net.old) (N.told net.new) buffer.new result }
         ensures count { IfOk result (λ n. n ≤ length buffer.new) }
         ensures room { length buffer.new ≡ length buffer.old }
     {
         match &mut self.place {
-            Place::Open(link) => link.read(buffer, now),
+            Place::Open(link) => link.read(net, buffer, now),
             Place::Ended(_) => Ok(0),
             Place::Free | Place::Leaving(_, _) => Err(ErrorKind::WouldBlock.into()),
         }
     }
 
     /// Frees the place of a connection whose end was read, or whose last replies are still to be sent.
-    fn end(&mut self, now: u64) -> Polled
-        ensures { result ≡ Polled.FeedEnd }
+    #[tactic(auto, using(crate::proofs::NetLemmas::Sends_nothing))]
+    fn end<N: Net>(&mut self, net: &mut N, now: u64) -> Polled
+        ensures end { result ≡ Polled.FeedEnd }
+        ensures sends { SendsOn (N.told net.old) (N.told net.new) Peer.Feed }
     {
-        match &self.place {
-            Place::Ended(Some(_)) => self.close(now),
-            _ => self.place = Place::Free,
+        if let Place::Ended(Some(_)) = &self.place {
+            self.close(net, now);
+            return Polled::FeedEnd;
         }
+        self.place = Place::Free;
         Polled::FeedEnd
     }
 
     /// What comes of a read that failed: nothing, where there is nothing to be read yet and the connection keeps its place.
-    fn end_unless_waiting(&mut self, now: u64, error: io::Error) -> Polled
-        ensures { (result ≡ Polled.FeedEnd) ⊎ (result ≡ Polled.Nothing) }
+    #[tactic(auto, using(crate::proofs::NetLemmas::Sends_nothing))]
+    fn end_unless_waiting<N: Net>(&mut self, net: &mut N, now: u64, error: io::Error) -> Polled
+        ensures end { (result ≡ Polled.FeedEnd) ⊎ (result ≡ Polled.Nothing) }
+        ensures sends { SendsOn (N.told net.old) (N.told net.new) Peer.Feed }
     {
         if error.kind() != ErrorKind::WouldBlock {
             self.place = Place::Free;
             return Polled::FeedEnd;
         }
-        if self.make_room(now) {
+        if self.make_room(net, now) {
             Polled::FeedEnd
         } else {
             Polled::Nothing
@@ -162,7 +193,10 @@ impl<'a> Feed<'a> {
     }
 
     /// Lets a silent connection give the place to the one that waits, if there are such. Whether it does.
-    fn make_room(&mut self, now: u64) -> bool {
+    #[tactic(auto, using(crate::proofs::NetLemmas::Sends_nothing))]
+    fn make_room<N: Net>(&mut self, net: &mut N, now: u64) -> bool
+        ensures { SendsOn (N.told net.old) (N.told net.new) Peer.Feed }
+    {
         let leave = match &self.place {
             Place::Open(link) if self.waiting.is_some() && now >= link.yields_at() => {
                 if link.is_behind() {
@@ -173,29 +207,50 @@ impl<'a> Feed<'a> {
             }
             _ => return false,
         };
-        self.close_until(now, now.saturating_add(leave));
+        self.close_until(net, now, now.saturating_add(leave));
         true
     }
 
+    /// What a read brought.
+    #[tactic(auto, using(crate::proofs::NetLemmas::Sends_nothing))]
+    fn polled_of<N: Net>(&mut self, net: &mut N, now: u64, read: io::Result<usize>) -> Polled
+        ensures read { IsOfFeed read result }
+        ensures sends { SendsOn (N.told net.old) (N.told net.new) Peer.Feed }
+    {
+        match read {
+            Ok(0) => self.end(net, now),
+            Ok(len) => Polled::Feed { len },
+            Err(error) => self.end_unless_waiting(net, now, error),
+        }
+    }
+
     /// The next piece of the feed, or its end, where one is there.
-    pub(crate) fn poll(&mut self, buffer: &mut [u8], now: u64) -> io::Result<Polled>
+    #[tactic(auto, using(crate::proofs::NetLemmas::Hears_sends, crate::proofs::NetLemmas::Feed_hears, crate::proofs::NetLemmas::Feed_within))]
+    pub(crate) fn poll<N: Net>(
+        &mut self,
+        net: &mut N,
+        buffer: &mut [u8],
+        now: u64,
+    ) -> io::Result<Polled>
+        ensures told { HandsOnOk (N.told net.old) (N.told net.new) buffer.new result }
         ensures within { IfOk result (λ polled. IsWithin polled (length buffer.new)) }
         ensures room { length buffer.new ≡ length buffer.old }
     {
-        self.let_leave(now);
+        self.let_leave(net, now);
         self.receive(now)?;
-        Ok(match self.read(buffer, now) {
-            Ok(0) => self.end(now),
-            Ok(len) => Polled::Feed { len },
-            Err(error) => self.end_unless_waiting(now, error),
-        })
+        let read = self.read(net, buffer, now);
+        Ok(self.polled_of(net, now, read))
     }
 
     /// Sends a reply, or keeps it to be sent. Where neither can be done, the connection has ended: no reply is left out in
     /// between.
-    pub(crate) fn send(&mut self, bytes: &[u8]) -> io::Result<()> {
+    #[tactic(auto, using(crate::proofs::NetLemmas::Sends_nothing))]
+    pub(crate) fn send<N: Net>(&mut self, net: &mut N, bytes: &[u8]) -> io::Result<()>
+        ensures reply { SendsReply (N.told net.old) (N.told net.new) self.old.place self.new.place result bytes.now }
+        ensures sends { SendsOn (N.told net.old) (N.told net.new) Peer.Feed }
+    {
         let answer = match &mut self.place {
-            Place::Open(link) => link.send(bytes),
+            Place::Open(link) => link.send(net, bytes),
             _ => return Err(ErrorKind::NotConnected.into()),
         };
         if let Err(error) = &answer {

@@ -1,6 +1,8 @@
-ghost use Rattle.std.specs.Prelude.{◌≡◌, ◌≤◌, length, IfOk};
+ghost use Rattle.std.specs.Prelude.{◌≡◌, ◌+◌, ◌<◌, [], ◌∷◌, ◌++◌, codes, IfOk};
 
 use crate::cause::Cause;
+use crate::files::Files;
+use crate::longest::{below, longest_file};
 use crate::open_file::{HeldFile, hold};
 use crate::people::People;
 use std::fs::File;
@@ -13,6 +15,9 @@ struct OpenFiles {
     header: HeldFile,
     first_area: HeldFile,
     second_area: HeldFile,
+    ghost first: { header.name.now ≡ codes "nmc.0" },
+    ghost second: { first_area.name.now ≡ codes "nmc.1" },
+    ghost third: { second_area.name.now ≡ codes "nmc.2" },
 }
 
 impl OpenFiles {
@@ -56,7 +61,10 @@ impl OpenFiles {
         Ok(())
     }
 
-    fn held(&self, number: u8) -> &HeldFile {
+    fn held(&self, number: u8) -> &HeldFile
+        requires { number < 3 }
+        ensures { result.now.name.now ≡ codes "nmc." ++ (48 + number) ∷ [] }
+    {
         match number {
             0 => &self.header,
             1 => &self.first_area,
@@ -65,32 +73,30 @@ impl OpenFiles {
     }
 }
 
-/// Reads from a position on until the buffer is full or the file ends, and says how many bytes.
-fn read_on(file: &File, at: u64, buf: &mut [u8]) -> io::Result<usize>
-    ensures { IfOk result (λ n. n ≤ length buf.new) }
+/// People aren't told of a call that a signal interrupted: it is made again.
+fn heard<T>(
+    people: &People<'_>,
+    held: &HeldFile,
+    call: &'static str,
+    answer: io::Result<T>,
+) -> io::Result<T>
+    ensures { result ≡ answer }
 {
-    let mut count = 0;
-    for _ in 0..u64::MAX {
-        if count >= buf.len() {
-            break;
-        }
-        match file.read_at(&mut buf[count..], at.wrapping_add(count as u64)) {
-            Ok(0) => break,
-            Ok(more) => count += more,
-            Err(error) if error.kind() == ErrorKind::Interrupted => {}
-            Err(error) => return Err(error),
-        }
+    match &answer {
+        Err(error) if error.kind() == ErrorKind::Interrupted => answer,
+        _ => people.heard(held.name, call, answer),
     }
-    Ok(count)
 }
 
 /// The files `nmc.0`, `nmc.1` and `nmc.2` of the folder that the program runs in. They are opened where one is
 /// asked for: what needs no file touches none. People are told why a call fails.
 #[derive(Drop)]
-pub(crate) struct Folder<'a> {
+pub struct Folder<'a> {
     rt: &'a HostRuntime,
     people: &'a People<'a>,
     files: Option<OpenFiles>,
+    // what the system allowed when the program started
+    longest: u64,
 }
 
 impl<'a> Folder<'a> {
@@ -100,47 +106,88 @@ impl<'a> Folder<'a> {
             rt,
             people,
             files: None,
+            longest: longest_file(),
         }
     }
 
-    fn held(&mut self, number: u8) -> io::Result<&HeldFile> {
+    /// Opens the files, where none was asked for yet.
+    fn open(&mut self) -> io::Result<()>
+        ensures { self.new.longest ≡ self.old.longest }
+    {
         if self.files.is_none() {
             self.files = Some(OpenFiles::open(self.rt, self.people)?);
         }
+        Ok(())
+    }
+
+    fn held(&self, number: u8) -> io::Result<&HeldFile>
+        requires { number < 3 }
+        ensures { IfOk result (λ held. held.now.name.now ≡ codes "nmc." ++ (48 + number) ∷ []) }
+    {
         match &self.files {
             Some(files) => Ok(files.held(number)),
             None => Err(ErrorKind::NotFound.into()),
         }
     }
+}
 
-    pub(crate) fn len(&mut self, number: u8) -> io::Result<u64> {
-        let people = self.people;
-        self.held(number)?.len(people)
+impl<'a> Files for Folder<'a> {
+    ghost use Rattle.std.specs.Prelude.{false, []};
+    ghost use Rattle.disk_model.specs.FileState.{synced_file};
+    ghost use Rattle.system_io.specs.Silence.{no_telling};
+
+    ghost tells = { false };
+
+    ghost moments = { λ f. record { now = λ file. synced_file []; past = [] } };
+
+    ghost shows = { λ f file told below. no_telling told };
+
+    ghost limit = { λ f. f.longest };
+
+    fn longest(&self) -> u64 {
+        self.longest
     }
 
-    pub(crate) fn read(&mut self, number: u8, at: u64, buf: &mut [u8]) -> io::Result<usize>
-        ensures { IfOk result (λ n. n ≤ length buf.new) }
-    {
+    fn len(&mut self, file: u8) -> io::Result<u64> {
         let people = self.people;
-        let held = self.held(number)?;
-        people.heard(held.name, "read", read_on(&held.file, at, buf))
+        self.open()?;
+        let held = self.held(file)?;
+        held.len(people)
     }
 
-    pub(crate) fn write(&mut self, number: u8, at: u64, bytes: &[u8]) -> io::Result<()> {
+    fn read_part(&mut self, file: u8, at: u64, buf: &mut [u8]) -> io::Result<usize> {
         let people = self.people;
-        let held = self.held(number)?;
-        people.heard(held.name, "write", held.file.write_all_at(bytes, at))
+        self.open()?;
+        let held = self.held(file)?;
+        heard(people, held, "read", held.file.read_at(buf, at))
     }
 
-    pub(crate) fn cut(&mut self, number: u8, len: u64) -> io::Result<()> {
+    fn write_part(&mut self, file: u8, at: u64, bytes: &[u8]) -> io::Result<usize> {
         let people = self.people;
-        let held = self.held(number)?;
-        people.heard(held.name, "cut", held.file.set_len(len))
+        self.open()?;
+        let front = below(bytes, at, self.longest);
+        let held = self.held(file)?;
+        heard(people, held, "write", held.file.write_at(front, at))
     }
 
-    pub(crate) fn sync(&mut self, number: u8) -> io::Result<()> {
+    fn cut(&mut self, file: u8, len: u64) -> io::Result<()> {
         let people = self.people;
-        let held = self.held(number)?;
-        people.heard(held.name, "sync", held.file.sync_data())
+        self.open()?;
+        let held = self.held(file)?;
+        heard(people, held, "cut", held.file.set_len(len))
+    }
+
+    fn sync(&mut self, file: u8) -> io::Result<()> {
+        let people = self.people;
+        self.open()?;
+        let held = self.held(file)?;
+        heard(people, held, "sync", held.file.sync_data())
+    }
+
+    fn tell(&self, file: u8, call: &'static str, error: io::Error) {
+        if let Some(files) = &self.files {
+            let thing = files.held(file).name;
+            self.people.tell(Cause::Failed { thing, call, error });
+        }
     }
 }

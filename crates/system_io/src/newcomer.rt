@@ -1,4 +1,5 @@
-ghost use Rattle.std.specs.Prelude.{◌≡◌, ◌⊎◌, IsTrue};
+ghost use Rattle.std.specs.Prelude.{◌≡◌, ◌⊎◌, ◌↔◌, IsTrue, IsSome, IfOk};
+ghost use Rattle.system_io.specs.declared.newcomer.Verdict.TheVariants.{Taken};
 
 use crate::owner::{Ends, Holder, is_taken};
 use crate::search::{Found, Search, Tables};
@@ -8,11 +9,27 @@ use std::net::{SocketAddr, SocketAddrV4, TcpStream};
 /// A connection that was just made, while it isn't known yet whose it is.
 #[derive(Drop)]
 pub(crate) struct Newcomer {
-    pub(crate) stream: TcpStream,
+    stream: TcpStream,
     ends: Ends,
     search: Search,
     // what a first search found
     first: Option<Holder>,
+    // what is known so far
+    verdict: Verdict,
+}
+
+/// A connection that the door lets in.
+#[derive(Drop)]
+pub(crate) struct Guest {
+    stream: TcpStream,
+    verdict: Verdict,
+    ghost taken: { verdict ≡ Taken },
+}
+
+impl Guest {
+    pub(crate) fn into_stream(self) -> TcpStream {
+        self.stream
+    }
 }
 
 /// Whether a connection is taken.
@@ -47,11 +64,33 @@ impl Newcomer {
             ends,
             search: Search::new(ends),
             first: None,
+            verdict: Verdict::Open,
         })
     }
 
+    /// Lets it in, where that is what looking came to.
+    pub(crate) fn let_in(self) -> Option<Guest>
+        ensures { IsSome result ↔ (self.verdict ≡ Verdict.Taken) }
+    {
+        match self.verdict {
+            Verdict::Taken => Some(Guest {
+                stream: self.stream,
+                verdict: self.verdict,
+            }),
+            _ => None,
+        }
+    }
+
     /// Looks on for a while whose the connection is.
-    pub(crate) fn judge(&mut self, tables: &Tables, own: u32) -> io::Result<Verdict> {
+    pub(crate) fn judge(&mut self, tables: &Tables, own: u32) -> io::Result<Verdict>
+        ensures { IfOk result (λ verdict. self.new.verdict ≡ verdict) }
+    {
+        let verdict = self.look_on(tables, own)?;
+        self.verdict = verdict;
+        Ok(verdict)
+    }
+
+    fn look_on(&mut self, tables: &Tables, own: u32) -> io::Result<Verdict> {
         let holder = match self.search.go_on(tables)? {
             Found::Nothing => return Ok(Verdict::Open),
             Found::Nobody => return Ok(Verdict::Unknown),

@@ -1,3 +1,5 @@
+ghost use Rattle.std.specs.Prelude.{◌≡◌, IfOk};
+
 use crate::cause::Cause;
 use crate::people::People;
 use std::fs::{self, File, OpenOptions, TryLockError};
@@ -88,7 +90,9 @@ pub(crate) fn hold(
     rt: &HostRuntime,
     people: &People<'_>,
     name: &'static str,
-) -> io::Result<HeldFile> {
+) -> io::Result<HeldFile>
+    ensures { IfOk result (λ held. held.name.now ≡ name.now) }
+{
     let (opened, is_new) = open(rt, people, name)?;
     let file = people.heard(name, "open", beyond_streams(opened))?;
     match file.try_lock() {

@@ -12,8 +12,12 @@ const ROOM: usize = 256;
 /// What the program is called where it isn't told its own name.
 const NAME: &str = "jaqhumpi";
 
-/// Those who read standard error at a terminal or in a journal, if they do. They are told what goes on and why it ended, a line
-/// for each thing. Where a program reads it, nothing is told here: its one line is that of the status.
+/// The variable of the environment that is `1` where whoever reads standard error is to be told all.
+const TELLS: &str = "JAQHUMPI_TELLS";
+
+/// Those who read standard error at a terminal or in a journal, or who have asked for it by `JAQHUMPI_TELLS=1`, as for a file or a
+/// container's log. They are told what goes on and why it ended, a line for each thing. Where a program reads it, nothing is told here:
+/// its one line is that of the status.
 #[derive(Drop)]
 pub struct People<'a> {
     rt: &'a HostRuntime,
@@ -25,7 +29,7 @@ impl<'a> People<'a> {
     pub fn of(rt: &'a HostRuntime) -> Self {
         People {
             rt,
-            are_there: rt.stderr().is_terminal() || is_journal(rt),
+            are_there: rt.stderr().is_terminal() || is_asked(rt) || is_journal(rt),
         }
     }
 
@@ -66,6 +70,12 @@ fn own_name<'b>(rt: &impl Env, room: &'b mut [u8; ROOM]) -> &'b str {
         Some(name) if !name.is_empty() => name,
         _ => NAME,
     }
+}
+
+/// Whether the environment asks for all to be told.
+fn is_asked(rt: &impl Env) -> bool {
+    let mut room = [0; ROOM];
+    matches!(rt.var(TELLS, &mut room), Ok(1)) && room[0] == b'1'
 }
 
 /// Whether standard error is the stream that the system's journal made for it: `JOURNAL_STREAM` has its device and its inode,

@@ -1,11 +1,10 @@
 ghost use Rattle.std.specs.Prelude.{◌≡◌, false};
-ghost use Rattle.std.specs.Io.{ReadsAtMost};
-ghost use Rattle.std.specs.Io.KnownBytes.{ReadConsumes};
 
 use crate::people::People;
+use crate::reading::read_once;
 use crate::tally::Tally;
 use byte_io::{Failed, Source};
-use std::io::{self, ErrorKind, Read};
+use std::io::Read;
 
 /// A reader as a source: it counts the reads that failed, tells people why, and tells of its bytes what the reader tells. A read
 /// that a signal interrupted is made again.
@@ -31,27 +30,13 @@ impl<'a, R> ReaderSource<'a, R> {
     }
 }
 
-/// Reads once, but for reads that a signal interrupted.
-fn read_whole<R: Read>(reader: &mut R, buf: &mut [u8]) -> io::Result<usize>
-    ensures bound { ReadsAtMost result buf.new }
-    ensures bytes { ReadConsumes (R.remaining reader.old) (R.remaining reader.new) result buf.new }
-{
-    for _ in 0..u64::MAX {
-        match reader.read(buf) {
-            Err(error) if error.kind() == ErrorKind::Interrupted => {}
-            answer => return answer,
-        }
-    }
-    Err(ErrorKind::Interrupted.into())
-}
-
 impl<'a, R: Read> Source for ReaderSource<'a, R> {
     ghost use Rattle.fault_counts.specs.Counts.{counted};
 
     ghost seen = { λ s. record { left = R.remaining s.reader; faults = counted s.tally.faults; failed = s.tally.failed } };
 
     fn read(&mut self, buf: &mut [u8]) -> Result<usize, Failed> {
-        let answer = read_whole(&mut self.reader, buf);
+        let answer = read_once(&mut self.reader, buf);
         match self.people.heard("standard input", "read", answer) {
             Ok(count) => {
                 self.tally.note_done();

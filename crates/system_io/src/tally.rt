@@ -45,6 +45,7 @@ impl Tally {
     pub(crate) fn count<T, E: Copy>(&mut self, answer: io::Result<T>, failed: E) -> Result<T, E>
         ensures cause { HasCause (counted self.old.faults) (counted self.new.faults) result }
         ensures worked { OnOk result (self.new.failed ≡ false) }
+        ensures none { OnOk result (counted self.new.faults ≡ counted self.old.faults) }
         ensures last { OnErr result (self.new.failed ≡ true) }
         ensures same { IfOk result (λ value. answer ≡ Ok value) }
     {

@@ -1,12 +1,14 @@
 ghost use Rattle.std.specs.Prelude.{◌≡◌, ◌++◌, ◌==◌, [], length, OnOk, OnErr};
-ghost use Rattle.system_io.specs.Unsent.{Moves};
+ghost use Rattle.system_io.specs.Net.{Moves};
 
+use crate::link::Link;
+use crate::net::Net;
 use nmc_base::NoMemory;
 use std::alloc::Global;
-use std::io::{self, ErrorKind, Write};
+use std::io::{self, ErrorKind};
 use std::marker::Model;
 
-/// Bytes that a writer is still to take, in order.
+/// Bytes that a peer is still to take, in order.
 #[derive(Drop)]
 pub(crate) struct Unsent {
     bytes: Vec<u8>,
@@ -24,7 +26,7 @@ impl Model for Unsent {
     ghost invariant = { λ u. u.taken ≤ length u.bytes.items };
 }
 
-/// A writer that takes nothing of what isn't empty has failed.
+/// A connection that takes nothing of what isn't empty has failed.
 fn took_some(count: usize) -> io::Result<bool> {
     if count == 0 {
         return Err(ErrorKind::WriteZero.into());
@@ -62,25 +64,29 @@ impl Unsent {
         Ok(())
     }
 
-    /// Gives what is left to the writer, as much as it takes in one call, and says how much that was.
-    fn write_once<W: Write>(&mut self, writer: &mut W) -> io::Result<usize>
-        ensures { Moves (W.contents writer.old) (W.contents writer.new) self.old self.new }
+    /// Sends what is left over a connection, as much as it takes in one call, and says how much that was.
+    #[tactic(auto, using(crate::proofs::NetLemmas::Moves_failed))]
+    fn write_once<N: Net>(&mut self, net: &mut N, link: &mut Link) -> io::Result<usize>
+        ensures peer { link.new.peer ≡ link.old.peer }
+        ensures moved { Moves (N.told net.old) (N.told net.new) link.old.peer self.old self.new }
     {
         let (_, left) = self.bytes.split_at(self.taken);
-        let count = writer.write(left)?;
+        let count = net.write(link, left)?;
         self.taken += count;
         Ok(count)
     }
 
-    /// Gives what is left to the writer once, and says whether it may take more without a wait.
-    fn send_some<W: Write>(&mut self, writer: &mut W) -> io::Result<bool>
-        ensures { Moves (W.contents writer.old) (W.contents writer.new) self.old self.new }
+    /// Sends what is left once, and says whether the connection may take more without a wait.
+    #[tactic(auto, using(crate::proofs::NetLemmas::Moves_nothing))]
+    fn send_some<N: Net>(&mut self, net: &mut N, link: &mut Link) -> io::Result<bool>
+        ensures peer { link.new.peer ≡ link.old.peer }
+        ensures moved { Moves (N.told net.old) (N.told net.new) link.old.peer self.old self.new }
     {
         if self.is_empty() {
             self.clear();
             return Ok(false);
         }
-        match self.write_once(writer) {
+        match self.write_once(net, link) {
             Ok(count) => took_some(count),
             Err(error) if error.kind() == ErrorKind::Interrupted => Ok(true),
             Err(error) if error.kind() == ErrorKind::WouldBlock => Ok(false),
@@ -88,13 +94,14 @@ impl Unsent {
         }
     }
 
-    /// Gives what is left to the writer, as far as it takes it without a wait.
-    #[tactic(auto, using(crate::proofs::UnsentLemmas::Moves_append, crate::proofs::UnsentLemmas::Moves_nothing))]
-    pub(crate) fn send_on<W: Write>(&mut self, writer: &mut W) -> io::Result<()>
-        ensures { Moves (W.contents writer.old) (W.contents writer.new) self.old self.new }
+    /// Sends what is left, as far as the connection takes it without a wait.
+    #[tactic(auto, using(crate::proofs::NetLemmas::Moves_append, crate::proofs::NetLemmas::Moves_nothing))]
+    pub(crate) fn send_on<N: Net>(&mut self, net: &mut N, link: &mut Link) -> io::Result<()>
+        ensures peer { link.new.peer ≡ link.old.peer }
+        ensures moved { Moves (N.told net.old) (N.told net.new) link.old.peer self.old self.new }
     {
         for _ in 0..u64::MAX {
-            if !self.send_some(writer)? {
+            if !self.send_some(net, link)? {
                 break;
             }
         }

@@ -20,7 +20,7 @@ pub(super) static HEADER: [u8; 59] = [
 ];
 
 /// The host `ns.example.`; None where it would be none of a base.
-fn host() -> Option<Name>
+pub(super) fn host() -> Option<Name>
     ensures { IfSome result (λ name. (text : List ℕ) × IsHostOf text name) }
 {
     let name = absolute_name(b"ns.example.")?;

@@ -1,6 +1,7 @@
 //! A save in slices behind the first block, with the disconnect of it between two slices.
 
 ghost use Rattle.std.specs.Prelude.{◌≡◌, ℕ, ◌+◌, ◌<◌, ◌≤◌, List, length, Bool, IfSome, IsTrue};
+ghost use Rattle.chain_commands.specs.RunState.{longest_area};
 ghost use Rattle.disk_model.specs.Moments.{Files};
 ghost use Rattle.name_store.specs.Stored.{IsOn};
 ghost use Rattle.name_store.specs.declared.slice_steps.TheConstants.{LONGEST_SLICE};
@@ -9,7 +10,7 @@ ghost use Rattle.file_trials.specs.Slices.{IsGoing, GoesOn};
 use super::files::has;
 use super::first_block::FIRST_HASH;
 use super::life::{
-    Answer, BASE_TIP, FIRST_TIP, Found, connect, finds, leaves_either, let_go, look_at, make,
+    Answer, BASE_TIP, FIRST_TIP, Found, connect, finds, gets, leaves_either, let_go, look_at, make,
 };
 use disk_model::Disk;
 use memory_disk::MemoryDisk;
@@ -177,6 +178,52 @@ fn area(alloc: Global) -> Result<Bytes, NoMemory> {
     area.extend(&FIRST_HASH)?;
     area.extend(&[0])?;
     Ok(area)
+}
+
+/// The last slice of a save of this image, of which nothing is written, in an area that has no more bytes than `longest`.
+fn whole_within<D: Disk>(
+    begun: (Store, SlicedDraft),
+    disk: &mut D,
+    image: &[u8],
+    longest: u64,
+) -> SliceOutcome
+    requires going { IsGoing D.tells image.now 0 begun.0 begun.1 (D.seen disk.old).moments.now }
+    requires size { length image.now ≡ 94 }
+    requires longest { longest ≤ longest_area }
+{
+    begun.0.slice_within(disk, begun.1, image, 94, longest)
+}
+
+/// Saves the store of the files in one slice, in an area that has no more bytes than `longest`. Says the number of the save.
+fn save_within<D: Disk>(alloc: Global, disk: &mut D, longest: u64) -> Option<u64>
+    requires { longest ≤ longest_area }
+{
+    match Store::open(alloc, disk) {
+        Ok(store) => {
+            let begun = begin(store, disk, &IMAGE)?;
+            number_of(whole_within(begun, disk, &IMAGE, longest))
+        }
+        Err(_) => None,
+    }
+}
+
+/// The saved area has 103 bytes: it isn't selected where 102 are the most.
+fn ends_within(rt: &impl Abort, alloc: Global, disk: &mut MemoryDisk) {
+    gets(rt, make(disk), Answer::Done(BASE_TIP));
+    gets(rt, connect(alloc, disk), Answer::Done(FIRST_TIP));
+    let number = save_within(alloc, disk, 102);
+    assert!(rt; number.is_none(), "{number:?}");
+    finds(rt, alloc, disk, Found::First);
+    let number = save_within(alloc, disk, 103);
+    assert!(rt; number == Some(1), "{number:?}");
+    finds(rt, alloc, disk, Found::First);
+}
+
+#[test]
+fn a_save_in_slices_has_room_up_to_its_limit(rt: HostRuntime) -> Result<(), Fail> {
+    let mut disk = MemoryDisk::new(rt.alloc(), &[])?;
+    ends_within(&rt, rt.alloc(), &mut disk);
+    Ok(())
 }
 
 /// The numbers of calls, from the first of them to the last, and the two of which a stop after so many calls leaves one.

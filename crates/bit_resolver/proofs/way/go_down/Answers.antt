@@ -47,6 +47,7 @@ loop-left-init g c = (
         at_node live o b c.len-left.result (node_at live o b []) on,
         is_node_by c.top.new.self c.in_ok-of.of _ _ on.is_node (c.in_ok-of.ensures.found o at),
       ),
+  c.in_ok-of.ensures.later.held,
 )
 
 pub loop-left-preserved : goal.loop-left-preserved
@@ -66,6 +67,7 @@ loop-left-preserved g c = (
         at_node live o b next below on,
         is_node_by c.child_at.new.room c.in_ok-of-2.of below _ on.is_node found,
       ),
+  omega (arith, c.loop-left.invariant.3, c.in_ok-of-2.ensures.held),
 )
 
 pub returns-clause-ends : goal.returns-clause-ends

@@ -18,6 +18,7 @@ returns-in-Ok g c =
       synced = c.in-Ok.ensures.synced;
       writes_nothing = record { unchanged = c.in-Ok.ensures.reads; any_moment = c.in-Ok.ensures.time };
       worked = c.in-Ok.ensures.ends.worked;
+      none = c.in-Ok.ensures.ends.none;
       later = c.in-Ok.ensures.ends.later;
     } in
     let old = dump_seen (g.K.Sink.seen c.args.sink.now) before in

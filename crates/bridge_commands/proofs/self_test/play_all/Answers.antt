@@ -29,7 +29,7 @@ returns-in-Err g c = λ start at.
     let after = c.play_next.new.disk in
     let stops = subst (λ (place : Place). PlaysRound tells seen course disk (round_at place.seed place.rounds) after (Err c.in-Err.stop)) c.loop-rounds.invariant.run c.in-Err.ensures.round in
     subst (λ (status : Status). StopsWith tells seen start c.args.trial status) (sym c.stopped.ensures)
-    (stops_so tells seen start c.args.trial course disk at.opened at.begins rounds after c.in-Err.stop (omega (arith, c.loop-rounds-test.true)) (c.loop-rounds.invariant.so_far start at) stops)
+    (stops_so tells seen start c.args.trial course disk at.opened at.begins rounds after c.in-Err.stop c.requires.few (omega (arith, c.loop-rounds-test.true)) (c.loop-rounds.invariant.so_far start at) stops)
 
 pub loop-rounds-preserved : goal.loop-rounds-preserved
 loop-rounds-preserved g c =

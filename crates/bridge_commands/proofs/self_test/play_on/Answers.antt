@@ -19,6 +19,7 @@ returns-in_err-course g c =
       synced = c.in-Ok.ensures.synced;
       writes_nothing = record { unchanged = c.in-Ok.ensures.reads; any_moment = c.in-Ok.ensures.time };
       worked = c.in-Ok.ensures.ends.worked;
+      none = c.in-Ok.ensures.ends.none;
       later = c.in-Ok.ensures.ends.later;
     } in
     let start : Beginning DiskLog = record { before = before; opened = c.open.new.disk; bridge = c.in-Ok.bridge } in
@@ -42,6 +43,7 @@ returns g c =
       synced = c.in-Ok.ensures.synced;
       writes_nothing = record { unchanged = c.in-Ok.ensures.reads; any_moment = c.in-Ok.ensures.time };
       worked = c.in-Ok.ensures.ends.worked;
+      none = c.in-Ok.ensures.ends.none;
       later = c.in-Ok.ensures.ends.later;
     } in
     let start : Beginning DiskLog = record { before = before; opened = c.open.new.disk; bridge = c.in-Ok.bridge } in

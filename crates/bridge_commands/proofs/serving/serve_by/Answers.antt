@@ -37,6 +37,7 @@ returns-in-Ok-bind g c =
       synced = c.in-Ok.ensures.synced;
       writes_nothing = record { unchanged = c.in-Ok.ensures.reads; any_moment = c.in-Ok.ensures.time };
       worked = c.in-Ok.ensures.ends.worked;
+      none = c.in-Ok.ensures.ends.none;
       later = c.in-Ok.ensures.ends.later;
     } in
     let begun : Beginning g.row.D.Denot = record { before = before; opened = c.open.new.disk; bridge = c.in-Ok.bridge } in
@@ -68,6 +69,7 @@ returns-in-Err-bind g c =
       synced = c.in-Ok.ensures.synced;
       writes_nothing = record { unchanged = c.in-Ok.ensures.reads; any_moment = c.in-Ok.ensures.time };
       worked = c.in-Ok.ensures.ends.worked;
+      none = c.in-Ok.ensures.ends.none;
       later = c.in-Ok.ensures.ends.later;
     } in
     let old = serve_seen (g.P.Port.seen c.args.port.now) before in

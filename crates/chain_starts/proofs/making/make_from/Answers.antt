@@ -1,4 +1,4 @@
-use Rattle.std.proofs.Common.{sym, subst}
+use Rattle.std.proofs.Common.{refl, sym, subst}
 use Rattle.fault_counts.proofs.FaultLemmas.{NeverFell_refl}
 use Rattle.chain_starts.specs.Starting.{StartsFrom, unread, stays}
 use Rattle.chain_starts.specs.declared.fault.StartFault.TheVariants.{DiskFault}
@@ -12,7 +12,7 @@ returns-in_err-is_initialised-clause-starts g c = λ name is_host.
     let new = g.D.Disk.seen c.is_initialised.new.disk in
     let source = g.S.Source.seen c.args.source.now in
     subst (StartsFrom g.D.Disk.tells c.args.base.now name c.args.limit old new source source) (sym (the_error c.from_residual.result DiskFault c.from_residual.ensures)) (record {
-      ending = unread c.in_err-is_initialised.ensures.ends.failed (only_looked g.D.Disk.tells old new look.unchanged look.reads look.ends.later);
+      ending = unread c.in_err-is_initialised.ensures.ends.failed (only_looked g.D.Disk.tells old new look.unchanged look.reads look.ends.later) refl;
       others = looked_from g.D.Disk.tells old new look.unchanged look.reads look.ends.later;
       disk_later = look.ends.later;
       source_later = NeverFell_refl source.faults;

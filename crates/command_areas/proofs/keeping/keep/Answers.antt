@@ -17,15 +17,15 @@ returns-in-Ok g c =
     let record_is = c.args.head ∷ c.args.body.now in
     let next = c.args.area + 5 + 1 + length c.args.body.now in
     let on = subst (λ (s : Stand). Appends g.D.Disk.tells s c.append.new.self (c.args.head ∷ []) c.args.body.now old new (Ok c.in-Ok.field-0)) c.at_gate-journal.ensures c.in-Ok.ensures.appends in
-    let did = subst (λ (s : Stand). Appends g.D.Disk.tells (journal_at c.args.file c.args.area) s (c.args.head ∷ []) c.args.body.now old new (Ok c.in-Ok.field-0)) on.ok on in
+    let did = subst (λ (s : Stand). Appends g.D.Disk.tells (journal_at c.args.longest c.args.file c.args.area) s (c.args.head ∷ []) c.args.body.now old new (Ok c.in-Ok.field-0)) on.ok on in
     let fits : length record_is < 2 ^ 32 = omega (arith, c.requires.short) in
     record {
       longer = omega (arith, c.length.ensures, ap (λ (s : Stand). s.length) on.ok);
       settled = λ tells. (did.at_gate tells).settled;
       added = λ tells image records holds.
-          added file c.args.area (file_in old file) (record { settled = c.requires.settled tells; image = image; records = records; holds = holds }) record_is fits next (file_in new file) (omega arith) (did.at_gate tells) (did.text tells);
+          added c.args.longest file c.args.area (file_in old file) (record { settled = c.requires.settled tells; image = image; records = records; holds = holds }) record_is fits next (file_in new file) (omega arith) (did.at_gate tells) (did.text tells);
       any_moment = λ tells image records holds. weaken (KeepsOrAdds file image records record_is old.moments.now)
-          (λ (files : Files) both. either file c.args.area (file_in old file) (record { settled = c.requires.settled tells; image = image; records = records; holds = holds }) record_is fits old.moments.now files both) (did.any_moment tells);
+          (λ (files : Files) both. either c.args.longest file c.args.area (file_in old file) (record { settled = c.requires.settled tells; image = image; records = records; holds = holds }) record_is fits old.moments.now files both) (did.any_moment tells);
       others = λ tells. weaken (LeavesOthers file old.moments.now) (λ (files : Files) so. so.others) (did.any_moment tells);
       ends = search rules;
     }
@@ -43,7 +43,7 @@ returns-in-Err-DiskFault g c =
       settled = search rules;
       added = search rules;
       any_moment = λ tells image records holds. weaken (KeepsOrAdds file image records record_is old.moments.now)
-          (λ (files : Files) both. either file c.args.area (file_in old file) (record { settled = c.requires.settled tells; image = image; records = records; holds = holds }) record_is fits old.moments.now files both) (did.any_moment tells);
+          (λ (files : Files) both. either c.args.longest file c.args.area (file_in old file) (record { settled = c.requires.settled tells; image = image; records = records; holds = holds }) record_is fits old.moments.now files both) (did.any_moment tells);
       others = λ tells. weaken (LeavesOthers file old.moments.now) (λ (files : Files) so. so.others) (did.any_moment tells);
       ends = search rules;
     }

@@ -4,7 +4,7 @@ use Rattle.disk_model.specs.DiskSeen.{bytes_in}
 use Rattle.image_files.specs.Fronts.{behind_length}
 use Rattle.image_files.specs.Reading.{FedAnswer, FeedsImage}
 use Rattle.image_files.proofs.FeedLemmas.{none_fed, fed_same, piece_fault}
-use Rattle.image_files.proofs.OnlyLemmas.{Quiet, as_fault, quiet_start, quiet_of, quiet_then, only_then, only_fault, bytes_same}
+use Rattle.image_files.proofs.OnlyLemmas.{Quiet, as_fault, quiet_start, quiet_of, quiet_then, fault_then, only_fault, bytes_same}
 use Rattle.image_files.proofs.feeding.feed_image.Goals as goal
 
 pub pieces-init : goal.pieces-init
@@ -16,6 +16,7 @@ pieces-init g c =
       total = c.requires.total;
       has_fed = none_fed g.D.Disk.tells (bytes_in (g.D.Disk.seen c.args.disk.now) c.args.file) c.args.loader.now c.requires.none;
       worked = c.requires.worked;
+      none = refl;
       time = quiet.unchanged;
       reads = refl;
       later = quiet.later;
@@ -58,7 +59,7 @@ returns-in_err-fed g c =
           (subst (λ (l : List ℕ). FedAnswer (behind_length c.args.image l) {T = ℕ} (Err fault)) (sym (bytes_same tells old now new quiet c.args.file told))
           (subst (λ (k : ℕ). FedAnswer (behind_length k (bytes_in now c.args.file)) {T = ℕ} (Err fault)) all (c.in_err-fed.ensures.answer told)));
       total = c.feed_piece.ensures.total ∙ kept.total;
-      only = only_fault tells old new fault (only_then tells old now new quiet (Err fault) c.in_err-fed.ensures.only);
+      only = only_fault tells old new fault (fault_then tells old now new quiet fault c.in_err-fed.ensures.only);
     })
 
 pub pieces-preserved : goal.pieces-preserved
@@ -77,6 +78,7 @@ pieces-preserved g c =
       total = c.feed_piece.ensures.total ∙ kept.total;
       has_fed = fed_same tells (bytes_in now c.args.file) (bytes_in old c.args.file) c.feed_piece.new.loader (λ told. sym (bytes_same tells old now new quiet c.args.file told)) more.has_fed;
       worked = c.in_ok-fed.ensures.only.ends.worked;
+      none = c.in_ok-fed.ensures.only.ends.none ∙ kept.none;
       time = both.unchanged;
       reads = both.reads;
       later = both.later;

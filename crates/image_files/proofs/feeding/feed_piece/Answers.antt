@@ -48,5 +48,5 @@ returns g c =
       };
       answer = λ told. tt;
       total = c.feed.ensures.total;
-      only = only_ok tells old new (quiet_call tells old new c.read.result c.read.ensures.time c.read.ensures.call) count c.in_ok-read.ensures.call.ends.worked;
+      only = only_ok tells old new (quiet_call tells old new c.read.result c.read.ensures.time c.read.ensures.call) count c.in_ok-read.ensures.call.ends.worked c.in_ok-read.ensures.call.ends.none;
     }

@@ -1,4 +1,4 @@
-use Rattle.std.proofs.Common.{ℕ, List, length, refl, sym, subst, rules}
+use Rattle.std.proofs.Common.{ℕ, List, length, refl, sym, ◌∙◌, subst, rules}
 use Rattle.disk_model.specs.DiskSeen.{bytes_in}
 use Rattle.disk_model.specs.Reads.{IsRead}
 use Rattle.image_files.specs.Fronts.{LiesInside}
@@ -31,9 +31,9 @@ returns-then-not-lies_inside g c =
     record {
       answer = λ told.
           let file = bytes_in old c.args.file in
-          let not : ¬ (LiesInside image (length file)) = λ lies. cc (c.lies_inside.ensures.1 (subst (λ (k : ℕ). LiesInside image k) (sym (c.in_ok-size.ensures.size told)) lies)) in
+          let not : ¬ (LiesInside c.args.longest image (length file)) = λ lies. cc (c.lies_inside.ensures.1 (subst (λ (k : ℕ). LiesInside c.args.longest image k) (sym (c.in_ok-size.ensures.size told)) lies)) in
           let read = subst (λ (l : List ℕ). IsRead l 0 8 c.in_ok-read.field-0 c.read.new.buf) (sym (bytes_same tells old mid new first c.args.file told)) (c.in_ok-read.ensures.bytes told) in
-          (refl, no_front_read file c.read.new.buf c.in_ok-read.field-0 read c.read.auto.buf image c.length_of-image.ensures.value not);
+          (refl, no_front_read file c.read.new.buf c.in_ok-read.field-0 read c.read.auto.buf image c.length_of-image.ensures.value c.args.longest not);
       short = tt;
       only = only_other tells old new quiet _ (λ same. cc);
     }
@@ -52,8 +52,8 @@ returns g c =
       answer = λ told.
           let file = bytes_in old c.args.file in
           let read = subst (λ (l : List ℕ). IsRead l 0 8 c.in_ok-read.field-0 c.read.new.buf) (sym (bytes_same tells old mid new first c.args.file told)) (c.in_ok-read.ensures.bytes told) in
-          front_read file c.read.new.buf c.in_ok-read.field-0 read c.read.auto.buf image c.length_of-image.ensures.value (subst (λ (k : ℕ). LiesInside image k) (c.in_ok-size.ensures.size told) lies)
+          front_read file c.read.new.buf c.in_ok-read.field-0 read c.read.auto.buf image c.length_of-image.ensures.value c.args.longest (subst (λ (k : ℕ). LiesInside c.args.longest image k) (c.in_ok-size.ensures.size told) lies)
           c.length_of-image.ensures.bytes;
       short = lies.short;
-      only = only_ok tells old new quiet image c.in_ok-read.ensures.call.ends.worked;
+      only = only_ok tells old new quiet image c.in_ok-read.ensures.call.ends.worked (c.in_ok-read.ensures.call.ends.none ∙ c.in_ok-size.ensures.call.ends.none);
     }

@@ -1,4 +1,4 @@
-use Rattle.std.proofs.Common.{arith}
+use Rattle.std.proofs.Common.{arith, refl}
 use Rattle.disk_model.specs.DiskSeen.{bytes_in}
 use Rattle.image_files.proofs.LoadedLemmas.{begins_loaded, begins_at_base, at_base_some, loaded_some, memory_not_disk}
 use Rattle.image_files.proofs.OnlyLemmas.{quiet_start, only_since}
@@ -13,7 +13,7 @@ returns-then-image-eq0 g c =
     record {
       of_text = at_base_some base made.result made.ensures.ok;
       answer = λ told has. begins_at_base base (bytes_in old c.args.file) c.args.image has made.result c.if-image-eq0.true made.ensures.ok made.ensures.err;
-      only = only_since tells old old (quiet_start tells old) made.result c.requires.worked (memory_not_disk made.result made.ensures.err);
+      only = only_since tells old old (quiet_start tells old) made.result c.requires.worked refl (memory_not_disk made.result made.ensures.err);
     }
 
 pub returns : goal.returns

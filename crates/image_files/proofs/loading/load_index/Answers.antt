@@ -33,7 +33,7 @@ returns-in-Ok g c =
       of_text = of_some_text c.args.base.now has.text c.end_loading.result answer;
       answer = λ told.
           subst (λ (text : List ℕ). IndexAnswer c.args.base.now text c.end_loading.result) (has.is_front told ∙ ap (λ (k : ℕ). behind_length k file) c.in-Ok.ensures.all) answer;
-      only = only_since tells old new (quiet_of tells old new c.feed_image.result c.feed_image.ensures.only) c.end_loading.result c.in-Ok.ensures.only.ends.worked c.end_loading.ensures.no_disk;
+      only = only_since tells old new (quiet_of tells old new c.feed_image.result c.feed_image.ensures.only) c.end_loading.result c.in-Ok.ensures.only.ends.worked c.in-Ok.ensures.only.ends.none c.end_loading.ensures.no_disk;
     }
 
 pub returns-in-Err : goal.returns-in-Err

@@ -14,6 +14,7 @@ pieces-init g c = record {
   holds = λ tells image is. is;
   others = λ tells. start (λ other differ. refl);
   later = search rules;
+  none = refl;
 }
 
 pub write_piece-requires-clause-holds : goal.write_piece-requires-clause-holds
@@ -54,4 +55,5 @@ pieces-preserved g c =
           others_then c.args.draft.file (g.D.Disk.seen c.args.disk.now).moments now.moments new.moments (c.pieces.invariant.others tells)
           (subst (λ (file : ℕ). EachMoment (LeavesOthers file now.moments.now) now.moments new.moments) c.pieces.invariant.file (c.write_piece.ensures.others tells));
       later = search rules;
+      none = c.in_ok-write_piece.ensures.ends.none ∙ c.pieces.invariant.none;
     }

@@ -3,7 +3,7 @@ use Rattle.std.specs.Prelude.{IsTrue}
 use Rattle.fault_counts.specs.Faults.{NeverFell}
 use Rattle.disk_model.specs.Moments.{EachMoment}
 use Rattle.disk_model.specs.Changes.{LeavesOthers}
-use Rattle.disk_model.specs.DiskSeen.{bytes_in}
+use Rattle.disk_model.specs.DiskSeen.{NoneFailed, bytes_in}
 use Rattle.image_files.specs.Pieces.{IsDrafted}
 use Rattle.image_files.proofs.pieces.write_pieces.Given as goal
 
@@ -18,6 +18,7 @@ invariant-pieces g l =
       holds : IsTrue g.D.Disk.tells → (image : List ℕ) → IsDrafted image l.fn.draft l.fn.text (bytes_in old l.fn.draft.file) → IsDrafted image l.draft l.text (bytes_in now l.draft.file);
       others : IsTrue g.D.Disk.tells → EachMoment (LeavesOthers l.fn.draft.file old.moments.now) old.moments now.moments;
       later : NeverFell old.faults now.faults;
+      none : NoneFailed old now;
     }
 
 abbrev pub decreases-pieces : goal.decreases-pieces

@@ -1,11 +1,11 @@
-use Rattle.std.proofs.Common.{ℕ, ◌+◌, ◌≤◌, List, length, sym, subst, arith}
+use Rattle.std.proofs.Common.{ℕ, ◌+◌, ◌≤◌, List, length, sym, ◌∙◌, subst, arith}
 use Rattle.std.specs.Prelude.{Ok, Err}
 use Rattle.disk_model.specs.DiskSeen.{bytes_in}
 use Rattle.image_files.specs.Fronts.{HasLength}
 use Rattle.image_files.specs.Reading.{BeginAnswer, ReadsImage}
 use Rattle.image_files.proofs.FrontLemmas.{lies_inside}
 use Rattle.image_files.proofs.LoadedLemmas.{read_from, begin_fault, length_fault}
-use Rattle.image_files.proofs.OnlyLemmas.{as_fault, quiet_of, only_then, only_fault, only_ok, bytes_same, quiet_then}
+use Rattle.image_files.proofs.OnlyLemmas.{as_fault, quiet_of, fault_then, only_fault, only_ok, bytes_same, quiet_then}
 use Rattle.image_files.proofs.reading.read_image.Goals as goal
 
 pub begin_index-requires-clause-inside : goal.begin_index-requires-clause-inside
@@ -46,7 +46,7 @@ returns-in-Ok g c =
           read_from base file image c.in-Ok.chain has
           (subst (λ (l : List ℕ). BeginAnswer base l (Ok c.in-Ok.chain)) (sym same) (c.in-Ok.ensures.answer told (subst (λ (l : List ℕ). HasLength l image) same has)));
       some = record { text = c.in-Ok.ensures.of_text.0; is_index = c.in-Ok.ensures.of_text.1; far = omega arith; near = omega (arith, c.in_ok-image.ensures.short) };
-      only = only_ok tells old new both (c.in-Ok.chain, 8 + image) c.in-Ok.ensures.only.ends.worked;
+      only = only_ok tells old new both (c.in-Ok.chain, 8 + image) c.in-Ok.ensures.only.ends.worked (c.in-Ok.ensures.only.ends.none ∙ c.in_ok-image.ensures.only.ends.none);
     }
 
 pub returns-in-Err : goal.returns-in-Err
@@ -65,5 +65,5 @@ returns-in-Err g c =
           begin_fault base (bytes_in old c.args.file) fault
           (subst (λ (l : List ℕ). BeginAnswer base l (Err fault)) (sym same) (c.in-Err.ensures.answer told (subst (λ (l : List ℕ). HasLength l image) same (c.in_ok-image.ensures.answer told))));
       some = tt;
-      only = only_fault tells old new fault (only_then tells old mid new first (Err fault) c.in-Err.ensures.only);
+      only = only_fault tells old new fault (fault_then tells old mid new first fault c.in-Err.ensures.only);
     }

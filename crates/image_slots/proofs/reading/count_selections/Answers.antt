@@ -17,6 +17,7 @@ selections-init g c =
       time = λ tells. start refl;
       reads = refl;
       later = search rules;
+      none = refl;
     }
 
 pub selections-preserved : goal.selections-preserved
@@ -33,6 +34,7 @@ selections-preserved g c =
       time = λ tells. unchanged_then (c.selections.invariant.time tells) (c.in-Ok.ensures.unchanged tells);
       reads = c.in-Ok.ensures.reads ∙ c.selections.invariant.reads;
       later = search rules;
+      none = c.in-Ok.ensures.ends.none ∙ c.selections.invariant.none;
     }
 
 pub returns-then-not-more : goal.returns-then-not-more

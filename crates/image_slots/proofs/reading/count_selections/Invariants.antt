@@ -3,7 +3,7 @@ use Rattle.std.specs.Prelude.{IsTrue}
 use Rattle.fault_counts.specs.Faults.{NeverFell}
 use Rattle.disk_model.specs.Moments.{EachMoment}
 use Rattle.disk_model.specs.Changes.{Unchanged}
-use Rattle.disk_model.specs.DiskSeen.{bytes_in, file_in}
+use Rattle.disk_model.specs.DiskSeen.{NoneFailed, bytes_in, file_in}
 use Rattle.gate_journal.specs.Stand.{IsReadable}
 use Rattle.image_slots.specs.Selections.{selections_file}
 use Rattle.image_slots.proofs.CountLemmas.{HasCounted}
@@ -19,6 +19,7 @@ invariant-selections g l =
       time : IsTrue g.D.Disk.tells → EachMoment (Unchanged old.moments.now) old.moments now.moments;
       reads : now.changes ≡ old.changes;
       later : NeverFell old.faults now.faults;
+      none : NoneFailed old now;
     }
 
 abbrev pub decreases-selections : goal.decreases-selections

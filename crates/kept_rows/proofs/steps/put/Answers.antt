@@ -3,7 +3,7 @@ use Rattle.std.proofs.lemmas.Result.{on_ok_weaker}
 use Rattle.std.specs.Cmp.Lexicographic.{slice_cmp}
 use Rattle.std.specs.Option.{option_copied}
 use Rattle.std.specs.Ordering.{nat_cmp}
-use Rattle.pin_views.specs.Pairs.{with_pair, without_key}
+use Rattle.shared_chunks.specs.Pairs.{with_pair, without_key}
 use Rattle.pin_views.specs.Rows.{row_of}
 use Rattle.kept_rows.proofs.RowLemmas.{row_set, row_unset, still_fit, set_fits}
 use Rattle.kept_rows.proofs.steps.put.Goals as goal

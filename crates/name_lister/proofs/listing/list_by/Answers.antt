@@ -1,4 +1,4 @@
-use Rattle.std.proofs.Common.{Err, Option, refl, sym, ap, subst}
+use Rattle.std.proofs.Common.{[], Err, Option, refl, sym, ap, subst}
 use Rattle.disk_model.specs.DiskSeen.{bytes_in}
 use Rattle.frame_loop.specs.Transcript.{streams}
 use Rattle.name_store.proofs.FollowLaws.{opens_for}
@@ -7,17 +7,19 @@ use Rattle.bridge_core.specs.Determined.{outside}
 use Rattle.bridge_core.specs.declared.status.Status.{Status}
 use Rattle.bridge_core.proofs.DeterminedLemmas.{streams_loop, streams_unbegun}
 use Rattle.name_lister.specs.Listing.{Lists}
-use Rattle.name_lister.specs.Reached.{with_pages}
+use Rattle.name_lister.specs.Reached.{Ready, Reached, with_pages}
 use Rattle.name_lister.specs.Saving.{IsSavingOn}
+use Rattle.name_lister.specs.declared.lister.ListTurned.{ListTurned}
 use Rattle.name_lister.specs.declared.saving.Saving.{Saving}
 use Rattle.name_lister.proofs.ListLemmas.{lister_answers, begun_at, first_list_reached}
 use Rattle.name_lister.proofs.listing.list_by.Goals as goal
 
 pub follow-ending-requires-clause-ready : goal.follow-ending-requires-clause-ready
-follow-ending-requires-clause-ready g c = λ told. record {
-  store = (c.in-Ok.ensures.answer told).on_disk;
-  saving = subst (λ (saving : Option Saving). IsSavingOn c.in-Ok.lister.bridge.store saving (g.D.Disk.seen c.open.new.disk).moments.now) (sym c.in-Ok.ensures.idle) tt;
-}
+follow-ending-requires-clause-ready g c =
+    subst (λ (turned : ListTurned). Ready g.D.Disk.tells g.D.Disk.seen (turned, c.open.new.disk)) (sym c.new-running.ensures) (λ told. record {
+      store = (c.in-Ok.ensures.answer told).on_disk;
+      saving = subst (λ (saving : Option Saving). IsSavingOn c.in-Ok.lister.bridge.store saving (g.D.Disk.seen c.open.new.disk).moments.now) (sym c.in-Ok.ensures.idle) tt;
+    })
 
 pub returns-in-Ok : goal.returns-in-Ok
 returns-in-Ok g c =
@@ -32,6 +34,7 @@ returns-in-Ok g c =
       synced = c.in-Ok.ensures.synced;
       writes_nothing = record { unchanged = c.in-Ok.ensures.reads; any_moment = c.in-Ok.ensures.time };
       worked = c.in-Ok.ensures.ends.worked;
+      none = c.in-Ok.ensures.ends.none;
       later = c.in-Ok.ensures.ends.later;
     } in
     let old = outside (streams (g.S.Source.seen c.args.source.now) (g.K.Sink.seen c.args.sink.now)) before in
@@ -44,7 +47,8 @@ returns-in-Ok g c =
       how = c.follow-ending.result;
       last = c.follow-ending.new.answerer;
       transcript = c.follow-ending.ensures.transcript (with_pages size (begun_at tells seen size before c.open.new.disk lister))
-          (first_list_reached tells seen size before c.open.new.disk lister o c.in-Ok.ensures.page c.in-Ok.ensures.begins);
+          (subst (λ (turned : ListTurned). Reached tells seen (with_pages size (begun_at tells seen size before c.open.new.disk lister)) [] [] (turned, c.open.new.disk)) (sym c.new-running.ensures)
+          (first_list_reached tells seen size before c.open.new.disk lister o c.in-Ok.ensures.page c.in-Ok.ensures.begins));
       source_later = c.follow-ending.ensures.source_later;
       sink_later = c.follow-ending.ensures.sink_later;
       now = refl;

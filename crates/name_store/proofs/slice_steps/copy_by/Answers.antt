@@ -9,7 +9,7 @@ returns-in_err-read g c = record {
   ok = search rules;
   holds = search rules;
   others = λ tells. quiet_others c.args.draft.now.file (c.read.ensures.time tells);
-  ends = record { later = c.read.ensures.call.ends.later; worked = search rules; failed = search rules };
+  ends = record { later = c.read.ensures.call.ends.later; worked = search rules; none = search rules; failed = search rules };
 }
 
 pub returns : goal.returns
@@ -20,7 +20,7 @@ returns g c =
     let into = c.read.new.buf in
     let same : length into ≡ length c.args.buffer.now = search rules in
     let size : length into ≡ count = same ∙ c.requires.size in
-    copied g.D.Disk.tells c.args.draft.now c.tail.new.self before mid c.read.ensures.time c.read.ensures.call.ends.later count (take count (drop c.args.at (bytes_in before c.args.file))) into
+    copied g.D.Disk.tells c.args.draft.now c.tail.new.self before mid c.read.ensures.time c.read.ensures.call.ends.later c.in_ok-read.ensures.call.ends.none count (take count (drop c.args.at (bytes_in before c.args.file))) into
     (g.D.Disk.seen c.tail.new.disk) c.tail.result size
     (λ tells. read_all (bytes_in before c.args.file) c.args.at count c.in_ok-read.field-0 into
     (subst (λ (n : ℕ). IsRead (bytes_in before c.args.file) c.args.at n c.in_ok-read.field-0 into) c.requires.size (c.in_ok-read.ensures.bytes tells)) (c.requires.inside tells) size) c.tail.ensures

@@ -16,7 +16,7 @@ returns-in_err-write_piece g c = record {
   ok = search rules;
   holds = search rules;
   others = c.write_piece-2.ensures.others;
-  ends = record { later = c.write_piece-2.ensures.ends.later; worked = search rules; failed = search rules };
+  ends = record { later = c.write_piece-2.ensures.ends.later; worked = search rules; none = search rules; failed = search rules };
 }
 
 pub returns : goal.returns

@@ -100,4 +100,4 @@ returns-in_err-make_start-clause-ends g c =
     let d1 = g.D.Disk.seen c.is_initialised.new.disk in
     let d2 = g.D.Disk.seen c.make_start.new.disk in
     as_fault (EndsWith DiskFault d0 d2) c.from_residual-in_err-make_start.result c.in_err-make_start.field-0.0 c.from_residual-in_err-make_start.ensures.1
-    (ends_then d0 d1 d2 (Err c.in_err-make_start.field-0.0) c.is_initialised.ensures.ends.later c.in_err-make_start.ensures.ends)
+    (ends_then d0 d1 d2 c.in_err-make_start.field-0.0 c.is_initialised.ensures.ends.later c.in_err-make_start.ensures.ends)

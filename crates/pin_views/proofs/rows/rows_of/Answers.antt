@@ -1,7 +1,7 @@
 use Rattle.std.proofs.Common.{◌≡◌, arith}
 use Rattle.std.specs.Cmp.Lexicographic.{slice_cmp}
 use Rattle.std.specs.Ordering.{nat_cmp}
-use Rattle.pin_views.specs.Pairs.{with_pair}
+use Rattle.shared_chunks.specs.Pairs.{with_pair}
 use Rattle.pin_views.specs.Rows.{row_of}
 use Rattle.pin_views.proofs.Filling.{past_end, rows_all, rows_next, within_table}
 use Rattle.pin_views.proofs.rows.rows_of.Goals as goal

@@ -11,6 +11,6 @@ returns-in-Begun g c =
       is_draft = answer.is_draft;
       size = size;
       written_is = ap (λ (d : Drafting). d.draft.written) answer.drafting_is;
-      on_disk = c.in-Begun.ensures.leaves.ends.1;
+      on_disk = c.in-Begun.ensures.leaves.ends.2;
       drafted = λ told. c.in-Begun.ensures.leaves.begun told image size;
     }

@@ -15,7 +15,7 @@ goes_on tells image written most store draft piece before after going next (Writ
   is_draft = answer.is_draft;
   size = ap (λ (d : Drafting). d.draft.image) answer.drafting_is ∙ going.size;
   written_is = ap (λ (d : Drafting). d.draft.written) answer.drafting_is ∙ ap (λ (n : ℕ). n + most) going.written_is;
-  on_disk = leaves.ends.1;
+  on_disk = leaves.ends.2;
   drafted = λ told. leaves.written told image (going.drafted told) next;
 }
 goes_on tells image written most store draft piece before after going next (Selected new number) answer leaves = tt

@@ -1,7 +1,9 @@
-use Rattle.std.proofs.Common.{take, subst}
+use Rattle.std.proofs.Common.{Some, take, subst}
 use Rattle.dns_message.specs.Query.{query_of}
+use Rattle.dns_message.specs.Reading.{reading_of}
 use Rattle.bit_resolver.specs.Replies.{told}
 use Rattle.kept_answers.specs.Answering.{AnswersQuestion}
+use Rattle.kept_answers.proofs.HoldingLemmas.{held_or_missed}
 use Rattle.kept_answers.proofs.MessageLemmas.{by_question, by_names}
 use Rattle.kept_answers.proofs.answers.Answers.answer.Goals as goal
 
@@ -16,3 +18,13 @@ returns-in-Some-clause-message g c =
 pub returns-clause-message : goal.returns-clause-message
 returns-clause-message g c =
     by_names (g.N.Names.served c.args.names.now) c.args.zone.now c.args.transport c.args.message.now (told c.answer.result c.answer.new.buffer) c.args.self.now c.in_default.ensures.none c.answer.ensures.reply
+
+pub returns-in-Some-clause-held : goal.returns-in-Some-clause-held
+returns-in-Some-clause-held g c =
+    held_or_missed c.args.self.now c.reply.new.self (g.N.Names.served c.args.names.now) c.args.zone.now c.args.transport (reading_of c.args.message.now)
+    (Some (take c.reply.result c.reply.new.buffer)) (returns-in-Some-clause-message g c).keeps
+
+pub returns-clause-held : goal.returns-clause-held
+returns-clause-held g c =
+    held_or_missed c.args.self.now c.args.self.now (g.N.Names.served c.args.names.now) c.args.zone.now c.args.transport (reading_of c.args.message.now)
+    (told c.answer.result c.answer.new.buffer) (returns-clause-message g c).keeps

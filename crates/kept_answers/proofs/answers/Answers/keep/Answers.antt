@@ -1,9 +1,9 @@
-use Rattle.std.proofs.Common.{◌≡◌, ℕ, ◌≤◌, ◌<◌, List, ◌++◌, length, OnOk, refl, sym, subst, arith}
+use Rattle.std.proofs.Common.{◌≡◌, ℕ, ◌≤◌, ◌<◌, List, ◌++◌, length, OnOk, sym, ap, subst, arith}
 use Rattle.dns_message.specs.Query.{query_of}
 use Rattle.answer_cache.specs.Cached.{behind_put}
 use Rattle.answer_cache.specs.Keys.{key_of}
 use Rattle.answer_cache.specs.declared.cache_key.CacheKey.{CacheKey}
-use Rattle.kept_answers.specs.Answering.{Answering, Stores}
+use Rattle.kept_answers.specs.Answering.{Answering, Stores, with_cache}
 use Rattle.kept_answers.specs.Answering.Stores.{long}
 use Rattle.kept_answers.specs.Whole.{IsWhole}
 use Rattle.kept_answers.specs.declared.limits.TheConstants.{LONGEST_KEPT}
@@ -32,4 +32,8 @@ returns-then-kept-le-LONGEST_KEPT c = λ k is e.
 
 pub returns-else-kept-le-LONGEST_KEPT : goal.returns-else-kept-le-LONGEST_KEPT
 returns-else-kept-le-LONGEST_KEPT c = λ k is e.
-    long (subst (λ (records : List ℕ). LONGEST_KEPT < length records) (c.keep-kept.ensures.records k e) (omega (arith, c.if-kept-le-LONGEST_KEPT.false))) refl
+    let key = key_of c.args.key in
+    let new = c.miss.new.self in
+    let many = subst (λ (records : List ℕ). LONGEST_KEPT < length records) (c.keep-kept.ensures.records k e) (omega (arith, c.if-kept-le-LONGEST_KEPT.false)) in
+    subst (λ (old : Answering). Stores key k old (record { cache = new; accepted = c.self.inside.accepted })) c.self.view_is
+    (long many (ap (with_cache (record { cache = c.self.inside.cache; accepted = c.self.inside.accepted })) c.miss.ensures))

@@ -33,11 +33,11 @@ returns-in-Answer-clause-answers g c =
     let stores = c.keep.ensures kept fits (c.in-Answer.ensures.text ∙ answer_kept live zone c.args.limit q) in
     by_answer live zone c.args.limit q old c.requires.looked_for (take c.in-Answer.size c.reply_to_question.new.buffer) c.keep.new.self
     (subst (λ (key : CacheKey). held key old.cache ≡ None) c.key-key.ensures.key none.0) c.in-Answer.ensures.text
-    (subst (λ (before : Answering). Stores (key_for old.accepted c.args.limit q) kept before c.keep.new.self) none.1 (subst (λ (key : CacheKey). Stores key kept c.give_kept.new.self c.keep.new.self) c.key-key.ensures.key stores))
+    (subst (λ (before : Answering). Stores (key_for old.accepted c.args.limit q) kept before c.keep.new.self) (c.self.view_is ∙ none.1) (subst (λ (key : CacheKey). Stores key kept (record { cache = c.self.inside.cache; accepted = c.self.inside.accepted }) c.keep.new.self) c.key-key.ensures.key stores))
 
 pub returns-in-Failure-clause-answers : goal.returns-in-Failure-clause-answers
 returns-in-Failure-clause-answers g c =
     let none = c.in_default.ensures.none in
     by_failure (g.N.Names.served c.args.names.now) c.args.zone.now c.args.limit (query_of c.args.asked.now) c.args.self.now c.requires.looked_for
-    (take c.in-Failure.size c.reply_to_question.new.buffer) c.give_kept.new.self
-    (subst (λ (key : CacheKey). held key c.args.self.now.cache ≡ None) c.key-key.ensures.key none.0) c.in-Failure.ensures.text none.1
+    (take c.in-Failure.size c.reply_to_question.new.buffer) (record { cache = c.self.inside.cache; accepted = c.self.inside.accepted })
+    (subst (λ (key : CacheKey). held key c.args.self.now.cache ≡ None) c.key-key.ensures.key none.0) c.in-Failure.ensures.text (c.self.view_is ∙ none.1)

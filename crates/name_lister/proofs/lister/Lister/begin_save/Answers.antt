@@ -18,7 +18,7 @@ returns-then-is_some g c =
     let old = c.args.self in
     let some : IsTrue (is_some old.saving) = subst (λ (o : Listed). IsTrue (is_some o.saving)) c.self.view_is (sym c.is_some.ensures ∙ c.if-is_some.true) in
     subst (λ (r : Reply). AnswersList g.D.Disk.tells g.D.Disk.seen old c.args.disk.now Begin r (On old) c.args.disk.now) (sym c.refuse_running.ensures)
-    (begin_aside g.D.Disk.tells g.D.Disk.seen old c.args.disk.now c.requires.on_disk running_reply (λ is. omega (arith, is)) (λ state s. begins_while_one_runs state.run old.saving state.saver some s.saving))
+    (begin_aside g.D.Disk.tells g.D.Disk.seen old c.args.disk.now c.requires.on_disk running_reply (λ is. omega (arith, is), λ is. omega (arith, is)) (λ state s. begins_while_one_runs state.run old.saving state.saver some s.saving))
 
 pub returns-then-selections : goal.returns-then-selections
 returns-then-selections g c =
@@ -26,7 +26,7 @@ returns-then-selections g c =
     let none : IsFalse (is_some old.saving) = subst (λ (o : Listed). IsFalse (is_some o.saving)) c.self.view_is (sym c.is_some.ensures ∙ c.if-is_some.false) in
     let many : most_selections ≤ old.bridge.store.slots.count = subst (λ (o : Listed). most_selections ≤ o.bridge.store.slots.count) c.self.view_is (omega (arith, c.selections.ensures, c.if-selections.true)) in
     subst (λ (r : Reply). AnswersList g.D.Disk.tells g.D.Disk.seen old c.args.disk.now Begin r (On old) c.args.disk.now) (sym c.refuse_save.ensures)
-    (begin_aside g.D.Disk.tells g.D.Disk.seen old c.args.disk.now c.requires.on_disk (save_refusal_reply CheckpointLimit) (λ is. omega (arith, is)) (λ state s. begins_at_limit old (no_saving old.saving none) state s many))
+    (begin_aside g.D.Disk.tells g.D.Disk.seen old c.args.disk.now c.requires.on_disk (save_refusal_reply CheckpointLimit) (λ is. omega (arith, is), λ is. omega (arith, is)) (λ state s. begins_at_limit old (no_saving old.saving none) state s many))
 
 pub returns-in-Err : goal.returns-in-Err
 returns-in-Err g c =
@@ -35,4 +35,4 @@ returns-in-Err g c =
     let few : old.bridge.store.slots.count < most_selections =
     subst (λ (o : Listed). o.bridge.store.slots.count < most_selections) c.self.view_is (omega (arith, c.selections.ensures, c.selections.type_inv, c.if-selections.false)) in
     subst (λ (r : Reply). AnswersList g.D.Disk.tells g.D.Disk.seen old c.args.disk.now Begin r (On old) c.args.disk.now) (sym c.lack_memory.ensures)
-    (begin_aside g.D.Disk.tells g.D.Disk.seen old c.args.disk.now c.requires.on_disk no_memory_reply (λ is. omega (arith, is)) (λ state s. begins_without_memory old (no_saving old.saving none) state s few))
+    (begin_aside g.D.Disk.tells g.D.Disk.seen old c.args.disk.now c.requires.on_disk no_memory_reply (λ is. omega (arith, is), λ is. omega (arith, is)) (λ state s. begins_without_memory old (no_saving old.saving none) state s few))

@@ -2,13 +2,13 @@ use Rattle.std.proofs.Common.{refl, sym, subst, arith}
 use Rattle.std.specs.Prelude.{IsTrue}
 use Rattle.chain_state.specs.Chain.{Indexed}
 use Rattle.chain_commands.specs.Event.{Disconnect, Do}
+use Rattle.kept_rows.specs.Rows.{names_before, names_now}
 use Rattle.name_lister.specs.Answers.{AnswersList}
 use Rattle.name_lister.specs.Costs.{IsCheapListed}
 use Rattle.name_lister.specs.Event.{Plain}
-use Rattle.name_lister.specs.Kept.{AreViewsBefore, AreViewsNow}
+use Rattle.name_lister.specs.Kept.{AreRowsBy}
 use Rattle.name_lister.specs.Lister.{Listed, listed, IsListOn}
 use Rattle.name_lister.specs.declared.lister.ListTurned.TheVariants.{On, Ended}
-use Rattle.name_lister.specs.declared.views.Views.{Views}
 use Rattle.name_lister.proofs.SaverLemmas.{asked_command}
 use Rattle.name_lister.proofs.StayLemmas.{stays_of, stays_on}
 use Rattle.name_lister.proofs.TurnLemmas.{plain_on, plain_ended, disconnected_views}
@@ -26,12 +26,12 @@ returns-in-On-clause-answers g c =
     let old = listed inside.bridge inside.views inside.sessions inside.page inside.saving in
     let new = listed c.in-On.bridge views inside.sessions inside.page inside.saving in
     let on : IsTrue tells → IsListOn old (seen c.args.disk.now).moments.now = subst (λ (o : Listed). IsTrue tells → IsListOn o (seen c.args.disk.now).moments.now) (sym c.self.view_is) c.requires.on_disk in
-    let prepared : AreViewsNow index inside.views → AreViewsBefore index c.prepared-before.result =
-    subst (λ (i : Indexed). AreViewsNow i inside.views → AreViewsBefore i c.prepared-before.result) c.chain.ensures c.prepared-before.ensures in
+    let prepared : AreRowsBy (names_now index) inside.views.rows → AreRowsBy (names_before index) c.prepared-before.result =
+    subst (λ (i : Indexed). AreRowsBy (names_now i) inside.views.rows → AreRowsBy (names_before i) c.prepared-before.result) c.chain.ensures c.prepared-before.ensures in
     subst (λ (o : Listed). AnswersList tells seen o c.args.disk.now (Plain (Do (Disconnect hash))) reply (On new) c.turn.new.disk) c.self.view_is
     (plain_on tells seen old c.args.disk.now c.turn.new.disk (Do (Disconnect hash)) reply new (asked_command inside.saving (Disconnect hash)) c.in-On.ensures.answers
     (disconnected_views old new reply hash
-    (λ is_zero are. subst (λ (v : Views). AreViewsBefore index v) (sym (c.behind_disconnect-views.ensures.done is_zero)) (prepared are))
+    (λ is_zero are. c.behind_disconnect-views.ensures.done is_zero index (prepared are.rows) are)
     c.behind_disconnect-views.ensures.same)
     (record {
       held = refl;

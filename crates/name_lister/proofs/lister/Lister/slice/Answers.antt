@@ -13,8 +13,8 @@ use Rattle.name_lister.proofs.BeginLemmas.{slice_aside, slices_while_none_runs}
 use Rattle.name_lister.proofs.SliceLemmas.{KeepsSaving, behind_slice, slice_keeps, slice_told}
 use Rattle.name_lister.proofs.lister.Lister.slice.Goals as goal
 
-pub returns-in_default : goal.returns-in_default
-returns-in_default g c =
+pub returns-in_default-clause-answers : goal.returns-in_default-clause-answers
+returns-in_default-clause-answers g c =
     let tells = g.D.Disk.tells in
     let seen = g.D.Disk.seen in
     let disk = c.args.disk.now in
@@ -24,10 +24,10 @@ returns-in_default g c =
     let on : IsTrue tells → IsListOn old (seen disk).moments.now = subst (λ (o : Listed). IsTrue tells → IsListOn o (seen disk).moments.now) (sym is) c.requires.on_disk in
     subst (λ (r : Reply). AnswersList tells seen c.args.self disk (Slice c.args.asked) r (On old) disk) (sym c.refuse_idle.ensures)
     (subst (λ (o : Listed). AnswersList tells seen o disk (Slice c.args.asked) no_save_reply (On old) disk) is
-    (slice_aside tells seen old disk on no_save_reply (λ e. omega (arith, e)) c.args.asked (λ state s. slices_while_none_runs (slice_size c.args.asked) state.run None state.saver refl s.saving)))
+    (slice_aside tells seen old disk on no_save_reply (λ e. omega (arith, e), λ e. omega (arith, e)) c.args.asked (λ state s. slices_while_none_runs (slice_size c.args.asked) state.run None state.saver refl s.saving)))
 
-pub returns-in-None : goal.returns-in-None
-returns-in-None g c =
+pub returns-in-None-clause-answers : goal.returns-in-None-clause-answers
+returns-in-None-clause-answers g c =
     let tells = g.D.Disk.tells in
     let seen = g.D.Disk.seen in
     let before = c.args.disk.now in
@@ -45,8 +45,8 @@ returns-in-None g c =
     (subst (λ (r : Reply). AnswersList tells seen old before (Slice c.args.asked) r (behind_slice old (left_by turned rest)) after) (sym c.tell_slice.ensures.told)
     (slice_told tells seen old before after on saving c.in-Some.is c.args.asked rest of turned writes)))
 
-pub returns-in-Some-tell_slice : goal.returns-in-Some-tell_slice
-returns-in-Some-tell_slice g c =
+pub returns-in-Some-tell_slice-clause-answers : goal.returns-in-Some-tell_slice-clause-answers
+returns-in-Some-tell_slice-clause-answers g c =
     let tells = g.D.Disk.tells in
     let seen = g.D.Disk.seen in
     let before = c.args.disk.now in

@@ -67,7 +67,7 @@ returns-in-Err-clause-kept g c =
     let old : Stored = record { index = c.self.inside.chain; host = c.self.inside.host; slots = c.self.inside.slots; area = c.self.inside.area } in
     let long : length c.args.hash.0 ≡ 32 = search rules in
     subst (λ (x : Stored). KeepsOn g.D.Disk.tells x (Adds (Disconnect c.args.hash.0)) before after Faulted) c.self.view_is
-    (keeps_faulted (a_hash c.args.hash.0 long old c.in-StagedBack.staged c.in-StagedBack.ensures.stages) g.D.Disk.tells before after c.keep.result
+    (keeps_faulted (a_hash longest_area (omega arith) c.args.hash.0 long old c.in-StagedBack.staged c.in-StagedBack.ensures.stages) g.D.Disk.tells before after c.keep.result
     (λ told. subst (λ (x : Stored). IsOn x before.moments.now) (sym c.self.view_is) (c.requires.on_disk told))
     (subst (λ (f : ℕ). Keeps g.D.Disk.tells f c.self.inside.area (2 ∷ c.args.hash.0) before after c.keep.result) c.selected-file.ensures c.keep.ensures))
 
@@ -78,7 +78,7 @@ returns-in-Ok-clause-disconnects g c =
     let long : length c.args.hash.0 ≡ 32 = search rules in
     let longer : c.in-Ok.area ≡ c.self.inside.area + 38 = omega (arith, c.in-Ok.ensures.longer) in
     subst (λ r. Disconnects longest_area c.args.self c.args.hash.0 r) (sym {b = Done new c.commit.result.tip} c.done.ensures) (subst (λ (x : Stored). Disconnects longest_area x c.args.hash.0 (Done new c.commit.result.tip)) c.self.view_is
-    (λ run s. answers_done (a_hash c.args.hash.0 long old c.in-StagedBack.staged c.in-StagedBack.ensures.stages) back_refusal_of new (record { commits = c.commit.ensures.disconnected; host = refl; slots = refl; area = longer }) run s))
+    (λ run s. answers_done (a_hash longest_area (omega arith) c.args.hash.0 long old c.in-StagedBack.staged c.in-StagedBack.ensures.stages) back_refusal_of new (record { commits = c.commit.ensures.disconnected; host = refl; slots = refl; area = longer }) run s))
 
 pub returns-in-Ok-clause-leaves : goal.returns-in-Ok-clause-leaves
 returns-in-Ok-clause-leaves g c =
@@ -101,7 +101,7 @@ returns-in-Ok-clause-kept g c =
     let long : length c.args.hash.0 ≡ 32 = search rules in
     subst (λ r. KeepsOn g.D.Disk.tells c.args.self (Adds (Disconnect c.args.hash.0)) before after r) (sym {b = Done new c.commit.result.tip} c.done.ensures)
     (subst (λ (x : Stored). KeepsOn g.D.Disk.tells x (Adds (Disconnect c.args.hash.0)) before after (Done new c.commit.result.tip)) c.self.view_is
-    (keeps_done (a_hash c.args.hash.0 long old c.in-StagedBack.staged c.in-StagedBack.ensures.stages) g.D.Disk.tells before after new new.index.tip
+    (keeps_done (a_hash longest_area (omega arith) c.args.hash.0 long old c.in-StagedBack.staged c.in-StagedBack.ensures.stages) g.D.Disk.tells before after new new.index.tip
     (λ told. subst (λ (x : Stored). IsOn x before.moments.now) (sym c.self.view_is) (c.requires.on_disk told)) (subst (λ (f : ℕ). Keeps g.D.Disk.tells f c.self.inside.area (2 ∷ c.args.hash.0) before after (Ok c.in-Ok.area)) c.selected-file.ensures c.in-Ok.ensures)))
 
 pub returns-in-Ok-clause-on_index : goal.returns-in-Ok-clause-on_index

@@ -68,6 +68,7 @@ pub returns-in-Ok-read_area-clause-ends : goal.returns-in-Ok-read_area-clause-en
 returns-in-Ok-read_area-clause-ends g c = record {
   later = never_fell (never_fell c.read_header.ensures.ends.later c.open.ensures.ends.later) c.read_area.ensures.ends.later;
   worked = c.in-Ok-read_area.ensures.ends.worked;
+  none = c.in-Ok-read_area.ensures.ends.none ∙ (c.in-Ok-open.ensures.ends.none ∙ c.in-Ok.ensures.ends.none);
   failed = search rules;
 }
 

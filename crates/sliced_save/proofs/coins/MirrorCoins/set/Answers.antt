@@ -1,7 +1,7 @@
 use Rattle.std.proofs.Common.{◌≡◌, Some, sym, ap, ◌∙◌}
 use Rattle.nmc_base.specs.Hash.{outpoint_cmp}
 use Rattle.chain_names.specs.Points.{same_point, changed}
-use Rattle.pin_views.specs.Pairs.{with_pair}
+use Rattle.shared_chunks.specs.Pairs.{with_pair}
 use Rattle.sliced_save.specs.Lengths.{held_weight}
 use Rattle.sliced_save.specs.Mirror.{CoinPairs, coin_at}
 use Rattle.sliced_save.proofs.CoinLemmas.{coin_set, coins_set}

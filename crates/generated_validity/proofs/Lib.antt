@@ -1,0 +1,16 @@
+pub mod Names
+pub mod Verdicts
+pub mod Coins
+pub mod Keeping
+pub mod Makings
+pub mod Parts
+pub mod Logs
+pub mod Deeds
+pub mod Blocks
+pub mod Chains
+pub mod Validity
+pub mod Records
+pub mod Images
+pub mod Areas
+pub mod Refusals
+pub mod Rounds

@@ -1,0 +1,5 @@
+pub mod Carried
+pub mod Agreeing
+pub mod Blocks
+pub mod Causes
+pub mod Lengths

@@ -1,0 +1,9 @@
+use Rattle.import_expand.proofs.BookLemmas.{keeps_both, shown_keeps}
+use Rattle.std.proofs.Common.{refl}
+use Rattle.import_expand.proofs.book.Book.list_labels_of.Goals as goal
+
+pub returns-in_err-resize-clause-keeps : goal.returns-in_err-resize-clause-keeps
+returns-in_err-resize-clause-keeps c = keeps_both c.args.self.now c.mark_labels_of.new.self _ c.in_ok-listed.ensures.keeps (shown_keeps c.mark_labels_of.new.self _ (record { objects = refl; names = refl; entries = refl; links = refl; expanded = refl; held = refl }))
+
+pub returns-clause-keeps : goal.returns-clause-keeps
+returns-clause-keeps c = keeps_both c.args.self.now c.mark_labels_of.new.self _ c.in_ok-listed.ensures.keeps (shown_keeps c.mark_labels_of.new.self _ (record { objects = refl; names = refl; entries = refl; links = refl; expanded = refl; held = refl }))

@@ -1,0 +1,12 @@
+use Rattle.std.proofs.Common.{sym, ◌∙◌}
+use Rattle.ifa_value.specs.Object.{members}
+use Rattle.import_expand.proofs.LabelLemmas.{no_entry}
+use Rattle.import_expand.proofs.marked.Marked.list_labels.Goals as goal
+
+pub invariant_of-self : goal.invariant_of-self
+invariant_of-self c = record {
+  is_ns = c.args.self.now.is_ns;
+  is_translate = c.args.self.now.is_translate;
+  is_map = c.args.self.now.is_map;
+  are_labels = λ label no. no_entry label (members c.args.self.now.object) (sym (c.in_ok-labels.ensures label) ∙ no);
+}

@@ -1,0 +1,57 @@
+//! The JSON that is held for one message, counted in bytes.
+
+ghost use Rattle.std.specs.Prelude.{◌≡◌, ◌+◌, ◌<◌, ◌≤◌, length, IfOk, IfErr, OnOk};
+ghost use Rattle.ifa_value.specs.Object.{members};
+ghost use Rattle.ifa_value.specs.Values.{object_of};
+ghost use Rattle.import_expand.specs.Costs.{entry_size};
+ghost use Rattle.import_expand.specs.declared.exhausted.Exhausted.TheVariants.{Held as OfHeld};
+ghost use Rattle.import_expand.specs.declared.limits.TheConstants.{MOST_HELD as GREATEST};
+
+use crate::exhausted::Exhausted;
+use crate::limits::MOST_HELD;
+use ifa_value::{IfaObject, read_value};
+use std::alloc::Global;
+
+/// The bytes of the values that were read and of the entries that were taken out of them.
+#[derive(Drop)]
+pub(crate) struct Held {
+    pub(crate) count: usize,
+    ghost few: { count ≤ GREATEST },
+}
+
+impl Held {
+    pub(crate) fn none() -> Held
+        ensures { result.count ≡ 0 }
+    {
+        Held { count: 0 }
+    }
+
+    /// Reads a value, and counts its bytes.
+    pub(crate) fn read(&mut self, alloc: Global, value: &[u8]) -> Result<IfaObject, Exhausted>
+        ensures object { IfOk result (λ object. members object ≡ object_of value.now) }
+        ensures counted { OnOk result (self.new.count ≡ self.old.count + length value.now) }
+        // A value is refused where its bytes don't fit, and only there.
+        ensures refused { IfErr result (λ e. e ≡ OfHeld → GREATEST < self.new.count + length value.now) }
+    {
+        if value.len() > MOST_HELD - self.count {
+            return Err(Exhausted::Held);
+        }
+        self.count += value.len();
+        let object = read_value(alloc, value)?;
+        Ok(object)
+    }
+
+    /// Counts an entry.
+    pub(crate) fn take(&mut self, entry: &IfaObject) -> Result<(), Exhausted>
+        ensures counted { OnOk result (self.new.count ≡ self.old.count + entry_size (members entry.now)) }
+        // It is refused where it doesn't fit, and only there.
+        ensures refused { IfErr result (λ e. e ≡ OfHeld → GREATEST < self.new.count + entry_size (members entry.now)) }
+    {
+        let rest = entry.left_of(MOST_HELD - self.count + 1).saturating_sub(2);
+        if rest == 0 {
+            return Err(Exhausted::Held);
+        }
+        self.count = MOST_HELD + 1 - rest;
+        Ok(())
+    }
+}

@@ -1,0 +1,7 @@
+pub mod Between
+pub mod ByResult
+pub mod Found
+pub mod Lookups
+pub mod Order
+pub mod Parts
+pub mod Places

@@ -1,3 +1,0 @@
-pub mod Fewest
-pub mod Nodes
-pub mod Shape
