@@ -19,8 +19,8 @@ use Rattle.chain_commands.specs.Saving.{IsTextOf, longest_image}
 use Rattle.name_snapshot.specs.Answers.{HasStart}
 use Rattle.name_snapshot.specs.Text.{start_of}
 use Rattle.name_snapshot.proofs.LengthLemmas.{image_short}
-use Rattle.snapshot_feed.specs.Answers.{ReadsSnapshot}
-use Rattle.snapshot_feed.specs.declared.fault.FeedFault.{FeedFault}
+use Rattle.name_snapshot.specs.SourceAnswers.{ReadsSnapshot}
+use Rattle.name_snapshot.specs.declared.feed_fault.FeedFault.{FeedFault}
 use Rattle.disk_model.specs.Moments.{Files, EachMoment, start as at_once}
 use Rattle.disk_model.specs.Changes.{Unchanged, LeavesFrom}
 use Rattle.disk_model.specs.DiskSeen.{DiskSeen, HasFailed, bytes_in}

@@ -9,9 +9,9 @@ use Rattle.name_tables.specs.declared.parts.Parts.{Parts}
 use Rattle.name_snapshot.specs.Answers.{HasStart}
 use Rattle.name_snapshot.specs.Makes.{IsSnapshot}
 use Rattle.name_snapshot.specs.Text.{StartMake, start_of}
-use Rattle.snapshot_feed.specs.Answers.{IsReadOut, ReadsSnapshot}
-use Rattle.snapshot_feed.specs.declared.fault.FeedFault.{FeedFault}
-use Rattle.snapshot_feed.specs.declared.fault.FeedFault.TheVariants as feeds
+use Rattle.name_snapshot.specs.SourceAnswers.{IsReadOut, ReadsSnapshot}
+use Rattle.name_snapshot.specs.declared.feed_fault.FeedFault.{FeedFault}
+use Rattle.name_snapshot.specs.declared.feed_fault.FeedFault.TheVariants as feeds
 use Rattle.disk_model.specs.Moments.{EachMoment}
 use Rattle.disk_model.specs.Changes.{LeavesFrom}
 use Rattle.disk_model.specs.DiskSeen.{DiskSeen, HasFailed, EndsWith, file_in, bytes_in}

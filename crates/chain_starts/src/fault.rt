@@ -2,8 +2,8 @@ ghost use Rattle.std.specs.Prelude.{◌≡◌};
 ghost use Rattle.chain_starts.specs.Starting.{fault_of_feed, fault_of_making};
 
 use disk_model::Failed;
+use name_snapshot::FeedFault;
 use name_store::CreateFromFault;
-use snapshot_feed::FeedFault;
 
 /// Why no files were made of a snapshot.
 #[derive(Clone, Copy, Debug, PartialEq, Eq)]

@@ -11,10 +11,10 @@ use crate::fault::StartFault;
 use byte_io::Source;
 use disk_model::Disk;
 use domain_text::Name;
+use name_snapshot::read_snapshot;
 use name_store::{CreateFromFault, create_from, is_initialised};
 use name_tables::Parts;
 use nmc_base::{Base, Hash32};
-use snapshot_feed::read_snapshot;
 use state_image::let_go;
 use std::alloc::Global;
 

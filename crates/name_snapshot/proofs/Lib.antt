@@ -10,3 +10,6 @@ pub mod FeedLemmas
 pub mod BeginLemmas
 pub mod RowLemmas
 pub mod LengthLemmas
+pub mod PieceLemmas
+pub mod PlaceLemmas
+pub mod AgreeLemmas

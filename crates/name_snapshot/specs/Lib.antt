@@ -8,3 +8,7 @@ pub mod Standing
 pub mod Turning
 pub mod Feeding
 pub mod Rows
+pub mod FeedFaults
+pub mod SourceAnswers
+pub mod SourceFeeding
+pub mod Agreeing

@@ -1,14 +1,19 @@
 //! Laws of the definitions. Each is the contract of a function that does nothing.
 
-ghost use Rattle.std.specs.Prelude.{◌≡◌, ◌⊎◌, ℕ, ◌+◌, ◌*◌, ◌<◌, ◌≤◌, List, [], ◌∷◌, ◌++◌, length, replicate, slice_index, take};
+ghost use Rattle.std.specs.Prelude.{◌≡◌, ◌⊎◌, ℕ, ◌+◌, ◌*◌, ◌<◌, ◌≤◌, List, [], ◌∷◌, ◌++◌, length, replicate, slice_index, take, Result, Some};
+ghost use Rattle.byte_io.specs.Source.{SourceSeen};
 ghost use Rattle.nmc_base.specs.declared.chain_ends.Base.{Base};
 ghost use Rattle.chain_names.specs.Index.{index_maps};
+ghost use Rattle.name_tables.specs.declared.parts.Parts.{Parts};
 ghost use Rattle.undo_records.specs.declared.version.Version.TheVariants.{Two};
 ghost use Rattle.image_grammar.specs.Text.{IsStateText};
+ghost use Rattle.name_snapshot.specs.Agreeing.{IsOfTheBytes, SameAnswer};
 ghost use Rattle.name_snapshot.specs.Faults.{IsBad, HasFault};
 ghost use Rattle.name_snapshot.specs.Makes.{IsSnapshot};
 ghost use Rattle.name_snapshot.specs.Rows.{base_of_rows, value_make, commitment_make, head_bytes, point_bytes, named_bytes, make_bytes, one_text};
+ghost use Rattle.name_snapshot.specs.SourceAnswers.{ReadsSnapshot};
 ghost use Rattle.name_snapshot.specs.Text.{StartMake, make_text, snapshot_text, start_of};
+ghost use Rattle.name_snapshot.specs.declared.feed_fault.FeedFault.{FeedFault};
 
 /// A text of bytes is a snapshot on a base, of one list of makes, or has its first fault, at one place.
 pub fn one_answer()
@@ -17,6 +22,12 @@ pub fn one_answer()
     ensures apart { (base : Base) (text : List ℕ) (makes : List StartMake) (at : ℕ) → IsSnapshot base text makes → HasFault base text at → ⊥ }
     ensures either { (base : Base) (text : List ℕ) → ((i : ℕ) → slice_index text i < 256)
         → ((makes : List StartMake) × IsSnapshot base text makes) ⊎ ((at : ℕ) × HasFault base text at) }
+{}
+
+/// The bytes of a source decide the answer, unless memory runs out or the source fails: two runs over the same bytes answer the same.
+pub fn answers_exclude()
+    ensures { (base : Base) (limit : ℕ) (bytes : List ℕ) (old new other last : SourceSeen) (answer second : Result Parts FeedFault) → old.left ≡ Some bytes → other.left ≡ Some bytes
+        → ReadsSnapshot base limit old new answer → ReadsSnapshot base limit other last second → IsOfTheBytes answer → IsOfTheBytes second → SameAnswer answer second }
 {}
 
 /// A fault but that of the end stays, whatever follows.

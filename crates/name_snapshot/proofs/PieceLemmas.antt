@@ -10,11 +10,11 @@ use Rattle.name_snapshot.specs.Faults.{HasFault}
 use Rattle.name_snapshot.specs.Feeding.{Feeding, HasRead, Takes}
 use Rattle.name_snapshot.specs.declared.fault.SnapshotFault.{SnapshotFault}
 use Rattle.name_snapshot.specs.declared.fault.SnapshotFault.TheVariants as snapshot
-use Rattle.snapshot_feed.specs.declared.fault.FeedFault.{FeedFault}
-use Rattle.snapshot_feed.specs.declared.fault.FeedFault.TheVariants.{Bad, SourceFault, InputLimit, NoMemory}
-use Rattle.snapshot_feed.specs.Answers.{TakesUpTo, HasOpenEnd, IsReadOut, shown, at_its_end, EndsAtLimit, FaultOf}
-use Rattle.snapshot_feed.specs.Faults.{of_snapshot}
-use Rattle.snapshot_feed.specs.Feeding.{FeedsMore, PieceOf, FeedsPiece, FeedsSource}
+use Rattle.name_snapshot.specs.declared.feed_fault.FeedFault.{FeedFault}
+use Rattle.name_snapshot.specs.declared.feed_fault.FeedFault.TheVariants.{Bad, SourceFault, InputLimit, NoMemory}
+use Rattle.name_snapshot.specs.SourceAnswers.{TakesUpTo, HasOpenEnd, IsReadOut, shown, at_its_end, EndsAtLimit, FaultOf}
+use Rattle.name_snapshot.specs.FeedFaults.{of_snapshot}
+use Rattle.name_snapshot.specs.SourceFeeding.{FeedsMore, PieceOf, FeedsPiece, FeedsSource}
 
 -- ---- what was taken
 

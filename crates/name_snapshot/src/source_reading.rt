@@ -1,12 +1,12 @@
-//! Reading a snapshot.
+//! Reading a snapshot from a source.
 ghost use Rattle.std.specs.Prelude.{◌≤◌};
 ghost use Rattle.nmc_base.specs.Heights.{highest};
-ghost use Rattle.snapshot_feed.specs.Answers.{ReadsSnapshot};
+ghost use Rattle.name_snapshot.specs.SourceAnswers.{ReadsSnapshot};
 
-use crate::fault::FeedFault;
-use crate::feeding::feed_source;
+use crate::feed_fault::FeedFault;
+use crate::feeding::Snapshot;
+use crate::source_feeding::feed_source;
 use byte_io::Source;
-use name_snapshot::Snapshot;
 use name_tables::Parts;
 use nmc_base::Base;
 use std::alloc::Global;

@@ -1,5 +1,5 @@
+use crate::fault::SnapshotFault;
 use byte_io::Failed;
-use name_snapshot::SnapshotFault;
 use nmc_base::NoMemory as NoRoom;
 use thiserror::Error;
 
@@ -22,7 +22,7 @@ pub enum FeedFault {
 
 impl From<Failed> for FeedFault {
     ghost use Rattle.std.specs.Prelude.{◌≡◌};
-    ghost use Rattle.snapshot_feed.specs.declared.fault.FeedFault.TheVariants.{SourceFault};
+    ghost use Rattle.name_snapshot.specs.declared.feed_fault.FeedFault.TheVariants.{SourceFault};
 
     ghost from_gives = { λ _ fault. fault ≡ SourceFault };
 
@@ -33,7 +33,7 @@ impl From<Failed> for FeedFault {
 
 impl From<NoRoom> for FeedFault {
     ghost use Rattle.std.specs.Prelude.{◌≡◌};
-    ghost use Rattle.snapshot_feed.specs.declared.fault.FeedFault.TheVariants.{NoMemory};
+    ghost use Rattle.name_snapshot.specs.declared.feed_fault.FeedFault.TheVariants.{NoMemory};
 
     ghost from_gives = { λ _ fault. fault ≡ NoMemory };
 
@@ -44,7 +44,7 @@ impl From<NoRoom> for FeedFault {
 
 impl From<SnapshotFault> for FeedFault {
     ghost use Rattle.std.specs.Prelude.{◌≡◌};
-    ghost use Rattle.snapshot_feed.specs.Faults.{of_snapshot};
+    ghost use Rattle.name_snapshot.specs.FeedFaults.{of_snapshot};
 
     ghost from_gives = { λ bad fault. fault ≡ of_snapshot bad };
 

@@ -3,8 +3,8 @@ use Rattle.std.specs.Prelude.{◌≡◌, Result, Ok, Err}
 use Rattle.name_tables.specs.Parts.{tables_of}
 use Rattle.name_tables.specs.Tables.{maps_by}
 use Rattle.name_tables.specs.declared.parts.Parts.{Parts}
-use Rattle.snapshot_feed.specs.declared.fault.FeedFault.{FeedFault}
-use Rattle.snapshot_feed.specs.declared.fault.FeedFault.TheVariants.{Bad, SourceFault, InputLimit, NoMemory}
+use Rattle.name_snapshot.specs.declared.feed_fault.FeedFault.{FeedFault}
+use Rattle.name_snapshot.specs.declared.feed_fault.FeedFault.TheVariants.{Bad, SourceFault, InputLimit, NoMemory}
 
 -- neither the source nor want of memory ended the reading
 abbrev pub IsOfTheBytes : Result Parts FeedFault → Type 0

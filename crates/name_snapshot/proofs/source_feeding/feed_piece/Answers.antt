@@ -1,10 +1,10 @@
 use Rattle.std.proofs.Common.{ℕ, length, take, refl, subst, arith}
 use Rattle.std.specs.Prelude.{Ok, Err}
-use Rattle.snapshot_feed.specs.declared.fault.FeedFault.TheVariants.{SourceFault}
-use Rattle.snapshot_feed.specs.Faults.{of_snapshot}
-use Rattle.snapshot_feed.specs.Feeding.{PieceOf, FeedsPiece}
-use Rattle.snapshot_feed.proofs.PieceLemmas.{takes_fault, takes_some, as_fault, piece_fault, piece_fed, piece_end}
-use Rattle.snapshot_feed.proofs.feeding.feed_piece.Goals as goal
+use Rattle.name_snapshot.specs.declared.feed_fault.FeedFault.TheVariants.{SourceFault}
+use Rattle.name_snapshot.specs.FeedFaults.{of_snapshot}
+use Rattle.name_snapshot.specs.SourceFeeding.{PieceOf, FeedsPiece}
+use Rattle.name_snapshot.proofs.PieceLemmas.{takes_fault, takes_some, as_fault, piece_fault, piece_fed, piece_end}
+use Rattle.name_snapshot.proofs.source_feeding.feed_piece.Goals as goal
 
 pub returns-in_err-count-clause-feeds : goal.returns-in_err-count-clause-feeds
 returns-in_err-count-clause-feeds g c = λ text has.

@@ -12,11 +12,11 @@ use Rattle.name_snapshot.specs.Faults.{HasFault}
 use Rattle.name_snapshot.specs.Makes.{IsSnapshot}
 use Rattle.name_snapshot.specs.Text.{StartMake, start_of}
 use Rattle.name_snapshot.proofs.StayLaws.{one_fault, one_start, no_fault}
-use Rattle.snapshot_feed.specs.declared.fault.FeedFault.{FeedFault}
-use Rattle.snapshot_feed.specs.declared.fault.FeedFault.TheVariants.{Bad, SourceFault, InputLimit, NoMemory}
-use Rattle.snapshot_feed.specs.Answers.{HasOpenEnd, IsReadOut, IsBadAt, shown, at_its_end, EndsOf, ReadsSnapshot}
-use Rattle.snapshot_feed.specs.Agreeing.{IsOfTheBytes, SameAnswer}
-use Rattle.snapshot_feed.proofs.PlaceLemmas.{place_inside}
+use Rattle.name_snapshot.specs.declared.feed_fault.FeedFault.{FeedFault}
+use Rattle.name_snapshot.specs.declared.feed_fault.FeedFault.TheVariants.{Bad, SourceFault, InputLimit, NoMemory}
+use Rattle.name_snapshot.specs.SourceAnswers.{HasOpenEnd, IsReadOut, IsBadAt, shown, at_its_end, EndsOf, ReadsSnapshot}
+use Rattle.name_snapshot.specs.Agreeing.{IsOfTheBytes, SameAnswer}
+use Rattle.name_snapshot.proofs.PlaceLemmas.{place_inside}
 
 -- ---- fronts
 

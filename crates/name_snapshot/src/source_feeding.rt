@@ -1,11 +1,11 @@
 //! Feeding what a source gives to the reader of snapshots.
 ghost use Rattle.std.specs.Prelude.{◌≡◌, ◌+◌, ◌<◌, ◌^◌, ℕ, List, [], length};
 ghost use Rattle.name_snapshot.specs.Feeding.{HasRead};
-ghost use Rattle.snapshot_feed.specs.Feeding.{FeedsPiece, FeedsSource};
+ghost use Rattle.name_snapshot.specs.SourceFeeding.{FeedsPiece, FeedsSource};
 
-use crate::fault::FeedFault;
+use crate::feed_fault::FeedFault;
+use crate::feeding::Snapshot;
 use byte_io::Source;
-use name_snapshot::Snapshot;
 
 /// So many bytes at most are read at once.
 const PIECE: usize = 65536;

@@ -7,8 +7,8 @@ use Rattle.nmc_base.specs.declared.chain_ends.Base.{Base}
 use Rattle.name_tables.specs.declared.parts.Parts.{Parts}
 use Rattle.name_snapshot.specs.Answers.{HasStart}
 use Rattle.name_snapshot.specs.Faults.{HasFault}
-use Rattle.snapshot_feed.specs.declared.fault.FeedFault.{FeedFault}
-use Rattle.snapshot_feed.specs.declared.fault.FeedFault.TheVariants.{Bad, SourceFault, InputLimit, NoMemory}
+use Rattle.name_snapshot.specs.declared.feed_fault.FeedFault.{FeedFault}
+use Rattle.name_snapshot.specs.declared.feed_fault.FeedFault.TheVariants.{Bad, SourceFault, InputLimit, NoMemory}
 
 -- Bytes were taken from the source, so many at most, and this holds of them.
 pub record TakesUpTo (limit : ℕ) (old new : SourceSeen) (Of : List ℕ → Type 0) : Type 0 where

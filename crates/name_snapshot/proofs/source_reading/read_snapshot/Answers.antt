@@ -2,10 +2,10 @@ use Rattle.std.proofs.Common.{subst, ◌∙◌}
 use Rattle.std.specs.Prelude.{Err}
 use Rattle.nmc_base.specs.declared.chain_ends.Base.{Base}
 use Rattle.name_snapshot.specs.Answers.{IsSnapshotAnswer}
-use Rattle.snapshot_feed.specs.Answers.{TakesUpTo, FaultOf, EndsOf, ReadsSnapshot}
-use Rattle.snapshot_feed.specs.Faults.{of_snapshot}
-use Rattle.snapshot_feed.proofs.PieceLemmas.{takes_same, as_fault, end_fault}
-use Rattle.snapshot_feed.proofs.reading.read_snapshot.Goals as goal
+use Rattle.name_snapshot.specs.SourceAnswers.{TakesUpTo, FaultOf, EndsOf, ReadsSnapshot}
+use Rattle.name_snapshot.specs.FeedFaults.{of_snapshot}
+use Rattle.name_snapshot.proofs.PieceLemmas.{takes_same, as_fault, end_fault}
+use Rattle.name_snapshot.proofs.source_reading.read_snapshot.Goals as goal
 
 pub returns-in_err-finish-in-Ok : goal.returns-in_err-finish-in-Ok
 returns-in_err-finish-in-Ok g c =

@@ -5,9 +5,9 @@ use Rattle.byte_io.specs.Source.{SourceSeen, ReadFails}
 use Rattle.nmc_base.specs.declared.chain_ends.Base.{Base}
 use Rattle.name_snapshot.specs.Faults.{HasFault}
 use Rattle.name_snapshot.specs.Feeding.{Feeding, HasRead}
-use Rattle.snapshot_feed.specs.declared.fault.FeedFault.{FeedFault}
-use Rattle.snapshot_feed.specs.declared.fault.FeedFault.TheVariants.{Bad, SourceFault, InputLimit, NoMemory}
-use Rattle.snapshot_feed.specs.Answers.{TakesUpTo, IsReadOut, FaultOf}
+use Rattle.name_snapshot.specs.declared.feed_fault.FeedFault.{FeedFault}
+use Rattle.name_snapshot.specs.declared.feed_fault.FeedFault.TheVariants.{Bad, SourceFault, InputLimit, NoMemory}
+use Rattle.name_snapshot.specs.SourceAnswers.{TakesUpTo, IsReadOut, FaultOf}
 
 -- ---- one piece
 

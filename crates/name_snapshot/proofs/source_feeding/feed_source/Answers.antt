@@ -1,7 +1,7 @@
 use Rattle.std.proofs.Common.{◌+◌, ◌≤◌, refl, arith}
-use Rattle.snapshot_feed.specs.Feeding.{FeedsSource}
-use Rattle.snapshot_feed.proofs.PieceLemmas.{HasFed, has_room, takes_none, as_fault, at_limit, feeds_fault, feeds_end, feeds_more, feeds_within}
-use Rattle.snapshot_feed.proofs.feeding.feed_source.Goals as goal
+use Rattle.name_snapshot.specs.SourceFeeding.{FeedsSource}
+use Rattle.name_snapshot.proofs.PieceLemmas.{HasFed, has_room, takes_none, as_fault, at_limit, feeds_fault, feeds_end, feeds_more, feeds_within}
+use Rattle.name_snapshot.proofs.source_feeding.feed_source.Goals as goal
 
 pub pieces-init : goal.pieces-init
 pieces-init g c =
