@@ -1,11 +1,12 @@
 ghost use Rattle.std.specs.Prelude.{◌≤◌};
 
 use crate::comparing::same;
+use bit_resolver::Answered;
+use bridge_core::answer;
 use chain_state::Chain;
 use dns_message::{EDNS_SIZE, Transport};
 use domain_text::{Name, absolute_name};
 use kept_answers::Answers;
-use machine::{Answered, answer};
 use nmc_base::{Base, Hash32, NoMemory, Profile};
 use std::alloc::Global;
 use std::process::Abort;

@@ -7,8 +7,8 @@ use Rattle.chain_commands.specs.RunState.{RunState, IsFull, accepted, area_of, c
 use Rattle.chain_commands.specs.Connecting.{Connects}
 use Rattle.chain_commands.specs.Saving.{HasLongText, longest_image, most_selections}
 use Rattle.chain_commands.proofs.SavingLemmas.{saved_leaves}
-use Rattle.machine.specs.Step.{Run, Step}
-use Rattle.machine.proofs.RunLemmas.{step_leaves}
+use Rattle.bridge_core.specs.Step.{Run, Step}
+use Rattle.bridge_core.proofs.MachineLemmas.{step_leaves}
 use Rattle.generated_chain.specs.Blocks.{run_base, run_host}
 use Rattle.generated_chain.specs.Events as made
 use Rattle.generated_chain.specs.Events.{events_of, generated_events, joined_again, round_at, saved}

@@ -32,7 +32,7 @@ use Rattle.kept_answers.specs.declared.limits.TheConstants.{LONGEST_KEPT}
 use Rattle.kept_answers.proofs.AnswerLemmas.{answer_within, length-reply_with}
 use Rattle.kept_answers.proofs.KeepingLemmas.{held_is_kept}
 use Rattle.chain_commands.specs.RunState.{RunState, chain_of}
-use Rattle.machine.specs.Querying.{served_on, zone_on, query_reply}
+use Rattle.bridge_core.specs.Querying.{served_on, zone_on, query_reply}
 use Rattle.bridge_core.specs.Bridged.{Bridged, StandsFor}
 use Rattle.bridge_commands.specs.Playing.{AsksTwice, rcode_in}
 

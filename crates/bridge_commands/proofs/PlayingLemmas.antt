@@ -8,7 +8,7 @@ use Rattle.feed_frames.specs.Replies.{Reply}
 use Rattle.chain_commands.specs.Event.{Connect, Disconnect, Event, Do, Ask, Save, event_frame}
 use Rattle.chain_commands.specs.RunState.{RunState}
 use Rattle.generated_chain.specs.Events.{joined_again}
-use Rattle.machine.specs.Leaving.{accepted_saves}
+use Rattle.bridge_core.specs.Leaving.{accepted_saves}
 use Rattle.bridge_core.specs.Bridge.{AnswersEvent}
 use Rattle.bridge_core.specs.Bridged.{Bridged}
 use Rattle.bridge_core.specs.Opening.{HasOpened}

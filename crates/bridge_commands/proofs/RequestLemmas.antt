@@ -10,7 +10,7 @@ use Rattle.chain_commands.specs.Event.{Command, Event, Do, Ask, Save}
 use Rattle.chain_commands.specs.RunState.{RunState}
 use Rattle.generated_chain.specs.Events.{joined_again, saved}
 use Rattle.generated_chain.specs.declared.run.Round.{Round}
-use Rattle.machine.specs.Leaving.{accepted_saves}
+use Rattle.bridge_core.specs.Leaving.{accepted_saves}
 use Rattle.bridge_core.specs.Bridge.{AnswersEvent}
 use Rattle.bridge_core.specs.Bridged.{Bridged, StandsFor}
 use Rattle.bridge_core.specs.declared.bridge.Turned.TheVariants.{On}

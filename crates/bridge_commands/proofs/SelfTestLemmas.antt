@@ -13,7 +13,7 @@ use Rattle.dns_message.proofs.QueryLaws.{asks_query, reading_is}
 use Rattle.kept_answers.specs.Answering.{Answering, last_count, none_kept}
 use Rattle.chain_commands.specs.Event.{Connect, Datagram, Event, Do}
 use Rattle.chain_commands.specs.RunState.{RunState}
-use Rattle.machine.specs.Leaving.{accepted_saves}
+use Rattle.bridge_core.specs.Leaving.{accepted_saves}
 use Rattle.generated_chain.specs.Blocks.{number_at, run_base, run_host, tip_at}
 use Rattle.generated_chain.specs.Events as made
 use Rattle.generated_chain.specs.Events.{events_of, generated_events, joined_again, round_at, saved}

@@ -10,8 +10,8 @@ use Rattle.memory_disk.specs.MemoryLog.{DiskLog, fresh_log, memory_seen}
 use Rattle.chain_commands.specs.Chain.{tip_hash}
 use Rattle.chain_commands.specs.RunState.{RunState, chain_of}
 use Rattle.chain_commands.specs.Event.{Event}
-use Rattle.machine.specs.Leaving.{accepted_saves}
-use Rattle.machine.specs.Step.{Run}
+use Rattle.bridge_core.specs.Leaving.{accepted_saves}
+use Rattle.bridge_core.specs.Step.{Run}
 use Rattle.generated_chain.specs.Blocks.{run_base, run_host}
 use Rattle.generated_chain.specs.Events.{events_of, round_at, generated_events}
 use Rattle.generated_validity.specs.Carried.{HaveOneTxid}

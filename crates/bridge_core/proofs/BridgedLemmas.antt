@@ -5,7 +5,7 @@ use Rattle.kept_answers.specs.Answering.{Answering, AreRight, none_kept, outdate
 use Rattle.kept_answers.proofs.RightLemmas.{none_right, outdated_right}
 use Rattle.chain_commands.specs.Chain.{Chain}
 use Rattle.chain_commands.specs.RunState.{RunState, chain_of}
-use Rattle.machine.specs.Querying.{served_on, zone_on}
+use Rattle.bridge_core.specs.Querying.{served_on, zone_on}
 use Rattle.name_store.specs.Host.{IsHostOf}
 use Rattle.name_store.specs.Stored as stores
 use Rattle.bridge_core.specs.Bridged.{Bridged, StandsFor}

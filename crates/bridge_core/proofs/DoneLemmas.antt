@@ -6,9 +6,9 @@ use Rattle.chain_commands.specs.Event.{Event, Do, Ask, Save}
 use Rattle.chain_commands.specs.RunState.{RunState, chain_of}
 use Rattle.chain_commands.specs.Saving.{saved_by}
 use Rattle.chain_commands.proofs.SavingLemmas.{one_text}
-use Rattle.machine.specs.Step.{Step}
-use Rattle.machine.specs.Leaving.{IsDoneBy}
-use Rattle.machine.proofs.RunLemmas.{step_leaves}
+use Rattle.bridge_core.specs.Step.{Step}
+use Rattle.bridge_core.specs.Leaving.{IsDoneBy}
+use Rattle.bridge_core.proofs.MachineLemmas.{step_leaves}
 
 pub one_done : (run : RunState) (event : Event) (new other : RunState) → IsDoneBy run event new → IsDoneBy run event other → new ≡ other
 one_done run (Do command) new other one two = one ∙ sym two

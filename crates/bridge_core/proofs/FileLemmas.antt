@@ -5,7 +5,7 @@ use Rattle.disk_model.specs.DiskSeen.{DiskSeen, bytes_in}
 use Rattle.feed_frames.specs.Replies.{Reply}
 use Rattle.chain_commands.specs.Event.{Event}
 use Rattle.chain_commands.specs.RunState.{RunState}
-use Rattle.machine.specs.Leaving.{IsDoneBy}
+use Rattle.bridge_core.specs.Leaving.{IsDoneBy}
 use Rattle.name_store.specs.Stands.{Stands, EachStands, EachStandsForEither}
 use Rattle.name_store.specs.Stored.{Stored, StandsFor, IsOn}
 use Rattle.name_store.proofs.StoreLemmas.{stands_again}

@@ -1,3 +1,5 @@
+pub mod MachineLemmas
+mod ServingLemmas
 pub mod CodeLemmas
 pub mod BridgedLemmas
 pub mod DoneLemmas

@@ -7,7 +7,7 @@ use Rattle.kept_answers.specs.Answering.{Answering, AnswersMessage}
 use Rattle.chain_commands.specs.Event.{Carrier}
 use Rattle.chain_commands.specs.RunState.{RunState, chain_of}
 use Rattle.chain_commands.proofs.RefusalLemmas.{code_of}
-use Rattle.machine.specs.Querying.{served_on, zone_on, transport_of, query_reply}
+use Rattle.bridge_core.specs.Querying.{served_on, zone_on, transport_of, query_reply}
 use Rattle.name_store.specs.Stored as stores
 use Rattle.name_store.specs.Stored.{Stored}
 use Rattle.bridge_core.specs.Bridge.{AnswersQuery, fault_code}

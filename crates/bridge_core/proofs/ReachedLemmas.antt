@@ -7,9 +7,9 @@ use Rattle.feed_frames.specs.Frames.{Frame}
 use Rattle.feed_frames.specs.Replies.{Reply}
 use Rattle.chain_commands.specs.Event.{Event, Do, Ask, Save, event_frame}
 use Rattle.chain_commands.specs.RunState.{RunState}
-use Rattle.machine.specs.Leaving.{IsDoneBy}
-use Rattle.machine.specs.Step.{Step}
-use Rattle.machine.proofs.RunLemmas.{run_push, step_leaves}
+use Rattle.bridge_core.specs.Leaving.{IsDoneBy}
+use Rattle.bridge_core.specs.Step.{Step}
+use Rattle.bridge_core.proofs.MachineLemmas.{run_push, step_leaves}
 use Rattle.name_store.specs.Stored as stores
 use Rattle.bridge_core.specs.Bridge.{fault_code, fault_reply, IsUndone, AsksNothing, AnswersEvent, AreFilesOf, OutlivesCrashes}
 use Rattle.bridge_core.specs.Bridged.{Bridged}

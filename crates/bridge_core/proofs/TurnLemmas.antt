@@ -14,8 +14,8 @@ use Rattle.chain_commands.specs.Saving as saving
 use Rattle.chain_commands.proofs.RefusalLemmas.{code_of}
 use Rattle.chain_commands.proofs.SavingLemmas.{saved_leaves}
 use Rattle.kept_answers.specs.Answering.{Answering, outdated}
-use Rattle.machine.specs.Leaving.{IsDoneBy}
-use Rattle.machine.specs.Step.{Step}
+use Rattle.bridge_core.specs.Leaving.{IsDoneBy}
+use Rattle.bridge_core.specs.Step.{Step}
 use Rattle.name_store.specs.Outcomes as store
 use Rattle.name_store.specs.Outcomes.{AnswersFor, IfUndone, IsDone, KeepsOn}
 use Rattle.name_store.specs.declared.saving.SaveRefusal.{SaveRefusal}

@@ -15,9 +15,9 @@ use Rattle.chain_commands.specs.Refusals.{HasNoneBelow}
 use Rattle.chain_commands.specs.Connecting.{IsValid}
 use Rattle.chain_commands.specs.Disconnecting.{IsValidBack}
 use Rattle.chain_commands.specs.Saving.{HoldsSave, saves}
-use Rattle.machine.specs.Querying.{served_on, zone_on, transport_of, query_reply}
-use Rattle.machine.specs.Step.{Step}
-use Rattle.machine.specs.Leaving.{IsDoneBy}
+use Rattle.bridge_core.specs.Querying.{served_on, zone_on, transport_of, query_reply}
+use Rattle.bridge_core.specs.Step.{Step}
+use Rattle.bridge_core.specs.Leaving.{IsDoneBy}
 use Rattle.name_store.specs.Stands.{Stands, EachStands, EachStandsForEither}
 use Rattle.name_store.specs.Stored as stores
 use Rattle.name_store.specs.Stored.{Stored, IsOn, area_file}

@@ -1,7 +1,7 @@
 -- What a bridge keeps, and what it stands for.
 use Rattle.kept_answers.specs.Answering.{Answering, AreRight}
 use Rattle.chain_commands.specs.RunState.{RunState, chain_of}
-use Rattle.machine.specs.Querying.{served_on, zone_on}
+use Rattle.bridge_core.specs.Querying.{served_on, zone_on}
 use Rattle.name_store.specs.Stored as stores
 use Rattle.name_store.specs.Stored.{Stored}
 

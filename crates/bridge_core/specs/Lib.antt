@@ -1,3 +1,7 @@
+pub mod Querying
+pub mod Step
+pub mod Serving
+pub mod Leaving
 pub mod Views
 pub mod Bridged
 pub mod Bridge

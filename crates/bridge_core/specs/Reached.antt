@@ -5,8 +5,8 @@ use Rattle.feed_frames.specs.Frames.{Frame}
 use Rattle.feed_frames.specs.Replies.{Reply}
 use Rattle.chain_commands.specs.Event.{Event, event_frame}
 use Rattle.chain_commands.specs.RunState.{RunState}
-use Rattle.machine.specs.Step.{Step, Run}
-use Rattle.machine.specs.Leaving.{IsDoneBy}
+use Rattle.bridge_core.specs.Step.{Step, Run}
+use Rattle.bridge_core.specs.Leaving.{IsDoneBy}
 use Rattle.name_store.specs.Stored.{IsOn}
 use Rattle.bridge_core.specs.Bridged.{Bridged, StandsFor}
 use Rattle.bridge_core.specs.Bridge.{fault_reply, IsValidEvent, AnswersEvent}

@@ -5,10 +5,11 @@ ghost use Rattle.bridge_core.specs.Bridged.{bridged};
 ghost use Rattle.bridge_core.specs.Views.{carrier_of};
 
 use crate::codes;
+use crate::index_answers::answer;
+use bit_resolver::Answered;
 use dns_message::Transport;
 use frame_loop::ReplyBuf;
 use kept_answers::Answers;
-use machine::{Answered, answer};
 use name_store::Store;
 use port_loop::DROPPED;
 use std::alloc::Global;

@@ -6,8 +6,8 @@ use Rattle.std.proofs.lemmas.List.{drop_at}
 use Rattle.chain_commands.specs.Event.{Command, Event, Do, Ask, Save}
 use Rattle.chain_commands.specs.RunState.{RunState}
 use Rattle.feed_frames.specs.Replies.{Reply}
-use Rattle.machine.specs.Step as machine
-use Rattle.machine.proofs.RunLemmas.{step_leaves}
+use Rattle.bridge_core.specs.Step as machine
+use Rattle.bridge_core.proofs.MachineLemmas.{step_leaves}
 use Rattle.name_lister.specs.Accepting.{joined_plain, joined, with_accepted, GoesOnAt, GoesOn}
 use Rattle.name_lister.specs.Event.{ListEvent, Plain, Open, Page, Close, Begin, Slice}
 use Rattle.name_lister.specs.Saver.{Saver, Begins, runs_already, no_more_saves, lacks_memory, too_long, begins, Slices, no_save, writes, selects, gives_up, Selects, slice_size, begun_reply, more_reply, selected_reply}

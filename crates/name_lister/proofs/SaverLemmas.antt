@@ -7,8 +7,8 @@ use Rattle.feed_frames.specs.Replies.{Reply}
 use Rattle.disk_model.specs.Moments.{Files}
 use Rattle.chain_commands.specs.Event.{Carrier, Command, Event, Do, Ask, Save}
 use Rattle.chain_commands.specs.RunState.{RunState, accepted}
-use Rattle.machine.specs.Step.{Step}
-use Rattle.machine.proofs.RunLemmas.{step_leaves}
+use Rattle.bridge_core.specs.Step.{Step}
+use Rattle.bridge_core.proofs.MachineLemmas.{step_leaves}
 use Rattle.name_store.specs.Stored.{Stored}
 use Rattle.name_lister.specs.Saver.{Saver}
 use Rattle.name_lister.specs.Saving.{IsSaverOf, IsSavingOn, SavesFor}

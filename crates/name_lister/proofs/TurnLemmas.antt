@@ -18,8 +18,8 @@ use Rattle.chain_commands.specs.Chain.{Chain, with_block}
 use Rattle.chain_commands.specs.Event.{Event, Connect, Disconnect, Do, Ask, Save}
 use Rattle.chain_commands.specs.RunState.{RunState, chain_of, accepted}
 use Rattle.index_commands.specs.Standing as chains
-use Rattle.machine.specs.Step as machine
-use Rattle.machine.proofs.RunLemmas.{step_leaves}
+use Rattle.bridge_core.specs.Step as machine
+use Rattle.bridge_core.proofs.MachineLemmas.{step_leaves}
 use Rattle.bridge_core.specs.Bridge.{AnswersEvent, AreFilesOf}
 use Rattle.bridge_core.specs.Bridged as bridges
 use Rattle.bridge_core.specs.Reached.{bridge_machine}

@@ -6,8 +6,8 @@ use Rattle.chain_commands.specs.RunState.{RunState, chain_of}
 use Rattle.chain_commands.specs.Saving.{HasLongText, longest_image, most_selections}
 use Rattle.feed_frames.specs.Replies.{Reply}
 use Rattle.listing_sessions.specs.Sessions.{Sessions, none_open, Opens, Pages, Closes}
-use Rattle.machine.specs.Leaving.{IsDoneBy}
-use Rattle.machine.specs.Step as machine
+use Rattle.bridge_core.specs.Leaving.{IsDoneBy}
+use Rattle.bridge_core.specs.Step as machine
 use Rattle.name_lister.specs.Event.{ListEvent, Plain, Open, Page, Close, Begin, Slice}
 use Rattle.name_lister.specs.Saver.{Saver, Begins, Slices, Selects, IsTooLong, slice_size, running_reply}
 

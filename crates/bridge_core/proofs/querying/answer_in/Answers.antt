@@ -3,7 +3,7 @@ use Rattle.chain_state.specs.Chain.{Indexed}
 use Rattle.index_commands.specs.Standing as chains
 use Rattle.kept_answers.specs.Answering.{AnswersMessage}
 use Rattle.chain_commands.specs.RunState.{chain_of}
-use Rattle.machine.specs.Querying.{served_on, zone_on}
+use Rattle.bridge_core.specs.Querying.{served_on, zone_on}
 use Rattle.bridge_core.proofs.QueryingLemmas.{queried}
 use Rattle.bridge_core.proofs.querying.answer_in.Goals as goal
 

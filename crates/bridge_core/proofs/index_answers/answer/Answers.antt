@@ -2,9 +2,9 @@ use Rattle.std.proofs.Common.{◌≡◌, ap, subst, ◌∙◌}
 use Rattle.nmc_base.specs.declared.chain_ends.Tip.{Tip}
 use Rattle.bit_resolver.specs.Replies.{told}
 use Rattle.kept_answers.specs.Answering.{AnswersMessage}
-use Rattle.machine.specs.Serving.{served_by, zone_at}
-use Rattle.machine.proofs.ServingLemmas.{answers_on}
-use Rattle.machine.proofs.answering.answer.Goals as goal
+use Rattle.bridge_core.specs.Serving.{served_by, zone_at}
+use Rattle.bridge_core.proofs.ServingLemmas.{answers_on}
+use Rattle.bridge_core.proofs.index_answers.answer.Goals as goal
 
 pub returns-clause-index : goal.returns-clause-index
 returns-clause-index c =

@@ -9,8 +9,8 @@ ghost use Rattle.chain_commands.specs.RunState.{RunState, chain_of};
 ghost use Rattle.chain_commands.specs.Connecting.{IsValid};
 ghost use Rattle.chain_commands.specs.Saving.{HasSaved};
 ghost use Rattle.chain_commands.specs.Surviving.{Surviving, accepted_of};
-ghost use Rattle.machine.specs.Leaving.{IsBehind, Leaves, accepted_saves};
-ghost use Rattle.machine.specs.Step.{Step, Run};
+ghost use Rattle.bridge_core.specs.Leaving.{IsBehind, Leaves, accepted_saves};
+ghost use Rattle.bridge_core.specs.Step.{Step, Run};
 
 /// The state, the event and the code of the reply decide the next state.
 pub fn decided_step()

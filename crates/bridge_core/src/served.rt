@@ -1,5 +1,5 @@
 ghost use Rattle.std.specs.Prelude.{◌≡◌};
-ghost use Rattle.machine.specs.Serving.{served_by};
+ghost use Rattle.bridge_core.specs.Serving.{served_by};
 
 use chain_state::Chain;
 use import_expand::Names;
@@ -7,13 +7,13 @@ use import_expand::Names;
 /// The names that a chain serves: each with the value that it was given last, while that isn't expired at the tip. Whether its
 /// coin can still be spent doesn't matter.
 #[derive(Clone, Copy)]
-pub struct Served<'a> {
+pub(crate) struct Served<'a> {
     chain: &'a Chain,
 }
 
 impl<'a> Served<'a> {
     /// The names that this chain serves.
-    pub fn of(chain: &'a Chain) -> Served<'a>
+    pub(crate) fn of(chain: &'a Chain) -> Served<'a>
         ensures { result.chain.now ≡ chain.now }
     {
         Served { chain }

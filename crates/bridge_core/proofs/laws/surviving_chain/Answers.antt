@@ -1,5 +1,5 @@
-use Rattle.machine.proofs.RunLemmas.{run_state, run_survives, run_keeps}
-use Rattle.machine.proofs.laws.surviving_chain.Goals as goal
+use Rattle.bridge_core.proofs.MachineLemmas.{run_state, run_survives, run_keeps}
+use Rattle.bridge_core.proofs.laws.surviving_chain.Goals as goal
 
 pub returns-clause-state : goal.returns-clause-state
 returns-clause-state c = run_state

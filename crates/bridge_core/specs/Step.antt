@@ -6,7 +6,7 @@ use Rattle.feed_frames.specs.Replies.{Reply}
 use Rattle.chain_commands.specs.Connecting.{Connects}
 use Rattle.chain_commands.specs.Disconnecting.{Disconnects}
 use Rattle.chain_commands.specs.Saving.{Saves}
-use Rattle.machine.specs.Querying.{Queries, transport_of}
+use Rattle.bridge_core.specs.Querying.{Queries, transport_of}
 
 -- From the old state the machine may give this reply to the event and go on to the new state.
 abbrev pub Step : RunState → Event → Reply → RunState → Type 0

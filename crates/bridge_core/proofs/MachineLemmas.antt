@@ -12,8 +12,8 @@ use Rattle.chain_commands.specs.Disconnecting as back
 use Rattle.chain_commands.specs.Disconnecting.{BackRefusal, AtBase, NotTip, HoldsBack, back_order, disconnects}
 use Rattle.undo_records.specs.declared.version.Version.TheVariants.{Two}
 use Rattle.chain_commands.specs.Saving.{IsTextOf, HoldsSave, save_order, saves, saved_by, IsSaved, LeavesSaved, HasSaved}
-use Rattle.machine.specs.Step.{Step, Run}
-use Rattle.machine.specs.Leaving.{Leaves, accepted_saves, IsBehind}
+use Rattle.bridge_core.specs.Step.{Step, Run}
+use Rattle.bridge_core.specs.Leaving.{Leaves, accepted_saves, IsBehind}
 use Rattle.chain_commands.specs.Surviving.{is_done, stays, SurvivesCommand, Surviving, accepted_of}
 use Rattle.chain_commands.proofs.RefusalLemmas.{DoesOne, code_of, lacking_code, decided, command_does, survives_once, fewer_none}
 use Rattle.chain_commands.proofs.CommandLemmas.{without_journal, placed, coded, without_journal_back, placed_back, coded_back}

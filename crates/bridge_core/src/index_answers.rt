@@ -4,7 +4,7 @@ ghost use Rattle.chain_names.specs.Log.{Log};
 ghost use Rattle.chain_state.specs.Standing.{StandsForChain};
 ghost use Rattle.dns_message.specs.Limits.{most_of};
 ghost use Rattle.bit_resolver.specs.Replies.{told, IsWithin};
-ghost use Rattle.machine.specs.Serving.{AnswersBy, AnswersOn};
+ghost use Rattle.bridge_core.specs.Serving.{AnswersBy, AnswersOn};
 
 use crate::served::Served;
 use bit_resolver::{Answered, Zone};

@@ -1,4 +1,0 @@
-pub mod Querying
-pub mod Step
-pub mod Serving
-pub mod Leaving
