@@ -4,6 +4,7 @@ pub mod WordLemmas
 pub mod LineLemmas
 pub mod StatusLemmas
 pub mod MakingLemmas
+pub mod StartLemmas
 pub mod PlayingLemmas
 pub mod RequestLemmas
 pub mod CauseLemmas

@@ -1,8 +1,8 @@
 -- What the statuses of `init` and `init-from` aren't, and which command the words ask for.
 use Rattle.std.proofs.Common.{◌≡◌, ℕ, Bool, List, Result, Ok, Err, sym, ◌∙◌, arith}
 use Rattle.byte_io.specs.Source.{SourceSeen}
-use Rattle.chain_starts.specs.declared.fault.StartFault.{StartFault}
-use Rattle.chain_starts.specs.declared.fault.StartFault.TheVariants as starts
+use Rattle.bridge_commands.specs.declared.start_fault.StartFault.{StartFault}
+use Rattle.bridge_commands.specs.declared.start_fault.StartFault.TheVariants as starts
 use Rattle.nmc_base.specs.declared.chain_ends.Base.{Base}
 use Rattle.disk_model.specs.DiskSeen.{DiskSeen}
 use Rattle.bridge_core.specs.declared.status.Status.{Status}

@@ -11,9 +11,9 @@ use Rattle.name_store.specs.Header.{IsInitialised, IsUninitialised}
 use Rattle.name_store.specs.Making.{IsEmpty, EachIsBegun, OnlyReads}
 use Rattle.name_store.specs.Stands.{EachStands, begun_on}
 use Rattle.byte_io.specs.Source.{SourceSeen}
-use Rattle.chain_starts.specs.Starting.{StartsFrom}
-use Rattle.chain_starts.specs.declared.fault.StartFault.{StartFault}
-use Rattle.chain_starts.specs.declared.fault.StartFault.TheVariants as starts
+use Rattle.bridge_commands.specs.Starting.{StartsFrom}
+use Rattle.bridge_commands.specs.declared.start_fault.StartFault.{StartFault}
+use Rattle.bridge_commands.specs.declared.start_fault.StartFault.TheVariants as starts
 use Rattle.bridge_core.specs.declared.status.Status.{Status}
 use Rattle.bridge_core.specs.declared.status.Status.TheVariants.{Done, Initialised, DiskFault, SourceFault, NoMemory, InputLimit, BadSnapshot}
 

@@ -3,9 +3,10 @@ ghost use Rattle.nmc_base.specs.declared.limits.TheConstants.{HIGHEST_HEIGHT};
 ghost use Rattle.name_store.specs.Host.{IsHostOf};
 ghost use Rattle.bridge_commands.specs.Making.{Inits, InitsFrom, status_of_making, status_of_start};
 
+use crate::start_fault::StartFault;
+use crate::starting::make_from;
 use bridge_core::Status;
 use byte_io::Source;
-use chain_starts::{StartFault, make_from};
 use disk_model::Disk;
 use domain_text::Name;
 use name_store::{CreateFault, create};

@@ -4,7 +4,7 @@ ghost use Rattle.std.specs.Prelude.{◌≤◌, ◌^◌};
 
 use super::files::has;
 use super::making::host;
-use chain_starts::{StartFault, make_from};
+use bridge_commands::{StartFault, make_from};
 use disk_model::Disk;
 use memory_disk::MemoryDisk;
 use memory_io::MemorySource;

@@ -1,6 +1,6 @@
 use Rattle.name_snapshot.specs.Text.{start_of}
-use Rattle.chain_starts.proofs.StartLemmas.{index_of, short_image, stands_by}
-use Rattle.chain_starts.proofs.making.make_of.Goals as goal
+use Rattle.bridge_commands.proofs.StartLemmas.{index_of, short_image, stands_by}
+use Rattle.bridge_commands.proofs.starting.make_of.Goals as goal
 
 pub create_from-made-requires-clause-short : goal.create_from-made-requires-clause-short
 create_from-made-requires-clause-short g c =

@@ -1,9 +1,9 @@
 use Rattle.std.proofs.Common.{refl, sym, subst}
 use Rattle.fault_counts.proofs.FaultLemmas.{NeverFell_refl}
-use Rattle.chain_starts.specs.Starting.{StartsFrom, unread, stays}
-use Rattle.chain_starts.specs.declared.fault.StartFault.TheVariants.{DiskFault}
-use Rattle.chain_starts.proofs.StartLemmas.{the_error, only_looked, looked_from, behind}
-use Rattle.chain_starts.proofs.making.make_from.Goals as goal
+use Rattle.bridge_commands.specs.Starting.{StartsFrom, unread, stays}
+use Rattle.bridge_commands.specs.declared.start_fault.StartFault.TheVariants.{DiskFault}
+use Rattle.bridge_commands.proofs.StartLemmas.{the_error, only_looked, looked_from, behind}
+use Rattle.bridge_commands.proofs.starting.make_from.Goals as goal
 
 pub returns-in_err-is_initialised-clause-starts : goal.returns-in_err-is_initialised-clause-starts
 returns-in_err-is_initialised-clause-starts g c = λ name is_host.

@@ -33,9 +33,9 @@ use Rattle.name_store.proofs.MakingLemmas.{looked_begun}
 use Rattle.name_store.specs.Starting.{IsStartIndex, IsStartText}
 use Rattle.name_store.specs.declared.faults.CreateFromFault.{CreateFromFault}
 use Rattle.name_store.specs.declared.faults.CreateFromFault.TheVariants as makings
-use Rattle.chain_starts.specs.Starting.{ReadsStart, StartsFrom, StartEnds, made, broken, unread, stays, no_snapshot, no_memory, CreatesFrom, CrashesBegin, StandsForStart, fault_of_feed, fault_of_making, by_making}
-use Rattle.chain_starts.specs.declared.fault.StartFault.{StartFault}
-use Rattle.chain_starts.specs.declared.fault.StartFault.TheVariants.{Initialised}
+use Rattle.bridge_commands.specs.Starting.{ReadsStart, StartsFrom, StartEnds, made, broken, unread, stays, no_snapshot, no_memory, CreatesFrom, CrashesBegin, StandsForStart, fault_of_feed, fault_of_making, by_making}
+use Rattle.bridge_commands.specs.declared.start_fault.StartFault.{StartFault}
+use Rattle.bridge_commands.specs.declared.start_fault.StartFault.TheVariants.{Initialised}
 
 pub the_error : (result : Result (Unit {0}) StartFault) (fault : StartFault) → IsErr result × IsErrAnd result (λ e. e ≡ fault) → result ≡ Err fault
 the_error (Ok done) fault is = absurd (true≢false (sym is.0))

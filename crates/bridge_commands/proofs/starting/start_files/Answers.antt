@@ -1,10 +1,10 @@
 use Rattle.std.proofs.Common.{Ok, Err, sym, subst}
 use Rattle.std.specs.Prelude.{IsErrOf}
-use Rattle.chain_starts.specs.Starting.{StartsFrom}
-use Rattle.chain_starts.specs.declared.fault.StartFault.{StartFault}
-use Rattle.chain_starts.specs.declared.fault.StartFault.TheVariants.{Initialised}
-use Rattle.chain_starts.proofs.StartLemmas.{unfed, fed, still_shut}
-use Rattle.chain_starts.proofs.making.start_files.Goals as goal
+use Rattle.bridge_commands.specs.Starting.{StartsFrom}
+use Rattle.bridge_commands.specs.declared.start_fault.StartFault.{StartFault}
+use Rattle.bridge_commands.specs.declared.start_fault.StartFault.TheVariants.{Initialised}
+use Rattle.bridge_commands.proofs.StartLemmas.{unfed, fed, still_shut}
+use Rattle.bridge_commands.proofs.starting.start_files.Goals as goal
 
 pub returns-in-Err-clause-starts : goal.returns-in-Err-clause-starts
 returns-in-Err-clause-starts g c = λ name is_host.

@@ -1,5 +1,5 @@
 ghost use Rattle.std.specs.Prelude.{◌≡◌};
-ghost use Rattle.chain_starts.specs.Starting.{fault_of_feed, fault_of_making};
+ghost use Rattle.bridge_commands.specs.Starting.{fault_of_feed, fault_of_making};
 
 use disk_model::Failed;
 use name_snapshot::FeedFault;
@@ -29,7 +29,7 @@ pub enum StartFault {
 
 impl From<Failed> for StartFault {
     ghost use Rattle.std.specs.Prelude.{◌≡◌};
-    ghost use Rattle.chain_starts.specs.declared.fault.StartFault.TheVariants.{DiskFault};
+    ghost use Rattle.bridge_commands.specs.declared.start_fault.StartFault.TheVariants.{DiskFault};
 
     ghost from_gives = { λ _ e. e ≡ DiskFault };
 

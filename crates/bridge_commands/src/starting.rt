@@ -5,9 +5,9 @@ ghost use Rattle.name_store.specs.Host.{IsHostOf};
 ghost use Rattle.name_snapshot.specs.Answers.{HasStart};
 ghost use Rattle.name_snapshot.specs.Text.{start_of};
 ghost use Rattle.name_store.specs.Header.{IsUninitialised};
-ghost use Rattle.chain_starts.specs.Starting.{HasRead, CreatesFrom, StartsFrom};
+ghost use Rattle.bridge_commands.specs.Starting.{HasRead, CreatesFrom, StartsFrom};
 
-use crate::fault::StartFault;
+use crate::start_fault::StartFault;
 use byte_io::Source;
 use disk_model::Disk;
 use domain_text::Name;

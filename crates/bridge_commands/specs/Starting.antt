@@ -21,8 +21,8 @@ use Rattle.name_store.specs.Starting.{IsStartText, CreateFromAnswer}
 use Rattle.name_store.specs.Stands.{EachStands, begun_from}
 use Rattle.name_store.specs.declared.faults.CreateFromFault.{CreateFromFault}
 use Rattle.name_store.specs.declared.faults.CreateFromFault.TheVariants as makings
-use Rattle.chain_starts.specs.declared.fault.StartFault.{StartFault}
-use Rattle.chain_starts.specs.declared.fault.StartFault.TheVariants.{Initialised, Bad, InputLimit, SourceFault, DiskFault, NoMemory}
+use Rattle.bridge_commands.specs.declared.start_fault.StartFault.{StartFault}
+use Rattle.bridge_commands.specs.declared.start_fault.StartFault.TheVariants.{Initialised, Bad, InputLimit, SourceFault, DiskFault, NoMemory}
 
 -- ---- faults
 
