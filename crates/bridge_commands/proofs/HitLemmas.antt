@@ -23,7 +23,7 @@ use Rattle.dns_message.proofs.HeaderLaws.{header_at-header_text}
 use Rattle.import_expand.specs.Sources.{Live}
 use Rattle.bit_resolver.specs.Replies.{failure_text}
 use Rattle.bit_resolver.specs.declared.zone.Zone.{Zone}
-use Rattle.kept_replies.specs.Kept.{kept_text}
+use Rattle.kept_answers.specs.Kept.{kept_text}
 use Rattle.kept_answers.specs.Answering.{Answering, Keeps, Looks, Stores, key_for, kept_answer, last_count, with_cache}
 use Rattle.kept_answers.specs.Answering.Keeps.{unasked, asked}
 use Rattle.kept_answers.specs.Answering.Looks.{hit, answered, failed}

@@ -16,8 +16,8 @@ use Rattle.bit_resolver.specs.Answers.{Answer, answer_at, answer_to}
 use Rattle.bit_resolver.specs.Places.{labels_of, place_of, place_up}
 use Rattle.bit_resolver.specs.Replies.{contents_of, answer_text}
 use Rattle.bit_resolver.specs.declared.zone.Zone.{Zone}
-use Rattle.kept_replies.specs.Kept.{Kept, IsKept, AskAlike, reply_with, kept_reply}
-use Rattle.kept_replies.proofs.KeptLaws.{kept_alike, kept_fits, reply_kept}
+use Rattle.kept_answers.specs.Kept.{Kept, IsKept, AskAlike, reply_with, kept_reply}
+use Rattle.kept_answers.proofs.KeptLaws.{kept_alike, kept_fits, reply_kept}
 use Rattle.kept_answers.specs.Answering.{key_for, kept_answer}
 use Rattle.kept_answers.specs.Whole.{opt_size}
 use Rattle.kept_answers.proofs.RcodeLemmas.{small_rcode}

@@ -14,7 +14,7 @@ use Rattle.answer_cache.specs.Cached.{Cached, held, found, counted}
 use Rattle.answer_cache.specs.Keys.{same_key}
 use Rattle.answer_cache.specs.KeyLaws.{same_key-equivalence}
 use Rattle.answer_cache.proofs.HeldLemmas.{held-behind_get}
-use Rattle.kept_replies.specs.Kept.{Kept, kept_text}
+use Rattle.kept_answers.specs.Kept.{Kept, kept_text}
 use Rattle.kept_answers.specs.Answering.{Answering, Holds, IsHeldOrMissed, Keeps, Looks, Stores, key_for, kept_answer}
 use Rattle.kept_answers.specs.Answering.Keeps.{unasked, asked}
 use Rattle.kept_answers.specs.Answering.Looks.{hit, answered, failed}

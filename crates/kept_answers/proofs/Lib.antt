@@ -1,3 +1,6 @@
+pub mod HeadLemmas
+pub mod ReplyLemmas
+pub mod KeptLaws
 pub mod AnswerLemmas
 pub mod HoldingLemmas
 pub mod KeepingLemmas

@@ -8,7 +8,7 @@ use Rattle.bit_resolver.specs.Answers.{answer_to}
 use Rattle.bit_resolver.specs.Replies.{answer_text, failure_text}
 use Rattle.bit_resolver.specs.declared.zone.Zone.{Zone}
 use Rattle.answer_cache.specs.Cached.{held}
-use Rattle.kept_replies.specs.Kept.{kept_text}
+use Rattle.kept_answers.specs.Kept.{kept_text}
 use Rattle.kept_answers.specs.Answering.{Answering, AreRight, AnswersQuestion, GivesKept, IsLookedFor, Stores, key_for, kept_answer}
 use Rattle.kept_answers.specs.Answering.Looks.{hit, answered, failed}
 use Rattle.kept_answers.proofs.AnswerLemmas.{answer_kept, answer_fits}

@@ -8,7 +8,7 @@ use Rattle.bit_resolver.specs.declared.limits.TheConstants.{CLASS_IN}
 use Rattle.bit_resolver.specs.declared.zone.Zone.{Zone}
 use Rattle.answer_cache.specs.declared.cache_key.CacheKey.{CacheKey}
 use Rattle.answer_cache.specs.Cached.{held, found, behind_put}
-use Rattle.kept_replies.specs.Kept.{AskAlike, kept_text}
+use Rattle.kept_answers.specs.Kept.{AskAlike, kept_text}
 use Rattle.kept_answers.specs.Answering.{Answering, key_for, kept_answer, last_count, IsRightAt, AreRight, none_kept, outdated, with_cache, IsLookedFor, Stores}
 use Rattle.kept_answers.specs.Answering.Stores.{done, lacked, long}
 use Rattle.kept_answers.proofs.AnswerLemmas.{same_kept}

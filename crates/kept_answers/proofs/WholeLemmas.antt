@@ -4,7 +4,7 @@ use Rattle.dns_message.specs.Query.{Query}
 use Rattle.nmc_base.specs.declared.no_memory.NoMemory.{NoMemory}
 use Rattle.answer_cache.specs.declared.cache_key.CacheKey.{CacheKey}
 use Rattle.answer_cache.specs.Cached.{Cached, behind_put, behind_want}
-use Rattle.kept_replies.specs.Kept.{Kept, IsKept, kept_text, reply_with}
+use Rattle.kept_answers.specs.Kept.{Kept, IsKept, kept_text, reply_with}
 use Rattle.kept_answers.specs.Answering.{Answering, Stores, key_for, with_cache}
 use Rattle.kept_answers.specs.Answering.Stores.{done, lacked}
 use Rattle.kept_answers.specs.Whole.{IsWhole}

@@ -13,7 +13,7 @@ use Rattle.bit_resolver.specs.declared.limits.TheConstants.{CLASS_IN}
 use Rattle.bit_resolver.specs.declared.zone.Zone.{Zone}
 use Rattle.answer_cache.specs.declared.cache_key.CacheKey.{CacheKey}
 use Rattle.answer_cache.specs.Cached.{Cached, empty_cache, held, found, counted, behind_put, behind_want}
-use Rattle.kept_replies.specs.Kept.{Kept, IsKept, kept_reply, kept_text, reply_with}
+use Rattle.kept_answers.specs.Kept.{Kept, IsKept, kept_reply, kept_text, reply_with}
 use Rattle.kept_answers.specs.declared.limits.TheConstants.{LONGEST_KEPT, MOST_KEPT}
 
 -- ---- what is kept, and under what

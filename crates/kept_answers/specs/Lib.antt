@@ -1,2 +1,4 @@
+pub mod Kept
+pub mod Parts
 pub mod Answering
 pub mod Whole

@@ -2,7 +2,7 @@
 use Rattle.std.specs.Prelude.{◌≡◌, ℕ, ◌+◌, ◌≤◌, Bool, true, false, List, length, Contains}
 use Rattle.dns_message.specs.declared.numbers.TheConstants.{HEADER_SIZE}
 use Rattle.answer_cache.specs.declared.cache_key.CacheKey.{CacheKey}
-use Rattle.kept_replies.specs.Kept.{Kept, IsKept, kept_text}
+use Rattle.kept_answers.specs.Kept.{Kept, IsKept, kept_text}
 
 -- the bytes of a reply's OPT record, where it has one (RFC 6891, 6.1.2)
 abbrev pub opt_size : Bool → ℕ

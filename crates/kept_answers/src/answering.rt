@@ -9,10 +9,12 @@ ghost use Rattle.import_expand.specs.declared.limits.TheConstants.{MOST_HELD};
 ghost use Rattle.bit_resolver.specs.Replies.{told, IsWithin};
 ghost use Rattle.answer_cache.specs.Cached.{held};
 ghost use Rattle.answer_cache.specs.Keys.{key_of};
-ghost use Rattle.kept_replies.specs.Kept.{Kept, IsKept, reply_with};
+ghost use Rattle.kept_answers.specs.Kept.{Kept, IsKept, reply_with};
 ghost use Rattle.kept_answers.specs.Answering.{AnswersMessage, AnswersQuestion, GivesKept, IsHeldOrMissed, IsLookedFor, Stores, key_for};
 
 use crate::answers::Answers;
+use crate::giving::give;
+use crate::keeping::keep;
 use crate::limits::LONGEST_KEPT;
 use crate::lower::lower_in;
 use answer_cache::AskedKey;
@@ -20,7 +22,6 @@ use bit_resolver::{Answered, CLASS_IN, Replied, Zone, reply_to_question};
 use dns_message::{Asked, Question, Transport, read_query};
 use domain_text::LONGEST_WIRE;
 use import_expand::Names;
-use kept_replies::{give, keep};
 use std::alloc::Global;
 
 impl Answers {

@@ -1,7 +1,0 @@
-use Rattle.std.proofs.Common.{refl, arith}
-use Rattle.dns_message.specs.Query.{query_of}
-use Rattle.kept_replies.proofs.ReplyLemmas.{records_of}
-use Rattle.kept_replies.proofs.keeping.records.Goals as goal
-
-pub returns : goal.returns
-returns c = λ k is. records_of (query_of c.args.asked.now) k c.args.reply.now _ _ is refl (omega (arith, c.opt_size.ensures))

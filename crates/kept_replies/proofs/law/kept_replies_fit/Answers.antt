@@ -1,5 +1,0 @@
-use Rattle.kept_replies.proofs.KeptLaws.{kept_fits}
-use Rattle.kept_replies.proofs.law.kept_replies_fit.Goals as goal
-
-pub returns : goal.returns
-returns c = kept_fits
