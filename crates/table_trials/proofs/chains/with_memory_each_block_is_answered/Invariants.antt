@@ -1,4 +1,4 @@
-use Rattle.chain_trials.proofs.tests.a_chain_without_memory_is_as_it_was.Given as goal
+use Rattle.table_trials.proofs.chains.with_memory_each_block_is_answered.Given as goal
 
 abbrev pub ghosts-trial_of : goal.ghosts-trial_of
 ghosts-trial_of g a = record { name = a.blank.name; parts = a.blank.parts }

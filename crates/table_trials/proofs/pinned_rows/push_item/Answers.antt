@@ -1,6 +1,6 @@
 use Rattle.std.proofs.Common.{◌∙◌}
-use Rattle.pin_trials.proofs.FilledLemmas.{names_filled}
-use Rattle.pin_trials.proofs.listed.push_item.Goals as goal
+use Rattle.table_trials.proofs.FilledLemmas.{names_filled}
+use Rattle.table_trials.proofs.pinned_rows.push_item.Goals as goal
 
 pub returns : goal.returns
 returns g c =

@@ -1,5 +1,5 @@
 use Rattle.std.proofs.Common.{◌++◌, ◌∙◌, rules}
-use Rattle.chain_trials.proofs.tests.made_snapshot.feed_makes.Goals as goal
+use Rattle.table_trials.proofs.chains.made_snapshot.feed_makes.Goals as goal
 
 pub loop-number-preserved : goal.loop-number-preserved
 loop-number-preserved c =

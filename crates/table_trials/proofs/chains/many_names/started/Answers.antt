@@ -13,8 +13,8 @@ use Rattle.name_tables.specs.declared.parts.Parts.{Parts}
 use Rattle.chain_state.specs.Chain.{kept_tip}
 use Rattle.name_snapshot.specs.Answers.{HasStart}
 use Rattle.name_snapshot.specs.Text.{start_of}
-use Rattle.chain_trials.specs.declared.tests.made_snapshot.TheConstants.{BASE}
-use Rattle.chain_trials.proofs.tests.many_names.started.Goals as goal
+use Rattle.table_trials.specs.declared.chains.made_snapshot.TheConstants.{BASE}
+use Rattle.table_trials.proofs.chains.many_names.started.Goals as goal
 
 start_sound : (base : Base) (text : List ℕ) (parts : Parts) → base.height ≤ highest → HasStart base text parts
     → IsSound base.profile base.height (kept_tip base parts).height (maps_by (tables_of parts)) (newest_first parts.undos.items)

@@ -1,3 +1,5 @@
+//! The index over a chain of blocks: want of memory at each step, and many names and blocks.
+
 ghost use Rattle.std.specs.Prelude.{◌≡◌, ◌<◌};
 
 use nmc_base::Steps;

@@ -1,6 +1,6 @@
 use Rattle.std.proofs.Common.{◌≡◌, ℕ, ◌+◌, ◌*◌, List}
 use Rattle.name_snapshot.specs.Feeding.{HasRead}
-use Rattle.chain_trials.proofs.tests.made_snapshot.feed_makes.Given as goal
+use Rattle.table_trials.proofs.chains.made_snapshot.feed_makes.Given as goal
 
 abbrev pub invariant-loop-number : goal.invariant-loop-number
 invariant-loop-number l = record {

@@ -3,8 +3,8 @@ use Rattle.nmc_base.specs.declared.chain_ends.Base.{Base}
 use Rattle.name_tables.specs.declared.parts.Parts.{Parts}
 use Rattle.name_snapshot.specs.Answers.{HasStart, IsSnapshotAnswer}
 use Rattle.name_snapshot.specs.declared.fault.SnapshotFault.{SnapshotFault}
-use Rattle.chain_trials.specs.declared.tests.made_snapshot.TheConstants.{BASE}
-use Rattle.chain_trials.proofs.tests.made_snapshot.read.Goals as goal
+use Rattle.table_trials.specs.declared.chains.made_snapshot.TheConstants.{BASE}
+use Rattle.table_trials.proofs.chains.made_snapshot.read.Goals as goal
 
 has_start : (base : Base) (text : List ℕ) (read : Result Parts SnapshotFault) → base ≡ BASE → IsSnapshotAnswer base text read
     → IfOk read (λ parts. (some : List ℕ) × HasStart BASE some parts)

@@ -1,5 +1,0 @@
-use std::process::Abort;
-
-pub(crate) fn holds(rt: &impl Abort, fact: bool) {
-    assert!(rt; fact);
-}
