@@ -1,0 +1,4 @@
+pub mod VerdictLemmas
+pub mod StartLemmas
+pub mod BlockLemmas
+pub mod ChainLemmas
