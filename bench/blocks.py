@@ -82,6 +82,16 @@ def block_hash(block):
     return double_sha256(block[:80])
 
 
+def pieces(text):
+    """The frames or replies that the bytes are made of: each a byte, a length of 4 bytes and so many bytes."""
+    found, at = [], 0
+    while at < len(text):
+        end = at + 5 + int.from_bytes(text[at + 1 : at + 5], "little")
+        found.append(text[at:end])
+        at = end
+    return found
+
+
 def frame(kind, payload):
     return kind + struct.pack("<I", len(payload)) + payload
 

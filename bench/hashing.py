@@ -102,20 +102,24 @@ def switch(process, state):
     subprocess.run(["callgrind_control", f"--instr={state}", str(process)], check=True, stdout=subprocess.DEVNULL, stderr=subprocess.DEVNULL)
 
 
-def counted_behind(folder, asking, given, lengths):
-    """The instructions of a replay over the files of a folder, of what is given alone: neither of the opening nor of the end. Two
-    lengths, of the reply to what is asked before and of the replies to what is given; and these replies."""
+def replies_to(run, frames):
+    """The replies of a run to frames: each a byte, a length of 4 bytes and so many bytes."""
+    run.stdin.write(b"".join(frames))
+    run.stdin.flush()
+    heads = (run.stdout.read(5) for _ in frames)
+    return [head + run.stdout.read(int.from_bytes(head[1:], "little")) for head in heads]
+
+
+def counted_behind(folder, before, given, words=("replay",)):
+    """The instructions of the program with these words over the files of a folder, of the frames that are given alone, with their
+    replies: neither of the opening, nor of the frames that are asked before, of which there is one at least, nor of the end."""
     with tempfile.NamedTemporaryFile() as trace:
-        command = ["valgrind", "--tool=callgrind", "--instr-atstart=no", f"--callgrind-out-file={trace.name}", PROGRAM, "replay"]
+        command = ["valgrind", "--tool=callgrind", "--instr-atstart=no", f"--callgrind-out-file={trace.name}", PROGRAM, *words]
         how = {"stdin": subprocess.PIPE, "stdout": subprocess.PIPE, "stderr": subprocess.PIPE, "env": os.environ | {"GLIBC_TUNABLES": BY_STORES}}
         run = subprocess.Popen(command, cwd=folder, **how)
-        run.stdin.write(asking)
-        run.stdin.flush()
-        run.stdout.read(lengths[0])
+        replies_to(run, before)
         switch(run.pid, "on")
-        run.stdin.write(given)
-        run.stdin.flush()
-        told = run.stdout.read(lengths[1])
+        told = replies_to(run, given)
         switch(run.pid, "off")
         said = run.communicate()[1].decode()
     total = re.search(r"Collected : (\d+)", said)

@@ -13,6 +13,7 @@ HERE = "127.0.0.1"
 # The makers of blocks and of folders stand with the benchmarks.
 sys.path.insert(0, str(TOP / "bench"))
 
+from blocks import pieces
 from ports import free_port, server_ports
 from stores import PROGRAM, empty_folder, knows_starts, made_folder
 
@@ -50,16 +51,6 @@ def replay(given, output=subprocess.PIPE):
 
 def reply(code, payload=b""):
     return bytes([code]) + struct.pack("<I", len(payload)) + payload
-
-
-def pieces(text):
-    """The frames or replies that the bytes are made of: each a byte, a length of 4 bytes and so many bytes."""
-    found, at = [], 0
-    while at < len(text):
-        end = at + 5 + int.from_bytes(text[at + 1 : at + 5], "little")
-        found.append(text[at:end])
-        at = end
-    return found
 
 
 def bytes_of(field):
