@@ -16,10 +16,7 @@ use Rattle.chain_commands.specs.RunState.{RunState}
 use Rattle.chain_commands.specs.Saving.{IsSavedText, of_start}
 use Rattle.chain_commands.specs.Saving.{none_yet as nothing_saved}
 use Rattle.image_slots.specs.Selections.{HasSelections}
-use Rattle.undo_records.specs.declared.version.Version.{Version}
 use Rattle.undo_records.specs.declared.version.Version.TheVariants.{Two}
-use Rattle.image_grammar.specs.Image.{Image}
-use Rattle.image_grammar.specs.Text.{image_text}
 use Rattle.name_store.specs.Header.{IsBegun, header_text}
 use Rattle.name_store.specs.Stands.{Bytes, IsRunState, Stands, EachStands, begun_from}
 use Rattle.name_store.specs.Making.{IsEmpty, EachIsBegun}
@@ -28,17 +25,13 @@ use Rattle.name_store.specs.Starting.{IsStartText, HasStartText}
 
 -- ---- the run state
 
--- no image has an empty text
-no_text : (version : Version) (image : Image) → [] ≡ image_text version image → ⊥
-no_text version image e = omega (arith, ap length e)
-
 -- no start list
 pub no_start : (base : Base) → HasStartText base [] []
 no_start base = record {
   is_start = record { makes = tt; few = omega arith };
+  wide = tt;
   is_text = refl;
   short = omega arith;
-  again = λ version is. absurd (no_text version is.is_text.image is.is_text.text_is);
 }
 
 begun_text : (base : Base) (host : List ℕ) (start : Log) (text : List ℕ) → IsStartText base start text → IsSavedText (begun_from base host start text)
@@ -48,8 +41,8 @@ begun_text base host (event ∷ start) text is = of_start Two refl refl (λ e. a
 pub begun_state : (base : Base) (host : List ℕ) (start : Log) (text : List ℕ) → IsBegun base host → HasStartText base start text → IsRunState (begun_from base host start text)
 begun_state base host start text begun has = record {
   begun = begun;
+  wide = has.wide;
   has_saved = record { text_is = begun_text base host start text has.is_text; short = has.short; few = omega arith };
-  again = has.again;
   valid = record { low = begun.low; starts = has.is_start };
   allowed_before = tt;
   allowed = tt;

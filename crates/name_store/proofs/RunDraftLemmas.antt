@@ -1,8 +1,6 @@
 -- The run state of a save in slices: while it goes on, and behind it.
 use Rattle.std.proofs.Common.{◌≡◌, ℕ, ◌+◌, ◌-◌, ◌<◌, ◌≤◌, List, [], ◌∷◌, ◌++◌, length, refl, sym, ◌∙◌, ap, subst, arith, append_assoc}
-use Rattle.undo_records.specs.declared.version.Version.{Version}
 use Rattle.undo_records.specs.declared.version.Version.TheVariants.{Two}
-use Rattle.image_grammar.specs.Image.{HasText}
 use Rattle.chain_state.specs.Chain.{Indexed}
 use Rattle.chain_state.specs.Standing.{AreValid}
 use Rattle.chain_commands.specs.Chain.{Chain}
@@ -19,7 +17,7 @@ use Rattle.name_store.specs.Drafting.{IsDraftFor}
 use Rattle.name_store.specs.Host.{IsHostOf}
 use Rattle.name_store.specs.Stands.{IsRunState}
 use Rattle.name_store.specs.Stored.{Stored, StandsFor}
-use Rattle.name_store.proofs.TextLemmas.{text_of, read_again}
+use Rattle.name_store.proofs.TextLemmas.{text_of}
 
 -- ---- while it goes on
 
@@ -81,12 +79,12 @@ module _ (store : Stored) (run : RunState) (s : StandsFor store run) (newer olde
         let chain = after_commands (saved_chain run) older in
         record {
           begun = s.is_state.begun;
+          wide = s.is_state.wide;
           has_saved = record {
             text_is = of_chain Two (omega arith) (of_older (λ (c : Chain). IsTextOf Two c image) (text_of is.index chain is.stands image is.is_text));
             short = short;
             few = omega (arith, few, s.selections);
           };
-          again = of_older (λ (c : Chain). (version : Version) (other : IsTextOf version c image) → HasText other.is_text.image) (read_again is.index chain is.stands image is.is_text short);
           valid = of_older (λ (c : Chain). AreValid c.base c.start c.blocks) is.stands.valid;
           allowed_before = parts_allowed (on_base run.base run.start) older run.saved s.is_state.allowed_before allowed_parts.0;
           allowed = of_older (λ (c : Chain). AreAllowed c newer) allowed_parts.1;

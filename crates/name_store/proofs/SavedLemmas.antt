@@ -25,6 +25,8 @@ use Rattle.image_files.specs.SavedTexts as images
 use Rattle.image_files.specs.SavedTexts.{IsIndexOfState}
 use Rattle.image_files.proofs.AreaLaws.{saved_undamaged, saved_index, area_front, area_image}
 use Rattle.image_files.proofs.StateLaws.{state_index}
+use Rattle.saved_widths.specs.Wide.{HaveWidePoints}
+use Rattle.saved_widths.proofs.ChainLemmas.{text_again}
 use Rattle.name_store.specs.Stands.{IsRunState}
 
 -- ---- the index of a chain of blocks, by its state
@@ -95,6 +97,15 @@ commands_base : (first : Chain) (commands : List Command) → (after_commands fi
 commands_base first [] = refl
 commands_base first (command ∷ commands) = after_base (after_commands first commands) command ∙ commands_base first commands
 
+-- and its start list
+after_start : (chain : Chain) (command : Command) → (after_command chain command).start ≡ chain.start
+after_start chain (Connect block) = refl
+after_start chain (Disconnect hash) = refl
+
+commands_start : (first : Chain) (commands : List Command) → (after_commands first commands).start ≡ first.start
+commands_start first [] = refl
+commands_start first (command ∷ commands) = after_start (after_commands first commands) command ∙ commands_start first commands
+
 pub chain_base : (run : RunState) → (chain_of run).base ≡ run.base
 chain_base run = commands_base (saved_chain run) run.since ∙ commands_base (on_base run.base run.start) run.saved
 
@@ -104,13 +115,19 @@ module _ (run : RunState) (is : IsRunState run) where
   base_of : (saved_chain run).base ≡ run.base
   base_of = commands_base (on_base run.base run.start) run.saved
 
+  -- whichever version its text is taken for, it is one that is read again
+  pub saved_again : (version : Version) (saved : IsTextOf version (saved_chain run) run.text) → HasText saved.is_text.image
+  saved_again version saved =
+      let wide : HaveWidePoints (saved_chain run).start = subst HaveWidePoints (sym (commands_start (on_base run.base run.start) run.saved)) is.wide in
+      text_again version (saved_chain run) run.text saved (ap (λ (b : Base). length b.hash.0) base_of ∙ is.begun.hash) wide is.valid is.has_saved.short
+
   none_saved : run.saved ≡ [] → run.start ≡ [] → saved_chain run ≡ on_base run.base []
   none_saved none no_start = λ i. after_commands (on_base run.base (no_start i)) (none i)
 
   -- an index with which its area begins is that of the text
   begins_by : (version : Version) → IsTextOf version (saved_chain run) run.text → (index : Indexed) → BeginsWith run.base run.text index → StandsFor index (saved_chain run)
   begins_by version is_text index begins =
-      text_stands (saved_chain run) is.valid version run.text is_text (is.again version is_text) index (subst (λ (b : Base). BeginsWith b run.text index) (sym base_of) begins)
+      text_stands (saved_chain run) is.valid version run.text is_text (saved_again version is_text) index (subst (λ (b : Base). BeginsWith b run.text index) (sym base_of) begins)
 
   -- an index with which its area begins is that of what is saved
   begins_saved : IsSavedText run → (index : Indexed) → BeginsWith run.base run.text index → StandsFor index (saved_chain run)
@@ -134,7 +151,7 @@ module _ (run : RunState) (is : IsRunState run) where
 
     whole_by : (version : Version) → IsTextOf version (saved_chain run) run.text → (at : ℕ) → HasBadImage run.base file at → ⊥
     whole_by version is_text at bad =
-        text_undamaged (saved_chain run) is.valid version run.text is_text (is.again version is_text) file at saved_front saved_image (subst (λ (b : Base). HasBadImage b file at) (sym base_of) bad)
+        text_undamaged (saved_chain run) is.valid version run.text is_text (saved_again version is_text) file at saved_front saved_image (subst (λ (b : Base). HasBadImage b file at) (sym base_of) bad)
 
     undamaged_by : IsSavedText run → (at : ℕ) → HasBadImage run.base file at → ⊥
     undamaged_by (none_yet no_selection none no_start empty) at bad = empty_undamaged run.base file at saved_front (saved_image ∙ empty) bad

@@ -28,6 +28,7 @@ use Rattle.name_tables.specs.Parts.{newest_first, tables_of}
 use Rattle.name_tables.specs.Tables.{maps_by}
 use Rattle.name_tables.specs.declared.parts.Parts.{Parts}
 use Rattle.undo_records.specs.declared.version.Version.TheVariants.{Two}
+use Rattle.saved_widths.proofs.ChainLemmas.{wide_by_text}
 use Rattle.name_store.specs.Starting.{IsStartIndex, start_index, HasCoin, IsStartText, HasShortText, HasStartText}
 use Rattle.name_store.specs.declared.faults.CreateFromFault.{CreateFromFault}
 use Rattle.name_store.specs.declared.faults.CreateFromFault.TheVariants.{DiskFault}
@@ -109,9 +110,9 @@ module _ (base : Base) (start : Log) (parts : Parts) (is : IsStartIndex base sta
     pub start_has : HasCoin parts.coins → (text : List ℕ) → IsTextOfIndex (start_index base parts) text → length text ≤ longest_image → HasStartText base start text
     start_has some text is_text short = record {
       is_start = is.is_start;
+      wide = wide_by_text Two base start text (index_text text is_text) is.is_start (read_again (start_index base parts) (on_base base start) index_stands text is_text short Two (index_text text is_text));
       is_text = of_makes start (some_start some) (index_text text is_text);
       short = short;
-      again = read_again (start_index base parts) (on_base base start) index_stands text is_text short;
     }
       where
         of_makes : (list : Log) → list ≢ [] → IsTextOf Two (on_base base list) text → IsStartText base list text

@@ -31,8 +31,8 @@ holds_commands run file is area = record { is_area = area; length_is = area_is r
 pub state_with : (run : RunState) (command : Command) → IsRunState run → IsAllowed (chain_of run) command → area_of run + record_length command ≤ longest_area → IsRunState (accepted run command)
 state_with run command is allowed room = record {
   begun = is.begun;
+  wide = is.wide;
   has_saved = command_keeps run command is.has_saved;
-  again = is.again;
   valid = is.valid;
   allowed_before = is.allowed_before;
   allowed = (is.allowed, allowed);

@@ -4,11 +4,10 @@ use Rattle.nmc_base.specs.declared.chain_ends.Base.{Base}
 use Rattle.chain_names.specs.Log.{Log}
 use Rattle.disk_model.specs.Moments.{Files, IsImage}
 use Rattle.gate_journal.specs.Records.{IsArea}
-use Rattle.undo_records.specs.declared.version.Version.{Version}
-use Rattle.image_grammar.specs.Image.{HasText}
 use Rattle.chain_state.specs.Standing.{AreValid}
 use Rattle.chain_commands.specs.RunState.{RunState, on_base, saved_chain, area_of, longest_area}
-use Rattle.chain_commands.specs.Saving.{IsTextOf, HasSaved}
+use Rattle.chain_commands.specs.Saving.{HasSaved}
+use Rattle.saved_widths.specs.Wide.{HaveWidePoints}
 use Rattle.image_slots.specs.Selections.{HasSelections, selected_by}
 use Rattle.index_commands.specs.Records.{records_of}
 use Rattle.index_commands.specs.Allowed.{AreAllowed}
@@ -18,12 +17,12 @@ use Rattle.name_store.specs.Header.{IsBegun, header_text}
 abbrev pub Bytes : Type 0
 Bytes = ℕ → List ℕ
 
--- A run state that files have: it begins on a base, its saves are right, and their text is one that is read again; each command was
--- allowed at its turn, and the area is no longer than the longest.
+-- A run state that files have: it begins on a base, with a start list whose outpoints are as wide as their fields, and its saves are
+-- right; each command was allowed at its turn, and the area is no longer than the longest.
 pub record IsRunState (run : RunState) : Type 0 where
   pub begun : IsBegun run.base run.host
+  pub wide : HaveWidePoints run.start
   pub has_saved : HasSaved run
-  pub again : (version : Version) (is : IsTextOf version (saved_chain run) run.text) → HasText is.is_text.image
   pub valid : AreValid (saved_chain run).base (saved_chain run).start (saved_chain run).blocks
   pub allowed_before : AreAllowed (on_base run.base run.start) run.saved
   pub allowed : AreAllowed (saved_chain run) run.since

@@ -12,12 +12,11 @@ use Rattle.chain_commands.specs.RunState.{on_base}
 use Rattle.chain_commands.specs.Saving.{IsTextOf, longest_image}
 use Rattle.chain_state.specs.Chain.{Indexed, indexed_of, kept_tip}
 use Rattle.image_files.specs.SavingIndex.{IsTextOfIndex}
-use Rattle.image_grammar.specs.Image.{HasText}
 use Rattle.name_tables.specs.Parts.{tables_of}
 use Rattle.name_tables.specs.Tables.{maps_by, AreFilled}
 use Rattle.name_tables.specs.declared.parts.Parts.{Parts}
-use Rattle.undo_records.specs.declared.version.Version.{Version}
 use Rattle.undo_records.specs.declared.version.Version.TheVariants.{Two}
+use Rattle.saved_widths.specs.Wide.{HaveWidePoints}
 use Rattle.name_store.specs.Header.{IsInitialised, IsUninitialised}
 use Rattle.name_store.specs.MakingSteps.{HasSettled, area_with}
 use Rattle.name_store.specs.Stands.{Bytes}
@@ -61,12 +60,12 @@ pub record IsStartImage (base : Base) (parts : Parts) (text : List ℕ) (size : 
   pub size_is : size ≡ length text
   pub short : size ≤ longest_image
 
--- The text that files of a start list have. It is one that is read again.
+-- the text that files of a start list have, whose outpoints are as wide as their fields
 pub record HasStartText (base : Base) (start : Log) (text : List ℕ) : Type 0 where
   pub is_start : IsStart base.profile base.height start
+  pub wide : HaveWidePoints start
   pub is_text : IsStartText base start text
   pub short : length text ≤ longest_image
-  pub again : (version : Version) (is : IsTextOf version (on_base base start) text) → HasText is.is_text.image
 
 -- an area with this text and without commands
 pub record HasStartArea (base : Base) (start : Log) (file : FileState) : Type 0 where

@@ -4,14 +4,17 @@ ghost use Rattle.disk_model.specs.Changes.{LeavesOthers};
 ghost use Rattle.disk_model.specs.DiskSeen.{DiskSeen, bytes_in};
 ghost use Rattle.gate_journal.specs.Gate.{record_text};
 ghost use Rattle.chain_commands.specs.Event.{Command};
-ghost use Rattle.chain_commands.specs.RunState.{RunState, accepted};
+ghost use Rattle.chain_commands.specs.RunState.{RunState, accepted, saved_chain};
+ghost use Rattle.chain_commands.specs.Saving.{IsTextOf};
+ghost use Rattle.undo_records.specs.declared.version.Version.{Version};
+ghost use Rattle.image_grammar.specs.Image.{HasText};
 ghost use Rattle.index_commands.specs.Records.{record_of};
 ghost use Rattle.image_files.specs.SavingIndex.{IsTextOfIndex};
 ghost use Rattle.name_store.specs.Drafting.{Drafting, IsDraftOf, IsDraftOn, IsDraftFor};
 ghost use Rattle.name_store.specs.Growing.{IsAsLong, IsLonger};
 ghost use Rattle.name_store.specs.Header.{IsUninitialised};
 ghost use Rattle.name_store.specs.Damage.{IsDamaged};
-ghost use Rattle.name_store.specs.Stands.{Bytes, Stands};
+ghost use Rattle.name_store.specs.Stands.{Bytes, IsRunState, Stands};
 ghost use Rattle.name_store.specs.Stored.{Stored, StandsFor, EachStandsFor, IsOn, area_file};
 
 use crate::store::Store;
@@ -28,6 +31,11 @@ pub fn one_kind_of_files()
 pub fn one_damage()
     ensures { (files : Bytes) (file at other place : ℕ)
         → IsDamaged files file at → IsDamaged files other place → (file ≡ other) × (at ≡ place) }
+{}
+
+/// The law of what is saved: whichever version the text of a run state is taken for, its image is one that is read again.
+pub fn saved_is_read_again()
+    ensures { (run : RunState) → IsRunState run → (version : Version) (is : IsTextOf version (saved_chain run) run.text) → HasText is.is_text.image }
 {}
 
 /// The law of the drafts of saves in slices. A store that is as long as before has each draft that it had, and its draft on the disk is on it

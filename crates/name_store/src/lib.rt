@@ -24,7 +24,7 @@ pub use drafting::{DraftOutcome, SlicedDraft};
 pub use faults::{CreateFault, CreateFromFault, OpenFault};
 pub use host::number_of_hosts;
 pub use initialised::is_initialised;
-pub use law::{drafts_stay, images_of_a_store, one_damage, one_kind_of_files};
+pub use law::{drafts_stay, images_of_a_store, one_damage, one_kind_of_files, saved_is_read_again};
 pub use making::create;
 pub use saving::SaveRefusal;
 pub use slice_steps::LONGEST_SLICE;
