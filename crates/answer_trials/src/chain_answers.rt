@@ -1,3 +1,5 @@
+//! Replies from a chain: a base alone, and names above it.
+
 ghost use Rattle.std.specs.Prelude.{◌≤◌};
 
 use crate::comparing::same;

@@ -1,3 +1,5 @@
+//! How bytes and texts are compared, and lines are read.
+
 use std::process::Abort;
 use std::test::Fail;
 

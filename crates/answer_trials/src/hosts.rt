@@ -1,3 +1,5 @@
+//! Texts of hosts and their names at a node.
+
 use crate::comparing::{same, same_text, text, word};
 use domain_text::{
     Form, Name, absolute_name, is_entry_label, is_label, read_host, read_ipv4, read_ipv6,

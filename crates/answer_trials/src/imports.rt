@@ -1,3 +1,5 @@
+//! Imports and maps: the nodes that they make, and what is held for them.
+
 ghost use Rattle.std.specs.Prelude.{Some, None, nat_eq, ◌≤◌, if◌then◌else◌};
 ghost use Rattle.std.specs.Cmp.Lexicographic.{pointwise};
 

@@ -1,3 +1,5 @@
+//! Messages and the replies to them, as another reading of the standards has both.
+
 ghost use Rattle.std.specs.Prelude.{◌≡◌, ◌≤◌, length};
 ghost use Rattle.domain_text.specs.Names.{IsName};
 ghost use Rattle.dns_message.specs.Replies.{Contents};

@@ -1,3 +1,5 @@
+//! Messages and replies over an index of names.
+
 ghost use Rattle.std.specs.Prelude.{◌≤◌, find, length};
 ghost use Rattle.std.specs.Option.{option_map};
 ghost use Rattle.std.specs.Str.{bytes_eq};

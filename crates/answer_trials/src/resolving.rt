@@ -1,3 +1,5 @@
+//! Questions and answers over names with values of all kinds.
+
 ghost use Rattle.std.specs.Prelude.{find};
 ghost use Rattle.std.specs.Option.{option_map};
 ghost use Rattle.std.specs.Str.{bytes_eq};

@@ -1,3 +1,5 @@
+//! Values and the items that are read from them.
+
 use crate::comparing::{same, text, word};
 use ifa_value::{Element, IfaObject, Key, read_value};
 use nmc_base::Bytes;

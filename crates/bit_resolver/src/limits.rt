@@ -1,3 +1,5 @@
+//! Numbers of the zone `bit.` and of its answers.
+
 /// QCLASS and CLASS of the internet: IN (RFC 1035, 3.2.4).
 pub const CLASS_IN: u16 = 1;
 

@@ -1,3 +1,5 @@
+//! The law of the numbers that definitions of answers cite.
+
 ghost use Rattle.std.specs.Prelude.{◌≡◌};
 ghost use Rattle.bit_resolver.specs.declared.limits.TheConstants.{CLASS_IN, MOST_CNAMES, REFRESH, RETRY, EXPIRE, MINIMUM};
 ghost use Rattle.bit_resolver.specs.declared.rr_type.TheConstants.{A, NS, CNAME, SOA, MX, TXT, AAAA, SRV, DNAME, DS, SSHFP, TLSA, IXFR, AXFR, ANY};

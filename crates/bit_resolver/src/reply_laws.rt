@@ -1,3 +1,5 @@
+//! What holds of every reply, whatever names are served.
+
 ghost use Rattle.std.specs.Prelude.{◌≡◌, ◌≤◌, ◌↔◌, ℕ, List, length, None, Some};
 ghost use Rattle.dns_message.specs.Query.{Query};
 ghost use Rattle.dns_message.specs.Query.Reading.{Dropped};

@@ -1,3 +1,5 @@
+//! The reply to a message, from names that are served.
+
 ghost use Rattle.std.specs.Prelude.{◌≡◌, ◌≤◌, length, take};
 ghost use Rattle.domain_text.specs.Names.{IsName};
 ghost use Rattle.dns_message.specs.Limits.{most_of};

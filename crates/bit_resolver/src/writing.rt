@@ -1,3 +1,5 @@
+//! Writes the sections of a reply.
+
 ghost use Rattle.std.specs.Prelude.{◌≡◌, ◌≤◌, length, map, take};
 ghost use Rattle.domain_text.specs.Names.{IsName};
 ghost use Rattle.dns_message.specs.Query.{query_of};

@@ -1,3 +1,5 @@
+//! Does what the words of the command line say.
+
 ghost use Rattle.std.specs.Prelude.{◌≡◌, ◌↔◌, ◌^◌, List, ℕ, IsTrue};
 ghost use Rattle.nmc_base.specs.declared.chain_ends.Base.{Base};
 ghost use Rattle.frame_loop.specs.Transcript.{streams};

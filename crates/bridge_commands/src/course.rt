@@ -1,3 +1,5 @@
+//! Where a self-test is: its bridge, and what was counted.
+
 use bridge_core::Bridge;
 
 /// Where a self-test is: its bridge, and what was counted so far.

@@ -1,3 +1,5 @@
+//! The command that reports the names of a chain.
+
 ghost use Rattle.std.specs.Prelude.{◌≡◌};
 ghost use Rattle.bridge_commands.specs.Dumping.{Dumps, dump_seen, status_of_report};
 

@@ -1,3 +1,5 @@
+//! The commands that make files, of a base or of a snapshot.
+
 ghost use Rattle.std.specs.Prelude.{◌≡◌, ◌≤◌, ◌^◌, List, ℕ, IsTrue};
 ghost use Rattle.nmc_base.specs.declared.limits.TheConstants.{HIGHEST_HEIGHT};
 ghost use Rattle.name_store.specs.Host.{IsHostOf};

@@ -1,3 +1,5 @@
+//! The command that serves: polls of a port, each dealt with before the next.
+
 ghost use Rattle.std.specs.Prelude.{◌≡◌, ◌<◌};
 ghost use Rattle.bridge_commands.specs.Serving.{Serves, serve_seen, status_of_ending};
 

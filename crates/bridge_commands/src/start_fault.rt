@@ -1,3 +1,5 @@
+//! Why no files were made of a snapshot.
+
 ghost use Rattle.std.specs.Prelude.{◌≡◌};
 ghost use Rattle.bridge_commands.specs.Starting.{fault_of_feed, fault_of_making};
 

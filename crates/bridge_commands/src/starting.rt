@@ -1,3 +1,5 @@
+//! Makes files of a snapshot that a source has.
+
 ghost use Rattle.std.specs.Prelude.{◌≡◌, ◌≤◌, ◌^◌, List, ℕ, length, IsTrue, IsErrOf};
 ghost use Rattle.disk_model.specs.DiskSeen.{bytes_in};
 ghost use Rattle.nmc_base.specs.declared.limits.TheConstants.{HIGHEST_HEIGHT};

@@ -1,3 +1,5 @@
+//! What a self-test came to, and its text.
+
 ghost use Rattle.std.specs.Prelude.{◌≡◌, ◌++◌, decimal, IfOk, OnOk};
 ghost use Rattle.nmc_base.specs.Hash.{display_text};
 ghost use Rattle.bridge_commands.specs.SelfTest.{Writes, summary_text};

@@ -1,3 +1,5 @@
+//! Answers frames by a bridge: each event is done, and its reply is made.
+
 ghost use Rattle.std.specs.Prelude.{IsTrue};
 ghost use Rattle.frame_loop.specs.Turns as loops;
 ghost use Rattle.chain_commands.specs.Event.{Ask, event_frame};

@@ -1,3 +1,5 @@
+//! The bridge: a store, and what it answers messages by.
+
 ghost use Rattle.std.specs.Prelude.{◌≡◌, ◌≤◌, length, IsTrue, IfOk, OnOk};
 ghost use Rattle.nmc_base.specs.declared.limits.TheConstants.{LONGEST_BLOCK};
 ghost use Rattle.disk_model.specs.Changes.{KeepsSettled};

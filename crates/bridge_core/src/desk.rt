@@ -1,3 +1,5 @@
+//! What a bridge answers messages by: room for a reply, and the answers that are kept.
+
 ghost use Rattle.std.specs.Prelude.{◌≡◌, IfOk};
 ghost use Rattle.kept_answers.specs.Answering.{none_kept, outdated};
 ghost use Rattle.bridge_core.specs.Bridge.{AnswersQuery};

@@ -1,3 +1,5 @@
+//! What a bridge is asked to do, read from a whole frame.
+
 ghost use Rattle.std.specs.Prelude.{◌≡◌};
 ghost use Rattle.feed_frames.specs.Front as feed;
 ghost use Rattle.chain_commands.specs.Event.{event_frame, last_kind};

@@ -1,3 +1,5 @@
+//! The reply to a message from the names that an index serves.
+
 ghost use Rattle.std.specs.Prelude.{ℕ, ◌≤◌, List, length};
 ghost use Rattle.nmc_base.specs.declared.chain_ends.Base.{Base};
 ghost use Rattle.chain_names.specs.Log.{Log};

@@ -1,3 +1,5 @@
+//! The status of files that could not be opened, and the one place where a bridge is let go of.
+
 ghost use Rattle.std.specs.Prelude.{◌≡◌};
 ghost use Rattle.bridge_core.specs.Opening.{status_of_fault};
 

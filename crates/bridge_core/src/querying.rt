@@ -1,3 +1,5 @@
+//! Answers a message from the chain of a store.
+
 ghost use Rattle.std.specs.Prelude.{◌≤◌, length};
 ghost use Rattle.dns_message.specs.Limits.{most_of};
 ghost use Rattle.bridge_core.specs.Bridge.{AnswersQuery};

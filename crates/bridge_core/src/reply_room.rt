@@ -1,3 +1,5 @@
+//! Room for the longest reply to a message.
+
 ghost use Rattle.std.specs.Prelude.{◌≡◌, length, IfOk};
 ghost use Rattle.dns_message.specs.declared.numbers.TheConstants.{GREATEST_LIMIT};
 

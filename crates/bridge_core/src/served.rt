@@ -1,3 +1,5 @@
+//! The names that a chain serves, with their values.
+
 ghost use Rattle.std.specs.Prelude.{◌≡◌};
 ghost use Rattle.bridge_core.specs.Serving.{served_by};
 

@@ -1,3 +1,5 @@
+//! How a command ended, and its line for people.
+
 ghost use Rattle.std.specs.Prelude.{◌≡◌, Some};
 ghost use Rattle.bridge_core.specs.Statuses.{number_of, line_of};
 

@@ -1,3 +1,5 @@
+//! How bytes and the ends of lives are compared.
+
 use std::process::Abort;
 
 pub(crate) fn same(rt: &impl Abort, got: &[u8], want: &[u8]) {

@@ -1,3 +1,5 @@
+//! A disk in memory whose calls fail in turn.
+
 use crate::comparing::{ends, is_right_or_unknown};
 use disk_model::{Disk, Failed};
 use memory_disk::{Choice, MemoryDisk};

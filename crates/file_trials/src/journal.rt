@@ -1,3 +1,5 @@
+//! A journal over such a disk.
+
 ghost use Rattle.std.specs.Prelude.{◌≡◌, ◌<◌, true, length, IsTrue, IfSome, OnOk};
 ghost use Rattle.disk_model.specs.DiskSeen.{file_in};
 ghost use Rattle.gate_journal.specs.Stand.{IsAtGate, IsReadable};

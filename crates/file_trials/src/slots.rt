@@ -1,3 +1,5 @@
+//! Images and their selections over such a disk.
+
 ghost use Rattle.std.specs.Prelude.{◌≡◌, ◌<◌, ◌≤◌, ℕ, List, length, IsTrue, IfSome, IfOk, OnOk};
 ghost use Rattle.disk_model.specs.DiskSeen.{file_in};
 ghost use Rattle.image_slots.specs.Selections.{drafted_by};

@@ -1,3 +1,5 @@
+//! Stores over such a disk.
+
 mod bytes;
 mod failures;
 mod files;

@@ -1,3 +1,5 @@
+//! Answers a message, from an answer that is kept or from the names, and keeps it then.
+
 ghost use Rattle.std.specs.Prelude.{◌≡◌, ◌↔◌, ◌<◌, ◌≤◌, length, take, Some, None, IsTrue, IfSome, IfNone};
 ghost use Rattle.domain_text.specs.Names.{IsName, lower};
 ghost use Rattle.dns_message.specs.Limits.{most_of};

@@ -1,3 +1,5 @@
+//! The answers that are kept until a block joins or leaves the chain.
+
 ghost use Rattle.std.specs.Prelude.{◌≡◌, IfOk};
 ghost use Rattle.kept_answers.specs.Answering.{none_kept, outdated};
 

@@ -1,3 +1,5 @@
+//! Gives a reply from what was kept of one.
+
 ghost use Rattle.std.specs.Prelude.{◌≡◌, ℕ, ◌+◌, ◌^◌, ◌≤◌, ◌<◌, ◌++◌, [], length, take};
 ghost use Rattle.dns_message.specs.Edns.{opt_text, edns_of_reply, opt_of_reply, opt_size_of_reply, additionals_of_reply};
 ghost use Rattle.dns_message.specs.Header.{flags_of_reply};

@@ -1,3 +1,5 @@
+//! What is kept of a reply, and its form in bytes.
+
 ghost use Rattle.std.specs.Prelude.{◌≡◌, ℕ, ◌≤◌, ◌++◌, List, length};
 ghost use Rattle.dns_message.specs.Query.{Query, query_of};
 ghost use Rattle.dns_message.specs.Replies.{head_text};

@@ -1,3 +1,5 @@
+//! How many answers are kept, and how long they may be.
+
 /// So many answers are kept at most.
 pub const MOST_KEPT: usize = 1_024;
 

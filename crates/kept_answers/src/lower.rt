@@ -1,3 +1,5 @@
+//! A name in lower case, in room that is given.
+
 ghost use Rattle.std.specs.Prelude.{◌≡◌, ◌≤◌, length};
 ghost use Rattle.domain_text.specs.Names.{lower};
 ghost use Rattle.domain_text.specs.declared.limits.TheConstants.{LONGEST_WIRE};

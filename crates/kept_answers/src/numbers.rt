@@ -1,3 +1,5 @@
+//! Sizes of the parts of what is kept, and of a reply.
+
 /// The bytes of what is kept of a reply before its records.
 pub(crate) const HEAD_SIZE: usize = 8;
 

@@ -1,3 +1,5 @@
+//! Answers frames by a lister, and lets go of what ended, some parts behind each event.
+
 ghost use Rattle.std.specs.Prelude.{◌≡◌};
 ghost use Rattle.frame_loop.specs.Turns as loops;
 ghost use Rattle.name_lister.specs.Event.{list_frame};

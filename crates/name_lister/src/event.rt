@@ -1,3 +1,5 @@
+//! What a lister is asked to do, read from a whole frame.
+
 ghost use Rattle.std.specs.Prelude.{◌≡◌, length};
 ghost use Rattle.std.specs.Int.{w32, to_le_bytes};
 ghost use Rattle.feed_frames.specs.Front as feed;

@@ -1,3 +1,5 @@
+//! The lister: a bridge with listing sessions, and with a save in slices.
+
 ghost use Rattle.std.specs.Prelude.{◌≡◌, ◌+◌, ◌≤◌, length, None, IsTrue, IfOk, OnOk};
 ghost use Rattle.nmc_base.specs.Heights.{highest};
 ghost use Rattle.nmc_base.specs.declared.limits.TheConstants.{LONGEST_BLOCK};

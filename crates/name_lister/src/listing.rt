@@ -1,3 +1,5 @@
+//! A listing run: files are opened, and frames of a source are answered on a sink.
+
 ghost use Rattle.std.specs.Prelude.{◌≡◌, ◌<◌, ◌≤◌, ◌^◌};
 ghost use Rattle.frame_loop.specs.Transcript.{streams};
 ghost use Rattle.bridge_core.specs.Determined.{outside};

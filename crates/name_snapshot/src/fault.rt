@@ -1,3 +1,5 @@
+//! Why bytes are no snapshot.
+
 use nmc_base::NoMemory as NoBytes;
 use thiserror::Error;
 

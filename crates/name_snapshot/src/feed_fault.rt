@@ -1,3 +1,5 @@
+//! Why no snapshot was read from a source.
+
 use crate::fault::SnapshotFault;
 use byte_io::Failed;
 use nmc_base::NoMemory as NoRoom;

@@ -1,3 +1,5 @@
+//! Reads a snapshot that comes in pieces.
+
 ghost use Rattle.std.specs.Prelude.{◌≡◌, ◌+◌, ◌<◌, ◌≤◌, ◌^◌, ◌++◌, ℕ, List, [], length, Some, Err, IfOk, OnOk};
 ghost use Rattle.nmc_base.specs.Heights.{highest};
 ghost use Rattle.name_snapshot.specs.Answers.{IsSnapshotAnswer};

@@ -1,3 +1,5 @@
+//! Reads the head and the makes of a snapshot into tables.
+
 ghost use Rattle.std.specs.Prelude.{◌≡◌, [], IfOk};
 ghost use Rattle.name_tables.specs.Parts.{tables_of};
 ghost use Rattle.name_tables.specs.Tables.{AreEmpty};

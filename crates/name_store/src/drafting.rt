@@ -1,3 +1,5 @@
+//! The beginning of a save in slices: its draft beside the store.
+
 ghost use Rattle.std.specs.Prelude.{◌≡◌, IsTrue};
 ghost use Rattle.name_store.specs.Slicing.{BeginAnswer, IfRefused, LeavesBegun};
 ghost use Rattle.name_store.specs.Stored.{IsOn};

@@ -1,3 +1,5 @@
+//! Why files were not opened, and why none were made.
+
 ghost use Rattle.std.specs.Prelude.{◌≡◌};
 ghost use Rattle.name_store.specs.Faults.{of_journal, of_slots, of_image};
 

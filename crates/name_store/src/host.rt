@@ -1,3 +1,5 @@
+//! The host of a base: its name, and how long that may be.
+
 ghost use Rattle.std.specs.Prelude.{◌≡◌, MatchOption};
 ghost use Rattle.name_store.specs.Host.{IsHostText, IsHostOf};
 ghost use Rattle.name_store.specs.declared.host.TheConstants.{LONGEST_HOST_NAME as longest_host_name};

@@ -1,3 +1,5 @@
+//! The text of a base's host, in a fixed array.
+
 // The text of a base's host.
 ghost use Rattle.std.specs.Prelude.{◌≡◌, ◌≤◌, ◌+◌, List, ℕ, length, take};
 ghost use Rattle.name_store.specs.Host.{IsHostOf};

@@ -1,3 +1,5 @@
+//! Laws of the files: that they are of one kind, have one first damage, and what drafts and images since a moment stand for.
+
 ghost use Rattle.std.specs.Prelude.{◌≡◌, ◌⊎◌, ◌-◌, ℕ, List, [], ◌∷◌, ◌++◌, take};
 ghost use Rattle.disk_model.specs.Moments.{Files, Moments, EachMoment, LeftSince};
 ghost use Rattle.disk_model.specs.Changes.{LeavesOthers};

@@ -1,3 +1,5 @@
+//! The numbers of the files: gates, the header, and how many saves and bytes there may be.
+
 // The sizes of the files.
 
 use image_slots::SlotLimits;

@@ -1,3 +1,5 @@
+//! Makes the files of a base, without a command.
+
 ghost use Rattle.std.specs.Prelude.{◌≤◌, List, ℕ, IsTrue, OnOk, IsErrOf};
 ghost use Rattle.disk_model.specs.Moments.{EachMoment};
 ghost use Rattle.disk_model.specs.Changes.{LeavesFrom};

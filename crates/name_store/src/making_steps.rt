@@ -1,3 +1,5 @@
+//! The steps of making files: the area, the header, and its gate.
+
 // The steps of making the files.
 ghost use Rattle.std.specs.Prelude.{◌≡◌, ◌≤◌, ◌+◌, ◌∷◌, ◌++◌, [], length, take, IsTrue};
 ghost use Rattle.disk_model.specs.DiskSeen.{file_in};

@@ -1,3 +1,5 @@
+//! A whole save: the image of the index is written and selected.
+
 ghost use Rattle.std.specs.Prelude.{◌≡◌, IsTrue};
 ghost use Rattle.chain_commands.specs.Saving.{IsSaved};
 ghost use Rattle.name_store.specs.Outcomes.{IfUndone, LeavesDisk, KeepsOn};

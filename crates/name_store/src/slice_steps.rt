@@ -1,3 +1,5 @@
+//! The steps of a slice: a piece of the image, and the records behind it, go to the draft.
+
 // The steps of a slice: what is written to the draft, and its selection.
 ghost use Rattle.std.specs.Prelude.{◌≡◌, ◌≢◌, ◌+◌, ◌-◌, ◌<◌, ◌≤◌, ℕ, List, ◌++◌, length, take, drop, min, IsTrue};
 ghost use Rattle.disk_model.specs.DiskSeen.{file_in, bytes_in};

@@ -1,3 +1,5 @@
+//! A slice of a save: so many bytes more are written, and behind the last one the area is selected.
+
 ghost use Rattle.std.specs.Prelude.{◌≡◌, ◌<◌, ◌≤◌, ◌-◌, length, min, IsTrue};
 ghost use Rattle.chain_commands.specs.RunState.{longest_area};
 ghost use Rattle.name_store.specs.Drafting.{IsDraftOf, left_of, length_with};

@@ -1,3 +1,5 @@
+//! The index of a chain, with the files of a disk that keep its commands and saves.
+
 ghost use Rattle.std.specs.Prelude.{◌≡◌, ◌≤◌, length, IsTrue};
 ghost use Rattle.nmc_base.specs.declared.limits.TheConstants.{LONGEST_BLOCK};
 ghost use Rattle.chain_commands.specs.RunState.{longest_area};

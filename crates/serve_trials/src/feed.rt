@@ -1,3 +1,5 @@
+//! Frames of made blocks, with one name.
+
 /// Frames that connect 13 made blocks on a base of the height 0. The first commits to `d/example`, and the last opens it with the
 /// value `{"ip":"1.2.3.4"}`.
 pub(crate) static FEED: [u8; 2155] = [

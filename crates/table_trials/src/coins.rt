@@ -1,3 +1,5 @@
+//! Coins in their table: put, found, taken out, walked.
+
 ghost use Rattle.std.specs.Prelude.{◌≡◌, ◌<◌};
 ghost use Rattle.chain_names.specs.Tables.{AreCoinsFilled};
 

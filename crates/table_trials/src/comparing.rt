@@ -1,3 +1,5 @@
+//! How bytes and rows of tables are compared.
+
 use std::process::Abort;
 
 pub(crate) fn holds(rt: &impl Abort, fact: bool) {

@@ -1,3 +1,5 @@
+//! Heights of registration, as they follow from the records.
+
 ghost use Rattle.std.specs.Prelude.{◌≡◌, ◌<◌};
 
 use crate::images::value;

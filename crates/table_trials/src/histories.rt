@@ -1,3 +1,5 @@
+//! The values of a name in their table, one after another.
+
 ghost use Rattle.std.specs.Prelude.{◌≡◌, ◌<◌};
 
 use crate::outputs::output;

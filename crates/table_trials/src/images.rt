@@ -1,3 +1,5 @@
+//! Images of tables, read and refused.
+
 ghost use Rattle.std.specs.Prelude.{◌≡◌, ◌<◌, ◌≤◌, IfOk, length};
 ghost use Rattle.nmc_base.specs.declared.limits.TheConstants.{LONGEST_NAME, LONGEST_VALUE};
 ghost use Rattle.chain_names.specs.Limits.{IsNameCoin, IsWithinLimitsOp};

@@ -1,3 +1,5 @@
+//! Tables that an image is loaded into.
+
 ghost use Rattle.std.specs.Prelude.{◌≡◌, ◌+◌, ◌<◌, ◌≤◌, ◌^◌, length};
 
 use crate::heights::before;

@@ -1,3 +1,5 @@
+//! Outputs that trials name, each by a byte and an index.
+
 use nmc_base::{Hash32, OutPoint};
 
 /// The output of this index of the transaction whose txid has the byte 32 times.

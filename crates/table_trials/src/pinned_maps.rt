@@ -1,3 +1,5 @@
+//! Maps that are pinned while they change, over the bounds of their parts.
+
 use crate::comparing::holds;
 use nmc_base::NoMemory;
 use pin_views::SharedMap;

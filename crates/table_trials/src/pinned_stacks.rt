@@ -1,3 +1,5 @@
+//! Stacks that are pinned while they change.
+
 use crate::comparing::holds;
 use nmc_base::NoMemory;
 use pin_views::SharedStack;

@@ -1,3 +1,5 @@
+//! The queue of coins that expire.
+
 ghost use Rattle.std.specs.Prelude.{◌≡◌, ◌<◌};
 
 use crate::outputs::output;

@@ -1,3 +1,5 @@
+//! Snapshots, read and refused.
+
 ghost use Rattle.std.specs.Prelude.{◌≡◌, ◌+◌, ◌<◌, ◌^◌, length};
 
 use name_snapshot::{Snapshot, SnapshotFault};

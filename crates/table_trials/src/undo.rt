@@ -1,3 +1,5 @@
+//! Records that undo a block: written, read and refused.
+
 ghost use Rattle.std.specs.Prelude.{IfOk};
 ghost use Rattle.chain_names.specs.Seen.{seen_undo};
 ghost use Rattle.chain_names.specs.Limits.{IsWithinLimits};

@@ -1,3 +1,5 @@
+//! What the rules say of a transaction.
+
 ghost use Rattle.std.specs.Prelude.{◌≡◌, ◌<◌, ◌≤◌, length, IsTrue};
 
 use crate::comparing::same_at;

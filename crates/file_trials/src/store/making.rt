@@ -1,3 +1,5 @@
+//! Files are made once, and left as they are then.
+
 ghost use Rattle.std.specs.Prelude.{◌<◌, ◌≤◌, ℕ, List, IfSome};
 ghost use Rattle.nmc_base.specs.declared.limits.TheConstants.{HIGHEST_HEIGHT};
 ghost use Rattle.name_store.specs.Host.{IsHostOf};
