@@ -198,6 +198,13 @@ node_plain live r k s ns sound within e node plain =
 pub later_both : (live : Live) (a b c : Room) → Later live a b → Later live b c → Later live a c
 later_both live a b c k l = record { grows = λ i o h. l.grows i o (k.grows i o h); held = omega (arith, k.held, l.held); nodes = λ i n h. l.nodes i n (k.nodes i n h); sound = l.sound }
 
+pub keeps_both : (a b c : Room) → Keeps a b → Keeps b c → Keeps a c
+keeps_both a b c k l = record { grows = λ i o h. l.grows i o (k.grows i o h); held = omega (arith, k.held, l.held); nodes = λ i n h. l.nodes i n (k.nodes i n h); sound = λ live h. l.sound live (k.sound live h) }
+
+-- a node of the same objects and nodes
+pub same_node : (a b : Room) (k : ℕ) (ns : List Members) → objects_in b ≡ objects_in a → nodes_in b ≡ nodes_in a → IsNode a k ns → IsNode b k ns
+same_node a b k ns o n h = record { numbers = h.numbers; is = ap (λ xs. slice_get xs k) n ∙ h.is; shown = subst (λ (os : List Members). Shows os h.numbers ns) (sym o) h.shown }
+
 pub keeps_later : (live : Live) (b c : Room) → Keeps b c → IsSound live b → Later live b c
 keeps_later live b c k h = record { grows = k.grows; held = k.held; nodes = k.nodes; sound = k.sound live h }
 

@@ -1,11 +1,11 @@
 //! The labels of an object's map under which an object stands, listed so that one that isn't there is found missing without a look into the map.
 
-ghost use Rattle.std.specs.Prelude.{◌≡◌, ℕ, ◌<◌, ◌≤◌, false, None, List, length, get_or, IfOk};
+ghost use Rattle.std.specs.Prelude.{◌≡◌, ℕ, ◌<◌, ◌≤◌, true, false, None, List, length, get_or, IfOk};
 ghost use Rattle.std.specs.List.Sorted.{IsNonDecreasing};
 ghost use Rattle.std.proofs.Props.{props};
 ghost use Rattle.ifa_value.specs.Object.{members};
 ghost use Rattle.ifa_value.specs.Labels.{map_labels, label_number as number_of_label, label_numbers};
-ghost use Rattle.import_expand.specs.Labels.{is_among};
+ghost use Rattle.import_expand.specs.Labels.{is_among, mark, AreMarked};
 
 use ifa_value::IfaObject;
 use nmc_base::NoMemory;
@@ -17,7 +17,29 @@ pub(crate) struct Labels {
     pub(crate) numbers: Vec<u64>,
     /// Where the places of the entries begin that were taken out of the map: one for each number.
     pub(crate) first: usize,
+    /// Which remainders the numbers leave: one that leaves another isn't among them.
+    marks: [bool; 251],
     ghost rise: { IsNonDecreasing numbers.items } by { Prim.hlevel props },
+    ghost are_marked: { AreMarked marks numbers.items } by { Prim.hlevel props },
+}
+
+/// Where the mark of a number stands.
+fn mark_of(number: u64) -> usize
+    ensures mark { result ≡ mark number }
+    ensures within { result < 251 }
+{
+    (number % 251) as usize
+}
+
+/// The marks of these numbers.
+fn marks_of(numbers: &[u64]) -> [bool; 251]
+    ensures { AreMarked result numbers.now }
+{
+    let mut marks = [false; 251];
+    for number in numbers {
+        marks[mark_of(*number)] = true;
+    }
+    marks
 }
 
 /// How many of these numbers are lower than one.
@@ -47,11 +69,23 @@ impl Labels {
     {
         let mut numbers = object.label_numbers(alloc)?;
         numbers.sort_unstable();
-        Ok(Labels { numbers, first })
+        let marks = marks_of(numbers.as_slice());
+        Ok(Labels {
+            numbers,
+            first,
+            marks,
+        })
     }
 
-    /// Where the place of the entry under the label of a number stands. None says that the number isn't among them.
-    pub(crate) fn find(&self, number: u64) -> Option<usize>
+    /// Whether a number's mark tells that it isn't among them.
+    pub(crate) fn lacks(&self, number: u64) -> bool
+        ensures { result ≡ true → (label : List ℕ) → number_of_label label ≡ number → is_among self.now.numbers.items label ≡ false }
+    {
+        !self.marks[mark_of(number)]
+    }
+
+    /// Where the place of the entry under the label of a number stands, which is looked for. None says that the number isn't among them.
+    fn search(&self, number: u64) -> Option<usize>
         ensures { result ≡ None → (label : List ℕ) → number_of_label label ≡ number → is_among self.now.numbers.items label ≡ false }
     {
         let at = lower(self.numbers.as_slice(), number);
@@ -62,5 +96,15 @@ impl Labels {
             return None;
         }
         Some(self.first.saturating_add(at))
+    }
+
+    /// Where the place of the entry under the label of a number stands. None says that the number isn't among them.
+    pub(crate) fn find(&self, number: u64) -> Option<usize>
+        ensures { result ≡ None → (label : List ℕ) → number_of_label label ≡ number → is_among self.now.numbers.items label ≡ false }
+    {
+        if self.lacks(number) {
+            return None;
+        }
+        self.search(number)
     }
 }

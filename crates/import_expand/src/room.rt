@@ -7,7 +7,7 @@ ghost use Rattle.ifa_value.specs.Values.{object_of};
 ghost use Rattle.serde_json.specs.Data.{Members};
 ghost use Rattle.import_expand.specs.Sources.{Live, sources_of, child_of, first_of, entries};
 ghost use Rattle.import_expand.specs.Books.{IsAt, IsCounted, Finds, Shows};
-ghost use Rattle.import_expand.specs.Rooms.{objects_in, held, GivesUp, IsNode, IsPlain, IsSound, Keeps, LacksEntry, Later};
+ghost use Rattle.import_expand.specs.Rooms.{objects_in, nodes_in, held, GivesUp, IsNode, IsPlain, IsSound, Keeps, LacksEntry, Later};
 ghost use Rattle.import_expand.specs.declared.limits.TheConstants.{MOST_HELD as GREATEST};
 
 use crate::book::Book;
@@ -15,7 +15,7 @@ use crate::exhausted::Exhausted;
 use crate::expansion::{are_absent, are_plain, first_with, listed_child, listed_sources};
 use crate::limits::{FEW_SOURCES, LITTLE_HELD};
 use crate::names::Names;
-use ifa_value::{IfaObject, Key};
+use ifa_value::{IfaObject, Key, label_number};
 use nmc_base::{Bytes, NoMemory};
 use std::alloc::Global;
 
@@ -53,7 +53,13 @@ pub struct Room {
     tops: Vec<Top>,
     /// By node: its newest child, where to look first. What is found there is compared before it is believed.
     newest: Vec<usize>,
+    /// By the remainder of a label's number: the newest node with many sources that was found under one, which may have those of the
+    /// next. They are compared before it is believed.
+    alike: Vec<usize>,
 }
+
+/// So many remainders have numbers of labels.
+const REMAINDERS: usize = 251;
 
 impl Room {
     /// The empty room. It takes no memory.
@@ -67,6 +73,7 @@ impl Room {
             children: Vec::new(alloc),
             tops: Vec::new(alloc),
             newest: Vec::new(alloc),
+            alike: Vec::new(alloc),
         }
     }
 
@@ -84,6 +91,7 @@ impl Room {
         self.children.clear();
         self.tops.clear();
         self.newest.clear();
+        self.alike.clear();
     }
 
     /// The bytes of the values that were read and of the entries that were taken out of them.
@@ -169,6 +177,53 @@ impl Room {
             return Ok(above);
         }
         let at = self.put(numbers)?;
+        Ok(at)
+    }
+
+    /// The newest node that was found under a label of this remainder.
+    fn alike(&self, remainder: usize) -> usize {
+        match self.alike.get(remainder) {
+            Some(alike) => *alike,
+            None => usize::MAX,
+        }
+    }
+
+    /// Remembers the newest node that was found under a label of this remainder.
+    fn keep_alike(&mut self, remainder: usize, at: usize) -> Result<(), NoMemory>
+        ensures nodes { OnOk result (nodes_in self.new ≡ nodes_in self.old) }
+        ensures objects { OnOk result (objects_in self.new ≡ objects_in self.old) }
+        ensures keeps { OnOk result (Keeps self.old self.new) }
+        ensures held { held self.new ≡ held self.old }
+    {
+        self.alike.resize(REMAINDERS, usize::MAX)?;
+        if let Some(alike) = self.alike.get_mut(remainder) {
+            *alike = at;
+        }
+        Ok(())
+    }
+
+    /// Gives a node a number that was found under a label: that of the node above it, or of one that was found under such a label, where
+    /// both have the same sources.
+    fn put_under(
+        &mut self,
+        above: usize,
+        label: &[u8],
+        numbers: Vec<usize>,
+    ) -> Result<usize, NoMemory>
+        ensures at { IfOk result (λ k. (ns : List Members) → Shows (objects_in self.old) numbers.items ns → IsNode self.new k ns) }
+        ensures keeps { OnOk result ((ns : List Members) → Shows (objects_in self.old) numbers.items ns → Keeps self.old self.new) }
+        ensures held { held self.new ≡ held self.old }
+    {
+        if numbers.len() <= FEW_SOURCES {
+            return self.put_below(above, numbers);
+        }
+        let remainder = label_number(label) as usize % REMAINDERS;
+        let alike = self.alike(remainder);
+        if self.is_node_of(alike, numbers.as_slice()) {
+            return Ok(alike);
+        }
+        let at = self.put_below(above, numbers)?;
+        self.keep_alike(remainder, at)?;
         Ok(at)
     }
 
@@ -318,7 +373,7 @@ impl Room {
                     label,
                     &mut self.book,
                 )?;
-                let at = self.put_below(of, found)?;
+                let at = self.put_under(of, label, found)?;
                 self.keep_child(alloc, of, label, at)?;
                 Ok(at)
             }

@@ -1,5 +1,7 @@
-use Rattle.std.proofs.Common.{sym, ◌∙◌}
+use Rattle.std.proofs.Common.{sym, ap, ◌∙◌}
 use Rattle.ifa_value.specs.Object.{members}
+use Rattle.import_expand.specs.Labels.{is_among}
+use Rattle.import_expand.specs.declared.labels.Labels.{Labels}
 use Rattle.import_expand.proofs.LabelLemmas.{no_entry}
 use Rattle.import_expand.proofs.marked.Marked.list_labels.Goals as goal
 
@@ -8,5 +10,5 @@ invariant_of-self c = record {
   is_ns = c.args.self.now.is_ns;
   is_translate = c.args.self.now.is_translate;
   is_map = c.args.self.now.is_map;
-  are_labels = λ label no. no_entry label (members c.args.self.now.object) (sym (c.in_ok-labels.ensures label) ∙ no);
+  are_labels = λ label no. no_entry label (members c.args.self.now.object) (sym (c.in_ok-labels.ensures label) ∙ ap (λ (ls : Labels). is_among ls.numbers.items label) (sym c.in_ok-new.ensures) ∙ no);
 }

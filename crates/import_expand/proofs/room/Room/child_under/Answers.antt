@@ -14,9 +14,9 @@ returns-in_ok-keep_child-in-None-clause-found g c ns node =
     let s = c.in-Some-get.sources.now in
     let w = found_at a.nodes.items c.deref.result.now c.args.of s c.deref.ensures.value c.in-Some-get.ensures.lookup.0 c.in-Some-get.ensures.lookup.1 in
     let shown = c.in_ok-found-in-None.ensures.found ns (shows_by (objects_in a) s.numbers.items c.as_slice.result.now ns (sym c.as_slice.ensures.value) (node_shown a c.args.of (numbers_of s) ns (node_numbers a.nodes.items c.args.of s w.0 w.1) node)) in
-    let new = placed live a b c.put_below.new.self c.in_ok-at-in-None.at (child_of live ns c.args.label.now) (book_later live a b c.in_ok-found-in-None.ensures.later refl refl refl c.requires.sound)
+    let new = placed live a b c.put_under.new.self c.in_ok-at-in-None.at (child_of live ns c.args.label.now) (book_later live a b c.in_ok-found-in-None.ensures.later refl refl refl c.requires.sound)
     (c.in_ok-at-in-None.ensures.keeps (child_of live ns c.args.label.now) shown) (c.in_ok-at-in-None.ensures.at (child_of live ns c.args.label.now) shown) in
-    (child_new live a c.put_below.new.self c.keep_child.new.self c.args.of c.in_ok-at-in-None.at c.args.label.now (record { of = ns; is = node }) new c.in_ok-keep_child-in-None.ensures.later).node
+    (child_new live a c.put_under.new.self c.keep_child.new.self c.args.of c.in_ok-at-in-None.at c.args.label.now (record { of = ns; is = node }) new c.in_ok-keep_child-in-None.ensures.later).node
 
 pub returns-in_ok-keep_child-in-None-clause-later : goal.returns-in_ok-keep_child-in-None-clause-later
 returns-in_ok-keep_child-in-None-clause-later g c =
@@ -27,6 +27,6 @@ returns-in_ok-keep_child-in-None-clause-later g c =
     let w = found_at a.nodes.items c.deref.result.now c.args.of s c.deref.ensures.value c.in-Some-get.ensures.lookup.0 c.in-Some-get.ensures.lookup.1 in
     let e = node_exists live a c.args.of s c.requires.sound w.0 w.1 in
     let shown = c.in_ok-found-in-None.ensures.found e.of (shows_by (objects_in a) s.numbers.items c.as_slice.result.now e.of (sym c.as_slice.ensures.value) (node_shown a c.args.of (numbers_of s) e.of (node_numbers a.nodes.items c.args.of s w.0 w.1) e.is)) in
-    let new = placed live a b c.put_below.new.self c.in_ok-at-in-None.at (child_of live e.of c.args.label.now) (book_later live a b c.in_ok-found-in-None.ensures.later refl refl refl c.requires.sound)
+    let new = placed live a b c.put_under.new.self c.in_ok-at-in-None.at (child_of live e.of c.args.label.now) (book_later live a b c.in_ok-found-in-None.ensures.later refl refl refl c.requires.sound)
     (c.in_ok-at-in-None.ensures.keeps (child_of live e.of c.args.label.now) shown) (c.in_ok-at-in-None.ensures.at (child_of live e.of c.args.label.now) shown) in
-    (child_new live a c.put_below.new.self c.keep_child.new.self c.args.of c.in_ok-at-in-None.at c.args.label.now e new c.in_ok-keep_child-in-None.ensures.later).later
+    (child_new live a c.put_under.new.self c.keep_child.new.self c.args.of c.in_ok-at-in-None.at c.args.label.now e new c.in_ok-keep_child-in-None.ensures.later).later

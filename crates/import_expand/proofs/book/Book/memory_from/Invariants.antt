@@ -1,4 +1,4 @@
-use Rattle.import_expand.proofs.book.Book.memory_of.Given as goal
+use Rattle.import_expand.proofs.book.Book.memory_from.Given as goal
 
 abbrev pub invariant-loop-entry : goal.invariant-loop-entry
 invariant-loop-entry l = Unit

@@ -1,6 +1,6 @@
 use Rattle.std.proofs.Common.{arith}
 use Rattle.import_expand.proofs.LabelLemmas.{above_at, absent_at}
-use Rattle.import_expand.proofs.labels.Labels.find.Goals as goal
+use Rattle.import_expand.proofs.labels.Labels.search.Goals as goal
 
 pub returns-then-at-len : goal.returns-then-at-len
 returns-then-at-len c none label e =
