@@ -1,5 +1,5 @@
 -- Labels that aren't among those of an object's map.
-use Rattle.std.proofs.Common.{◌≡◌, ℕ, ◌<◌, ◌≤◌, ◌==◌, List, [], ◌∷◌, zero, suc, set, length, get_or, Bool, true, false, Option, Some, None, is_some, not, refl, sym, ap, subst, ◌∙◌, arith, nat_lt}
+use Rattle.std.proofs.Common.{◌≡◌, ℕ, ◌<◌, ◌≤◌, ◌==◌, List, length, get_or, Bool, true, false, Option, Some, None, is_some, not, refl, sym, ap, subst, ◌∙◌, arith, nat_lt}
 use Rattle.std.specs.declared.cmp.Ordering.{Ordering}
 use Rattle.std.specs.declared.cmp.Ordering.TheVariants.{Less, Equal, Greater}
 use Rattle.std.specs.Ordering.{nat_cmp, match_ordering}
@@ -18,7 +18,7 @@ use Rattle.domain_text.specs.Label.{is_entry_label}
 use Rattle.ifa_value.specs.declared.item.Key.TheVariants as key
 use Rattle.ifa_value.specs.Labels.{key_of_object, keys_of, keys_in, map_labels, label_number, label_numbers}
 use Rattle.ifa_value.specs.Values.{entry_of, item_of}
-use Rattle.import_expand.specs.Labels.{is_among, mark, AreMarked}
+use Rattle.import_expand.specs.Labels.{is_among, mark_at, AreMarked}
 use Rattle.import_expand.proofs.ExpandLemmas.{get_same}
 
 differ : (x y : ℕ) → x ≡ y → (x == y) ≡ false → ⊥
@@ -93,30 +93,19 @@ pub absent_at : (s xs : List ℕ) (x i : ℕ) (label : List ℕ) → s ≡ xs �
 absent_at s xs x i label same e rise low above = not_among xs x label e (not_found xs x i rise (subst (λ (l : List ℕ). (k : ℕ) → k < i → get_or l k 0 < x) same low) above)
 
 -- numbers of which one has its mark, and the other hasn't
-other_mark : (marks : List Bool) (n x : ℕ) → get_or marks (mark n) false ≡ true → get_or marks (mark x) false ≡ false → (n == x) ≡ false
+other_mark : (marks : List Bool) (n x : ℕ) → get_or marks (mark_at n) false ≡ true → get_or marks (mark_at x) false ≡ false → (n == x) ≡ false
 other_mark marks n x its none = by_test (n == x) refl
   where
     by_test : (b : Bool) → (n == x) ≡ b → (n == x) ≡ false
     by_test false e = e
     by_test true e =
         let same : n ≡ x = grind (arith, nat_tests, e) in
-        let both : true ≡ false = sym its ∙ ap (λ k. get_or marks (mark k) false) same ∙ none in
+        let both : true ≡ false = sym its ∙ ap (λ k. get_or marks (mark_at k) false) same ∙ none in
         absurd (cc)
 
 -- a number without a mark isn't among those that have theirs
-pub unmarked : (marks : List Bool) (xs : List ℕ) (x : ℕ) (label : List ℕ) → AreMarked marks xs → get_or marks (mark x) false ≡ false → label_number label ≡ x → is_among xs label ≡ false
-unmarked marks xs x label all none e = not_among xs x label e (All-weaker (λ n. get_or marks (mark n) false ≡ true) (λ n. (n == x) ≡ false) (λ n its. other_mark marks n x its none) xs all)
-
--- a mark that stands stays
-pub still_marked : (marks : List Bool) (i j : ℕ) → get_or marks j false ≡ true → get_or (set marks i true) j false ≡ true
-still_marked [] i j h = h
-still_marked (m ∷ marks) zero zero h = refl
-still_marked (m ∷ marks) zero (suc j) h = h
-still_marked (m ∷ marks) (suc i) zero h = h
-still_marked (m ∷ marks) (suc i) (suc j) h = still_marked marks i j h
-
-pub all_marked : (marks : List Bool) (xs : List ℕ) (n : ℕ) → length xs ≤ n → ((k : ℕ) → k < n → get_or marks (mark (get_or xs k 0)) false ≡ true) → AreMarked marks xs
-all_marked marks xs n over have = All-from_get_or (λ x. get_or marks (mark x) false ≡ true) xs 0 (λ k w. have k (omega arith))
+pub unmarked : (marks : List Bool) (xs : List ℕ) (x : ℕ) (label : List ℕ) → AreMarked marks xs → get_or marks (mark_at x) false ≡ false → label_number label ≡ x → is_among xs label ≡ false
+unmarked marks xs x label all none e = not_among xs x label e (All-weaker (λ n. get_or marks (mark_at n) false ≡ true) (λ n. (n == x) ≡ false) (λ n its. other_mark marks n x its none) xs all)
 
 pub not_true : (b : Bool) → not b ≡ true → b ≡ false
 not_true false h = refl

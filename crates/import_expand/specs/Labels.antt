@@ -7,10 +7,10 @@ use Rattle.ifa_value.specs.Labels.{label_number}
 abbrev pub is_among : List ℕ → List ℕ → Bool
 is_among numbers label = list_any (λ n. n == label_number label) numbers
 
--- which mark a number has
-abbrev pub mark : ℕ → ℕ
-mark n = n % 251
+-- where the mark of a number stands
+abbrev pub mark_at : ℕ → ℕ
+mark_at n = n % 251
 
 -- each of these numbers has its mark
 abbrev pub AreMarked : List Bool → List ℕ → Type 0
-AreMarked marks numbers = All (λ n. get_or marks (mark n) false ≡ true) numbers
+AreMarked marks numbers = All (λ n. get_or marks (mark_at n) false ≡ true) numbers

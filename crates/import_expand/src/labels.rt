@@ -5,7 +5,7 @@ ghost use Rattle.std.specs.List.Sorted.{IsNonDecreasing};
 ghost use Rattle.std.proofs.Props.{props};
 ghost use Rattle.ifa_value.specs.Object.{members};
 ghost use Rattle.ifa_value.specs.Labels.{map_labels, label_number as number_of_label, label_numbers};
-ghost use Rattle.import_expand.specs.Labels.{is_among, mark, AreMarked};
+ghost use Rattle.import_expand.specs.Labels.{is_among, mark_at, AreMarked};
 
 use ifa_value::IfaObject;
 use nmc_base::NoMemory;
@@ -25,7 +25,7 @@ pub(crate) struct Labels {
 
 /// Where the mark of a number stands.
 fn mark_of(number: u64) -> usize
-    ensures mark { result ≡ mark number }
+    ensures place { result ≡ mark_at number }
     ensures within { result < 251 }
 {
     (number % 251) as usize

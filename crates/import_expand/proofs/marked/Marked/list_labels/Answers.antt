@@ -10,5 +10,6 @@ invariant_of-self c = record {
   is_ns = c.args.self.now.is_ns;
   is_translate = c.args.self.now.is_translate;
   is_map = c.args.self.now.is_map;
+  is_import = c.args.self.now.is_import;
   are_labels = λ label no. no_entry label (members c.args.self.now.object) (sym (c.in_ok-labels.ensures label) ∙ ap (λ (ls : Labels). is_among ls.numbers.items label) (sym c.in_ok-new.ensures) ∙ no);
 }
