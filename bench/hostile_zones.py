@@ -304,6 +304,24 @@ def spread(count=56):
     return {**joined(times=1, beside=outer), **found, **inner, **outer}
 
 
+def apart(count=30, places=3, times=4):
+    """The same, where each hop has names of its own for what leads on, and imports what gives one source each in an order of its own: so no
+    two nodes of two hops have the same sources."""
+    asked, leaves = different("").split(".")[:MOST_DIFFERENT], [f"d/e{number}" for number in range(count)]
+    found = {leaf: {"map": {label: {} for label in asked}} for leaf in leaves}
+    inner = {f"d/c{number}": {"import": [[leaf] for leaf in leaves[number::8]]} for number in range(8)}
+    outer = [f"d/t{number}" for number in range(times)]
+    found |= {**inner, **dict.fromkeys(outer, {"import": [[name] for name in inner]})}
+    for hop in range(8):
+        own, turned = [f"d/o{hop}{number}" for number in range(places)], outer[hop % times :] + outer[: hop % times]
+        found[f"d/r{hop}"] = {"import": [[name] for name in (*turned, f"d/q{hop}", *own)]}
+        found[f"d/q{hop}"] = {"map": {f"z{hop}9": {"alias": joined_name(hop + 1)}}}
+        found[f"d/x{hop}"] = {"import": [[f"d/r{hop}"]] * 8}
+        for number, name in enumerate(own):
+            found[name] = {"map": {label: {"import": [[f"d/r{hop}"]]} for label in asked[number::places]}}
+    return found
+
+
 def many():
     """Nodes of as many sources as there may be: no two of them are the same, and no label is found; or a few come again and again, and
     each label is found in many."""
@@ -313,6 +331,7 @@ def many():
     yield Row(f"labels of one number in {MANY}", mistaken(), of_one_number(ONE_NUMBER[1], "x0.bit."), 0)
     yield Row(f"each label in {MANY}", joined(), joined_name(0), 0)
     yield Row(f"each label in {MANY}, an entry in each", spread(), joined_name(0), 0)
+    yield Row(f"each label in {MANY}, an entry in each, names of each hop", apart(), joined_name(0), 0)
 
 
 def of_size(value, size, levels=1):

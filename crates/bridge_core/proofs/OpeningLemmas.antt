@@ -2,7 +2,6 @@
 use Rattle.std.proofs.Common.{◌≡◌, inl, Bool, [], None, Err, refl, sym, subst, arith}
 use Rattle.std.specs.Prelude.{IsTrue}
 use Rattle.fault_counts.specs.Faults.{NeverFell, Rose}
-use Rattle.disk_model.specs.Moments.{EachMoment}
 use Rattle.disk_model.specs.Moments as moments
 use Rattle.disk_model.specs.DiskSeen.{DiskSeen, HasFailed, bytes_in}
 use Rattle.disk_model.proofs.MomentLemmas.{weaken}
