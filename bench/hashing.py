@@ -110,11 +110,12 @@ def replies_to(run, frames):
     return [head + run.stdout.read(int.from_bytes(head[1:], "little")) for head in heads]
 
 
-def counted_behind(folder, before, given, words=("replay",)):
+def counted_behind(folder, before, given, words=("replay",), kept=None):
     """The instructions of the program with these words over the files of a folder, of the frames that are given alone, with their
-    replies: neither of the opening, nor of the frames that are asked before, of which there is one at least, nor of the end."""
+    replies: neither of the opening, nor of the frames that are asked before, of which there is one at least, nor of the end. What
+    callgrind tells by function is kept in a file, where one is named."""
     with tempfile.NamedTemporaryFile() as trace:
-        command = ["valgrind", "--tool=callgrind", "--instr-atstart=no", f"--callgrind-out-file={trace.name}", PROGRAM, *words]
+        command = ["valgrind", "--tool=callgrind", "--instr-atstart=no", f"--callgrind-out-file={kept or trace.name}", PROGRAM, *words]
         how = {"stdin": subprocess.PIPE, "stdout": subprocess.PIPE, "stderr": subprocess.PIPE, "env": os.environ | {"GLIBC_TUNABLES": BY_STORES}}
         run = subprocess.Popen(command, cwd=folder, **how)
         replies_to(run, before)

@@ -304,7 +304,7 @@ def spread(count=56):
     return {**joined(times=1, beside=outer), **found, **inner, **outer}
 
 
-def apart(count=30, places=3, times=4):
+def apart(count=24, places=3, times=4):
     """The same, where each hop has names of its own for what leads on, and imports what gives one source each in an order of its own: so no
     two nodes of two hops have the same sources."""
     asked, leaves = different("").split(".")[:MOST_DIFFERENT], [f"d/e{number}" for number in range(count)]
@@ -314,7 +314,7 @@ def apart(count=30, places=3, times=4):
     found |= {**inner, **dict.fromkeys(outer, {"import": [[name] for name in inner]})}
     for hop in range(8):
         own, turned = [f"d/o{hop}{number}" for number in range(places)], outer[hop % times :] + outer[: hop % times]
-        found[f"d/r{hop}"] = {"import": [[name] for name in (*turned, f"d/q{hop}", *own)]}
+        found[f"d/r{hop}"] = {"import": [[name] for name in (f"d/q{hop}", *turned, *own)]}
         found[f"d/q{hop}"] = {"map": {f"z{hop}9": {"alias": joined_name(hop + 1)}}}
         found[f"d/x{hop}"] = {"import": [[f"d/r{hop}"]] * 8}
         for number, name in enumerate(own):
