@@ -11,12 +11,13 @@ use Rattle.undo_records.specs.declared.fault.FaultKind.TheVariants.{BadTag}
 use Rattle.undo_records.specs.declared.version.Version.{Version}
 use Rattle.undo_records.specs.declared.version.Version.TheVariants.{One, Two}
 use Rattle.undo_records.specs.Faults.{IsOther}
+use Rattle.block_grammar.specs.Combinators.{map_from}
 use Rattle.undo_records.specs.Reading.{piece_from, byte_from}
 use Rattle.undo_records.proofs.Laws.{Spot, ended, NoFlaw, Part, Core, in_first, in_second, then_part, then_core, IsSeenBy, seen_core}
 use Rattle.undo_records.proofs.Choices.{CheckFlaw, checked_part, checked_core}
 use Rattle.undo_records.proofs.FieldLaws.{part32, core32, piece_part, piece_core}
 use Rattle.image_faults.specs.Faults.{IsBadHead, other_magic, other_version, other_profile}
-use Rattle.image_grammar.specs.Reading.{Head, first_other, same_or_fault, exactly_from, version_from, profile_from, head_of, head_from}
+use Rattle.image_grammar.specs.Reading.{Head, first_other, same_or_fault, exactly_from, head_of, head_from}
 use Rattle.image_grammar.specs.Text.{magic, version_byte, version_of, is_version, profile_byte, profile_of, is_profile, head_text}
 use Rattle.image_grammar.proofs.TakeLaws.{byte_takes, exactly_takes, is_byte, FitsHead}
 
@@ -142,8 +143,43 @@ byte_core = record {
   behind = λ bytes e are h. elim (byte_stops bytes e are h) [ inl cut ↦ at_end bytes e cut | inr f ↦ absurd f ];
 }
 
+-- whether a byte is that of a value
+abbrev is_byte_of : {A : Type 0} → (A → ℕ) → (ℕ → A) → ℕ → Bool
+is_byte_of byte value n = n == byte (value n)
+
+-- a value by its byte
+abbrev one_byte_part : {A : Type 0} → (A → ℕ) → (ℕ → A) → Part A
+one_byte_part byte value = record {
+  text = λ v. byte v ∷ [];
+  Fits = λ _. Unit {0};
+  Flawed = CheckFlaw byte_part BadTag (is_byte_of byte value);
+  read = map_from value (checked_part BadTag (is_byte_of byte value) byte_part).read;
+}
+
+-- each value has a byte of its own
+record HaveBytes {A : Type 0} (byte : A → ℕ) (value : ℕ → A) : Type 0 where
+  back : (v : A) → value (byte v) ≡ v
+  fits : (v : A) → (byte v < 256) × (is_byte_of byte value (byte v) ≡ true)
+
+one_byte_is : {A : Type 0} (byte : A → ℕ) (value : ℕ → A) → HaveBytes byte value
+    → IsSeenBy value byte (checked_part BadTag (is_byte_of byte value) byte_part) (one_byte_part byte value)
+one_byte_is byte value have = record {
+  read = λ bytes. refl;
+  back = λ v fits. have.back v;
+  spell = λ n fits. is_byte n (byte (value n)) fits.1;
+  to = λ n fits. tt;
+  from = λ v fits. have.fits v;
+  flaw_to = λ bytes e f. f;
+  flaw_from = λ bytes e f. f;
+}
+
+one_byte_core : {A : Type 0} (byte : A → ℕ) (value : ℕ → A) → HaveBytes byte value → Core (one_byte_part byte value)
+one_byte_core byte value have =
+    seen_core value byte (checked_part BadTag (is_byte_of byte value) byte_part) (one_byte_part byte value) (one_byte_is byte value have)
+    (checked_core byte_part (λ bytes e f. f) BadTag (is_byte_of byte value) byte_core)
+
 abbrev version_part : Part Version
-version_part = record { text = λ v. version_byte v ∷ []; Fits = λ _. Unit {0}; Flawed = CheckFlaw byte_part BadTag is_version; read = version_from }
+version_part = one_byte_part version_byte version_of
 
 version_back : (v : Version) → version_of (version_byte v) ≡ v
 version_back One = refl
@@ -153,22 +189,11 @@ version_fits : (v : Version) → (version_byte v < 256) × (is_version (version_
 version_fits One = (omega arith, refl)
 version_fits Two = (omega arith, refl)
 
-version_is : IsSeenBy version_of version_byte (checked_part BadTag is_version byte_part) version_part
-version_is = record {
-  read = λ bytes. refl;
-  back = λ v fits. version_back v;
-  spell = λ n fits. is_byte n (version_byte (version_of n)) fits.1;
-  to = λ n fits. tt;
-  from = λ v fits. version_fits v;
-  flaw_to = λ bytes e f. f;
-  flaw_from = λ bytes e f. f;
-}
-
 version_core : Core version_part
-version_core = seen_core version_of version_byte (checked_part BadTag is_version byte_part) version_part version_is (checked_core byte_part (λ bytes e f. f) BadTag is_version byte_core)
+version_core = one_byte_core version_byte version_of (record { back = version_back; fits = version_fits })
 
 abbrev profile_part : Part Profile
-profile_part = record { text = λ p. profile_byte p ∷ []; Fits = λ _. Unit {0}; Flawed = CheckFlaw byte_part BadTag is_profile; read = profile_from }
+profile_part = one_byte_part profile_byte profile_of
 
 profile_back : (p : Profile) → profile_of (profile_byte p) ≡ p
 profile_back Regtest = refl
@@ -178,19 +203,8 @@ profile_fits : (p : Profile) → (profile_byte p < 256) × (is_profile (profile_
 profile_fits Regtest = (omega arith, refl)
 profile_fits Main = (omega arith, refl)
 
-profile_is : IsSeenBy profile_of profile_byte (checked_part BadTag is_profile byte_part) profile_part
-profile_is = record {
-  read = λ bytes. refl;
-  back = λ p fits. profile_back p;
-  spell = λ n fits. is_byte n (profile_byte (profile_of n)) fits.1;
-  to = λ n fits. tt;
-  from = λ p fits. profile_fits p;
-  flaw_to = λ bytes e f. f;
-  flaw_from = λ bytes e f. f;
-}
-
 profile_core : Core profile_part
-profile_core = seen_core profile_of profile_byte (checked_part BadTag is_profile byte_part) profile_part profile_is (checked_core byte_part (λ bytes e f. f) BadTag is_profile byte_core)
+profile_core = one_byte_core profile_byte profile_of (record { back = profile_back; fits = profile_fits })
 
 -- ---- the head, and the number of records behind it
 
