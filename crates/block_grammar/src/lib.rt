@@ -9,6 +9,3 @@ pub use grammar::{
     small_texts, transaction_law, txid_law,
 };
 pub use kinds::{BlockKind, TxKind};
-
-#[cfg(test)]
-mod tests;

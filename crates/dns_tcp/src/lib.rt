@@ -8,6 +8,3 @@ mod streams;
 
 pub use law::{any_pieces, clients_apart, number_of_clients, one_splitting};
 pub use streams::{CLIENTS, LONGEST_PIECE, Streams};
-
-#[cfg(test)]
-mod tests;

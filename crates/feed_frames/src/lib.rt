@@ -11,6 +11,3 @@ pub use frame::Frame;
 pub use kinds::{KINDS, Kind, LONGEST_MESSAGE, LONGEST_PAYLOAD};
 pub use law::{any_pieces, numbers_of_frames, one_splitting};
 pub use reader::{BadFrame, Frames, PIECE};
-
-#[cfg(test)]
-mod tests;

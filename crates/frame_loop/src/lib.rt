@@ -18,6 +18,3 @@ pub use following::{Ending, follow};
 pub use law::{numbers_of_queries, one_ending};
 pub use outlet::{Outlet, ToSink};
 pub use reply::{LONGEST_REPLY, ReplyBuf};
-
-#[cfg(test)]
-mod tests;

@@ -16,6 +16,3 @@ pub use memory_sink::MemorySink;
 pub use memory_source::MemorySource;
 pub use room_sink::RoomSink;
 pub use steady_source::SteadySource;
-
-#[cfg(test)]
-mod tests;

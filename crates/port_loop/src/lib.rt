@@ -14,6 +14,3 @@ pub use attending::{Ending, attend};
 pub use dealing::PollBuffers;
 pub use law::{in_its_place, number_of_dropped, one_reading, streams_are_answered};
 pub use sending::DROPPED;
-
-#[cfg(test)]
-mod tests;

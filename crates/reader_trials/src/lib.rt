@@ -16,6 +16,8 @@ mod headers;
 #[cfg(test)]
 mod keeping;
 #[cfg(test)]
+mod kinds;
+#[cfg(test)]
 mod making;
 #[cfg(test)]
 mod scripts;

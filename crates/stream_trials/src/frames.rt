@@ -1,6 +1,9 @@
+//! A stream gives the same frames in any pieces, and a bad one is told by its place.
+
 ghost use Rattle.std.specs.Prelude.{◌≤◌, ◌+◌, length};
 
-use super::*;
+use crate::comparing::same;
+use feed_frames::{BadFrame, Frames};
 use nmc_base::NoMemory;
 use std::alloc::Global;
 use std::process::Abort;
@@ -40,10 +43,6 @@ fn three(alloc: Global, front: &[u8], rest: &[u8]) -> Result<Vec<u8>, NoMemory>
     tell(&mut frames, &mut out)?;
     tell(&mut frames, &mut out)?;
     Ok(out)
-}
-
-fn same(rt: &impl Abort, got: &[u8], want: &[u8]) {
-    assert_eq!(rt; got, want);
 }
 
 /// The stream in two pieces, of which the first has so many bytes.

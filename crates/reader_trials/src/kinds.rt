@@ -1,4 +1,6 @@
-use super::*;
+//! The kinds of faults are told apart.
+
+use block_grammar::{BlockKind, TxKind};
 
 #[test]
 fn kinds_are_told_apart(rt: HostRuntime) {
