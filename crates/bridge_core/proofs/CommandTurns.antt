@@ -27,7 +27,7 @@ use Rattle.bridge_core.specs.Bridged.{Bridged}
 use Rattle.bridge_core.specs.CommandReply.{command_reply}
 use Rattle.bridge_core.specs.declared.bridge.Turned.{Turned}
 use Rattle.bridge_core.specs.declared.bridge.Turned.TheVariants.{On, Ended}
-use Rattle.bridge_core.proofs.CodeLemmas.{refused_undone, back_undone}
+use Rattle.bridge_core.proofs.CodeLemmas.{command_undone}
 use Rattle.bridge_core.proofs.TurnLemmas.{Request, IsKind, Turn, a_command, is_command, told_tip, request_done, request_refused, request_lacking, request_faulted}
 
 -- ---- the commands as requests, and how their refusals are looked for
@@ -70,12 +70,12 @@ pub command_refused : {D : Type 0} (t : Turn D) (command : ChainCommand) (new : 
     → new.answers ≡ t.old.answers → Answered t command (On new)
 command_refused t (Block bytes) new (refused.Connect refusal) did told =
     request_refused t (a_block bytes.now) (is_block bytes.now) new refusal (refused.Connect refusal) (record { answers = did.executes; undone = did.undone; leaves = did.leaves; kept = did.kept })
-    told (refused_undone t.reply (refusal_of refusal) told)
+    told (command_undone t.reply (refused.Connect refusal) told)
 command_refused t (Block bytes) new (refused.Disconnect refusal) did told = absurd did.executes
 command_refused t (Hash hash) new (refused.Connect refusal) did told = absurd did.executes
 command_refused t (Hash hash) new (refused.Disconnect refusal) did told =
     request_refused t (a_hash hash.0) (is_hash hash.0) new refusal (refused.Disconnect refusal) (record { answers = did.executes; undone = did.undone; leaves = did.leaves; kept = did.kept })
-    told (back_undone t.reply (back_refusal_of refusal) told)
+    told (command_undone t.reply (refused.Disconnect refusal) told)
 
 pub command_lacking : {D : Type 0} (t : Turn D) (command : ChainCommand) (new : Bridged) → Executed t command (NoMemory new.store) → t.reply ≡ no_memory_reply → new.answers ≡ t.old.answers
     → Answered t command (On new)

@@ -4,6 +4,8 @@ use Rattle.index_commands.specs.Views.{command_of}
 use Rattle.bridge_core.specs.Bridge.{AnswersEvent}
 use Rattle.bridge_core.specs.Bridged.{Bridged, bridged}
 use Rattle.bridge_core.specs.declared.bridge.Turned.TheVariants.{On, Ended}
+use Rattle.bridge_core.specs.Growing.{GrowsOn}
+use Rattle.bridge_core.proofs.CodeLemmas.{command_undone}
 use Rattle.bridge_core.proofs.CommandTurns.{command_done, command_refused, command_lacking, command_faulted}
 use Rattle.bridge_core.proofs.bridge.Bridge.turn.Goals as goal
 
@@ -42,3 +44,14 @@ returns-in-Faulted-clause-answers g c =
     subst (λ (old : Bridged). AnswersEvent tells seen old c.args.disk.now (Do (command_of c.args.command)) c.tell_fault.new.reply Ended c.execute.new.disk) c.self.view_is
     (command_faulted (record { tells = tells; seen = seen; old = bridged c.self.inside.store c.self.inside.desk; before = c.args.disk.now; after = c.execute.new.disk; reply = c.tell_fault.new.reply }) c.args.command
     (record { executes = by.executes; undone = by.undone; leaves = by.leaves; kept = by.kept }) c.tell_fault.ensures)
+
+pub returns-in-Refused-clause-grows : goal.returns-in-Refused-clause-grows
+returns-in-Refused-clause-grows g c =
+    subst (λ (old : Bridged). GrowsOn (command_of c.args.command) old.store c.refuse.new.reply (On (bridged c.in-Refused.store c.self.inside.desk))) c.self.view_is
+    (λ is_zero. absurd ((command_undone c.refuse.new.reply c.in-Refused.refusal c.refuse.ensures).0 is_zero), λ other. c.in-Refused.ensures.grows)
+
+pub returns-in-Refused-clause-adds : goal.returns-in-Refused-clause-adds
+returns-in-Refused-clause-adds g c = λ told is_zero. absurd ((command_undone c.refuse.new.reply c.in-Refused.refusal c.refuse.ensures).0 is_zero)
+
+pub returns-in-Refused-clause-cost : goal.returns-in-Refused-clause-cost
+returns-in-Refused-clause-cost g c = λ is_zero. absurd ((command_undone c.refuse.new.reply c.in-Refused.refusal c.refuse.ensures).0 is_zero)
