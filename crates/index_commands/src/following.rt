@@ -29,10 +29,7 @@ fn without_chain(chain: Chain, why: Unfollowed) -> Result<Chain, Unfollowed>
 }
 
 /// The index with the command that was staged. One that was handed back is let go.
-fn committed<L: Ledger>(
-    outcome: CommandOutcome,
-    steps: &mut Steps<L>,
-) -> Result<Chain, Unfollowed>
+fn committed<L: Ledger>(outcome: CommandOutcome, steps: &mut Steps<L>) -> Result<Chain, Unfollowed>
     ensures { Commits outcome result }
 {
     match outcome {

@@ -6,10 +6,10 @@ ghost use Rattle.disk_model.specs.DiskSeen.{EndsWith, file_in, bytes_in};
 ghost use Rattle.gate_journal.specs.Stand.{IsReadable};
 ghost use Rattle.index_commands.specs.Reading.{StepsOn, ReadsAll, IsInArea, MovesOn, reading_of};
 
+use crate::following::{Unfollowed, follow};
 use chain_state::Chain;
 use disk_model::Disk;
 use gate_journal::{Journal, JournalFault};
-use crate::following::{Unfollowed, follow};
 use nmc_base::{Bytes, Steps};
 use std::alloc::Global;
 use std::sync::ledger::Ledger;

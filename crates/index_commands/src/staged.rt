@@ -3,7 +3,7 @@
 ghost use Rattle.std.specs.Prelude.{◌≡◌, ◌+◌, ◌≤◌};
 ghost use Rattle.index_commands.specs.Staged.{CommitsStaged, AbandonsStaged, steps_of_commit, full_of};
 
-use chain_state::{BackOutcome, BackRefusal, Chain, Refusal, StageOutcome, StagedBack, StagedChain};
+use chain_state::{BackRefusal, Chain, Refusal, StagedBack, StagedChain};
 use nmc_base::Steps;
 use std::sync::ledger::Ledger;
 
