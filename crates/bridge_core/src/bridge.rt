@@ -226,4 +226,8 @@ impl Bridge {
     {
         report(alloc, self.store.chain(), sink)
     }
+    /// Lets go of a bridge that is of no use. Call it in the place of dropping it, which each crate would prove anew.
+    pub fn let_go(self) {
+        self.store.let_go();
+    }
 }
