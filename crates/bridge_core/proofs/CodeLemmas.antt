@@ -11,7 +11,11 @@ use Rattle.chain_commands.specs.Saving.{SaveRefusal, CheckpointLimit, ImageLimit
 use Rattle.chain_commands.proofs.CommandLemmas.{coded, coded_back}
 use Rattle.chain_commands.proofs.RefusalLemmas.{code_of}
 use Rattle.chain_commands.proofs.SavingLemmas.{coded_save}
+use Rattle.index_commands.specs.Views.{refusal_of, back_refusal_of}
+use Rattle.index_commands.specs.declared.staged.CommandRefusal.{CommandRefusal}
+use Rattle.index_commands.specs.declared.staged.CommandRefusal.TheVariants as refused
 use Rattle.bridge_core.specs.Bridge.{IsUndone, fault_code}
+use Rattle.bridge_core.specs.CommandReply.{command_reply}
 
 -- a rule's number
 numbered : (r : RuleRefusal) → number_of r ≤ 28
@@ -56,15 +60,19 @@ no_fault : (a b : Reply) → a ≡ b → b.code ≤ 30 → a.code ≡ fault_code
 no_fault a b e small is = let same = code_of a b e in omega (arith, small, same, is)
 
 module _ (reply : Reply) where
-  pub refused_undone : (r : Refusal) → reply ≡ refusal_reply r → IsUndone reply
+  refused_undone : (r : Refusal) → reply ≡ refusal_reply r → IsUndone reply
   refused_undone r e =
       let small = refusal_small r in
       (λ done. coded r (sym (code_of reply (refusal_reply r) e) ∙ done), no_fault reply (refusal_reply r) e (omega (arith, small)))
 
-  pub back_undone : (r : BackRefusal) → reply ≡ back_reply r → IsUndone reply
+  back_undone : (r : BackRefusal) → reply ≡ back_reply r → IsUndone reply
   back_undone r e =
       let small = back_small r in
       (λ done. coded_back r (sym (code_of reply (back_reply r) e) ∙ done), no_fault reply (back_reply r) e (omega (arith, small)))
 
   pub save_undone : (r : SaveRefusal) → reply ≡ save_refusal_reply r → IsUndone reply
   save_undone r e = (λ done. coded_save r (sym (code_of reply (save_refusal_reply r) e) ∙ done), no_fault reply (save_refusal_reply r) e (save_small r))
+
+  pub command_undone : (r : CommandRefusal) → reply ≡ command_reply r → IsUndone reply
+  command_undone (refused.Connect r) e = refused_undone (refusal_of r) e
+  command_undone (refused.Disconnect r) e = back_undone (back_refusal_of r) e

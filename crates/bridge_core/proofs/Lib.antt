@@ -5,6 +5,7 @@ pub mod BridgedLemmas
 pub mod DoneLemmas
 pub mod FileLemmas
 pub mod TurnLemmas
+mod CommandTurns
 pub mod RunLemmas
 pub mod ReachedLemmas
 pub mod QueryingLemmas

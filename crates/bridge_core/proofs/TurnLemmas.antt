@@ -154,16 +154,17 @@ pub record Turn (D : Type 0) : Type 0 where
   pub after : D
   pub reply : Reply
 
-module _ {D T R M : Type 0} (t : Turn D) (request : Request T R M) where
-  abbrev lacking : Stored → Outcome T R
+-- Q are the refusals of the store's call, of which R are those of the request.
+module _ {D T R M Q : Type 0} (t : Turn D) (request : Request T R M) where
+  abbrev lacking : Stored → Outcome T Q
   lacking new = NoMemory new
 
   -- what the store's call says
-  pub record Did (outcome : Outcome T R) : Type 0 where
+  pub record Did (outcome : Outcome T R) (of_call : Outcome T Q) : Type 0 where
     pub answers : (run : RunState) → stores.StandsFor t.old.store run → AnswersFor request.refusals (request.HoldsOf run) request.view (request.DoesOf run) run outcome
-    pub undone : IfUndone (t.after ≡ t.before) outcome
-    pub leaves : store.LeavesDisk t.tells (SparesFiles t.old.store request.event) (t.seen t.before) (t.seen t.after) outcome
-    pub kept : KeepsOn t.tells t.old.store (λ run next. IsDoneBy run request.event next) (t.seen t.before) (t.seen t.after) outcome
+    pub undone : IfUndone (t.after ≡ t.before) of_call
+    pub leaves : store.LeavesDisk t.tells (SparesFiles t.old.store request.event) (t.seen t.before) (t.seen t.after) of_call
+    pub kept : KeepsOn t.tells t.old.store (λ run next. IsDoneBy run request.event next) (t.seen t.before) (t.seen t.after) of_call
 
   abbrev pub Answered : Turned → Type 0
   Answered turned = AnswersEvent t.tells t.seen t.old t.before request.event t.reply turned t.after
@@ -173,7 +174,7 @@ module _ {D T R M : Type 0} (t : Turn D) (request : Request T R M) where
   Stays new = (run : RunState) → stores.StandsFor t.old.store run → Step run request.event t.reply run × stores.StandsFor new run
 
   module _ (kind : IsKind request) where
-    pub request_done : (new : Bridged) (told : T) → Did (Done new.store told) → t.reply ≡ request.told_as told → new.answers ≡ request.behind t.old.answers → Answered (On new)
+    pub request_done : (new : Bridged) (told : T) → Did (Done new.store told) (Done new.store told) → t.reply ≡ request.told_as told → new.answers ≡ request.behind t.old.answers → Answered (On new)
     request_done new told d same behind =
         let is_zero : t.reply.code ≡ 0 = code_of t.reply (request.told_as told) same ∙ kind.code_is told in
         let lead : (run : RunState) → stores.StandsFor t.old.store run → Leads request run new.store told = λ run s. kind.leads run new.store told (d.answers run s).1 in
@@ -220,20 +221,20 @@ module _ {D T R M : Type 0} (t : Turn D) (request : Request T R M) where
       answers = kind.stays t.old new t.reply undone.0 as_were;
     }
 
-    pub request_refused : (new : Bridged) (refusal : R) → Did (Refused new.store refusal) → t.reply ≡ request.refusals.reply_of (request.view refusal) → IsUndone t.reply
+    pub request_refused : (new : Bridged) (refusal : R) (of_call : Q) → Did (Refused new.store refusal) (Refused new.store of_call) → t.reply ≡ request.refusals.reply_of (request.view refusal) → IsUndone t.reply
         → new.answers ≡ t.old.answers → Answered (On new)
-    request_refused new refusal d told undone as_were =
+    request_refused new refusal of_call d told undone as_were =
         request_undone new undone d.undone (λ run s. (kind.steps run t.reply run (declines (request.view refusal) (d.answers run s).0 refl told), (d.answers run s).1)) as_were
         (record { later = d.leaves.later; worked = tt; none = d.leaves.none; failed = tt; still_on = d.leaves.still_on; others = d.leaves.others })
         (λ tell run s stands. let k = d.kept tell run s stands in record { next = k.next; is_next = k.is_next; done = tt; any_moment = k.any_moment })
 
-    pub request_lacking : (new : Bridged) → Did (NoMemory new.store) → t.reply ≡ no_memory_reply → new.answers ≡ t.old.answers → Answered (On new)
+    pub request_lacking : (new : Bridged) → Did (NoMemory new.store) (NoMemory new.store) → t.reply ≡ no_memory_reply → new.answers ≡ t.old.answers → Answered (On new)
     request_lacking new d told as_were =
         let code = code_of t.reply no_memory_reply told in
         request_undone new (λ is_zero. omega (arith, code, is_zero), λ fault. omega (arith, code, fault)) d.undone
         (λ run s. (kind.steps run t.reply run (lacks_memory (d.answers run s).0 refl told), (d.answers run s).1)) as_were d.leaves d.kept
 
-    pub request_faulted : Did Faulted → t.reply ≡ fault_reply → Answered Ended
+    pub request_faulted : Did Faulted Faulted → t.reply ≡ fault_reply → Answered Ended
     request_faulted d told =
         let code : t.reply.code ≡ fault_code = code_of t.reply fault_reply told in
         record {

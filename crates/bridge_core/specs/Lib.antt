@@ -3,6 +3,7 @@ pub mod Step
 pub mod Serving
 pub mod Leaving
 pub mod Views
+pub mod CommandReply
 pub mod Bridged
 pub mod Bridge
 pub mod Runs

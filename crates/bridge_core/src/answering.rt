@@ -9,11 +9,12 @@ ghost use Rattle.bridge_core.specs.Reached.{Ready, Reached, Broken};
 ghost use Rattle.bridge_core.specs.Views.{carrier_of, request_of, IsRequestWithinLimits};
 
 use crate::bridge::{Bridge, Turned};
-use crate::event::{ChainCommand, Event, read_event};
+use crate::event::{Event, read_event};
 use disk_model::Disk;
 use dns_message::Transport;
 use feed_frames::Frame;
 use frame_loop::{Answerer, Over, ReplyBuf};
+use index_commands::ChainCommand;
 use nmc_base::Steps;
 use std::alloc::Global;
 use std::mem;

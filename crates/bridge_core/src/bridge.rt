@@ -1,11 +1,10 @@
 //! The bridge: a store, and what it answers messages by.
 
-ghost use Rattle.std.specs.Prelude.{◌≡◌, ◌≤◌, length, IsTrue, IfOk, OnOk};
-ghost use Rattle.nmc_base.specs.declared.limits.TheConstants.{LONGEST_BLOCK};
+ghost use Rattle.std.specs.Prelude.{◌≡◌, IsTrue, IfOk, OnOk};
 ghost use Rattle.disk_model.specs.Changes.{KeepsSettled};
 ghost use Rattle.disk_model.specs.Moments.{EachMoment};
 ghost use Rattle.disk_model.specs.DiskSeen.{EndsWith, bytes_in};
-ghost use Rattle.chain_commands.specs.Event.{Connect, Disconnect, Do, Save};
+ghost use Rattle.chain_commands.specs.Event.{Do, Save};
 ghost use Rattle.chain_commands.specs.RunState.{RunState};
 ghost use Rattle.kept_answers.specs.Answering.{none_kept};
 ghost use Rattle.name_report.specs.Counts.{AreCounts};
@@ -19,22 +18,21 @@ ghost use Rattle.bridge_core.specs.Bridge.{AnswersEvent, AnswersQuery, IsCheapTu
 ghost use Rattle.bridge_core.specs.Growing.{GrowsOn, AddsOn};
 ghost use Rattle.bridge_core.specs.Opening.{store_in};
 ghost use Rattle.bridge_core.specs.Reporting.{reported_of};
-ghost use Rattle.bridge_core.specs.Views.{carrier_of, command_of, IsWithinLimits};
+ghost use Rattle.bridge_core.specs.Views.{carrier_of};
+ghost use Rattle.index_commands.specs.Views.{command_of, IsWithinLimits};
 
 use crate::desk::Desk;
-use crate::event::ChainCommand;
-use crate::replies::{
-    accept, lack_memory, refuse, refuse_back, refuse_save, tell_fault, tell_saved,
-};
+use crate::replies::{accept, lack_memory, refuse, refuse_save, tell_fault, tell_saved};
 use byte_io::Sink;
 use chain_state::Chain;
 use disk_model::Disk;
 use dns_message::Transport;
 use frame_loop::ReplyBuf;
+use index_commands::ChainCommand;
 use kept_answers::Cache;
 use name_report::{NameCounts, ReportFault, count_names, report};
 use name_store::{OpenFault, Outcome, Store};
-use nmc_base::{Hash32, NoMemory, Steps, Tip};
+use nmc_base::{NoMemory, Steps, Tip};
 use std::alloc::Global;
 use std::marker::Model;
 use std::sync::ledger::Ledger;
@@ -111,82 +109,6 @@ impl Bridge {
         }
     }
 
-    /// Connects a block: it joins the chain where it is valid and memory is there for what it does to names.
-    fn connect<D: Disk, L: Ledger>(
-        self,
-        alloc: Global,
-        disk: &mut D,
-        bytes: &[u8],
-        reply: &mut ReplyBuf,
-        steps: &mut Steps<L>,
-    ) -> Turned
-        requires short { length bytes.now ≤ LONGEST_BLOCK }
-        requires on_disk { IsTrue D.tells → IsOn self.store (D.seen disk.old).moments.now }
-        ensures answers { AnswersEvent D.tells D.seen self disk.old (Do (Connect bytes.now)) reply.new result disk.new }
-        ensures grows { GrowsOn (Connect bytes.now) self.store reply.new result }
-        ensures adds { IsTrue D.tells → AddsOn (Connect bytes.now) self.store (D.seen disk.old) (D.seen disk.new) reply.new result }
-        ensures cost { IsCheapTurn self.store (Connect bytes.now) reply.new result steps.old steps.new }
-    {
-        let Bridge { store, mut desk } = self;
-        match store.connect(alloc, disk, bytes, steps) {
-            Outcome::Done(store, tip) => {
-                accept(reply, &tip);
-                desk.outdate();
-                Turned::On(Bridge { store, desk })
-            }
-            Outcome::Refused(store, refusal) => {
-                refuse(reply, &refusal);
-                Turned::On(Bridge { store, desk })
-            }
-            Outcome::NoMemory(store) => {
-                lack_memory(reply);
-                Turned::On(Bridge { store, desk })
-            }
-            Outcome::Faulted => {
-                tell_fault(reply);
-                Turned::Ended
-            }
-        }
-    }
-
-    /// Disconnects the newest block: it leaves the chain where the hash is its own and memory is there for the places of
-    /// what it took from names.
-    fn disconnect<D: Disk, L: Ledger>(
-        self,
-        alloc: Global,
-        disk: &mut D,
-        hash: Hash32,
-        reply: &mut ReplyBuf,
-        steps: &mut Steps<L>,
-    ) -> Turned
-        requires on_disk { IsTrue D.tells → IsOn self.store (D.seen disk.old).moments.now }
-        ensures answers { AnswersEvent D.tells D.seen self disk.old (Do (Disconnect hash.0)) reply.new result disk.new }
-        ensures grows { GrowsOn (Disconnect hash.0) self.store reply.new result }
-        ensures adds { IsTrue D.tells → AddsOn (Disconnect hash.0) self.store (D.seen disk.old) (D.seen disk.new) reply.new result }
-        ensures cost { IsCheapTurn self.store (Disconnect hash.0) reply.new result steps.old steps.new }
-    {
-        let Bridge { store, mut desk } = self;
-        match store.disconnect(alloc, disk, hash, steps) {
-            Outcome::Done(store, tip) => {
-                accept(reply, &tip);
-                desk.outdate();
-                Turned::On(Bridge { store, desk })
-            }
-            Outcome::Refused(store, refusal) => {
-                refuse_back(reply, &refusal);
-                Turned::On(Bridge { store, desk })
-            }
-            Outcome::NoMemory(store) => {
-                lack_memory(reply);
-                Turned::On(Bridge { store, desk })
-            }
-            Outcome::Faulted => {
-                tell_fault(reply);
-                Turned::Ended
-            }
-        }
-    }
-
     /// Does a command on the chain, and writes its one reply.
     ///
     /// Of a connect, code 1 answers bytes that are no block, code 2 a block that isn't on the tip, code 4 a block on the
@@ -215,9 +137,25 @@ impl Bridge {
         ensures adds { IsTrue D.tells → AddsOn (command_of command.entry) self.store (D.seen disk.old) (D.seen disk.new) reply.new result }
         ensures cost { IsCheapTurn self.store (command_of command.entry) reply.new result steps.old steps.new }
     {
-        match command {
-            ChainCommand::Connect(bytes) => self.connect(alloc, disk, bytes, reply, steps),
-            ChainCommand::Disconnect(hash) => self.disconnect(alloc, disk, hash, reply, steps),
+        let Bridge { store, mut desk } = self;
+        match store.execute(alloc, disk, command, steps) {
+            Outcome::Done(store, tip) => {
+                accept(reply, &tip);
+                desk.outdate();
+                Turned::On(Bridge { store, desk })
+            }
+            Outcome::Refused(store, refusal) => {
+                refuse(reply, &refusal);
+                Turned::On(Bridge { store, desk })
+            }
+            Outcome::NoMemory(store) => {
+                lack_memory(reply);
+                Turned::On(Bridge { store, desk })
+            }
+            Outcome::Faulted => {
+                tell_fault(reply);
+                Turned::Ended
+            }
         }
     }
 
@@ -287,5 +225,9 @@ impl Bridge {
         ensures runs { (run : RunState) → stores.StandsFor self.now.store run → Reports (reported_of run) (K.seen sink.old) (K.seen sink.new) result }
     {
         report(alloc, self.store.chain(), sink)
+    }
+    /// Lets go of a bridge that is of no use. Call it in the place of dropping it, which each crate would prove anew.
+    pub fn let_go(self) {
+        self.store.let_go();
     }
 }

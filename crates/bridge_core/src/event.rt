@@ -9,16 +9,8 @@ ghost use Rattle.bridge_core.specs.Views.{event_of, IsReadable};
 use dns_message::Transport;
 use feed_frames::Frame;
 use frame_loop::{QUERY, STREAM_QUERY};
+use index_commands::ChainCommand;
 use nmc_base::Hash32;
-
-/// What changes the chain, where it is accepted.
-#[derive(Clone, Copy, Debug)]
-pub enum ChainCommand<'a> {
-    /// The bytes of a block that is to join the chain, at most 8,388,608.
-    Connect(&'a [u8]),
-    /// The hash of the newest block, which is to leave the chain.
-    Disconnect(Hash32),
-}
 
 /// What a bridge is asked to do: one whole frame, or a message over a stream.
 #[derive(Clone, Copy, Debug)]

@@ -19,9 +19,10 @@ mod status;
 
 pub use answering::{Request, act};
 pub use bridge::{Bridge, Turned};
-pub use event::{ChainCommand, Event, read_event};
+pub use event::{Event, read_event};
 pub use frame_loop::ReplyBuf;
 pub use index_answers::answer;
+pub use index_commands::ChainCommand;
 pub use kept_answers::Cache;
 pub use laws::{decided_step, disconnecting_forgets, done_or_left, one_surviving, surviving_chain};
 pub use name_store::OpenFault;

@@ -1,4 +1,4 @@
-//! The status of files that could not be opened, and the one place where a bridge is let go of.
+//! The status of files that could not be opened, and a turn that is let go of.
 
 ghost use Rattle.std.specs.Prelude.{◌≡◌};
 ghost use Rattle.bridge_core.specs.Opening.{status_of_fault};
@@ -19,5 +19,9 @@ pub fn unopened(fault: OpenFault) -> Status
     }
 }
 
-/// Lets go of a bridge, in one place for all: each such place is dear to prove.
-pub fn let_go(_last: Turned) {}
+/// Lets go of the bridge, if there is one.
+pub fn let_go(last: Turned) {
+    if let Turned::On(bridge) = last {
+        bridge.let_go();
+    }
+}

@@ -9,10 +9,12 @@ ghost use Rattle.chain_commands.specs.Saving.{save_refusal_reply};
 ghost use Rattle.index_commands.specs.Views.{refusal_of, back_refusal_of};
 ghost use Rattle.name_store.specs.Saves.{save_refusal_of};
 ghost use Rattle.bridge_core.specs.Bridge.{fault_reply};
+ghost use Rattle.bridge_core.specs.CommandReply.{command_reply};
 
 use crate::codes;
 use chain_state::{BackRefusal, Refusal};
 use frame_loop::ReplyBuf;
+use index_commands::CommandRefusal;
 use name_store::SaveRefusal;
 use nmc_base::Tip;
 
@@ -24,7 +26,7 @@ pub(crate) fn accept(reply: &mut ReplyBuf, tip: &Tip)
 }
 
 /// The code of a connect's refusal with its payload.
-pub(crate) fn refuse(reply: &mut ReplyBuf, refusal: &Refusal)
+fn refuse_connect(reply: &mut ReplyBuf, refusal: &Refusal)
     ensures { reply.new ≡ refusal_reply (refusal_of refusal.now) }
 {
     match refusal {
@@ -38,13 +40,23 @@ pub(crate) fn refuse(reply: &mut ReplyBuf, refusal: &Refusal)
 }
 
 /// The code of a disconnect's refusal with its payload.
-pub(crate) fn refuse_back(reply: &mut ReplyBuf, refusal: &BackRefusal)
+fn refuse_disconnect(reply: &mut ReplyBuf, refusal: &BackRefusal)
     ensures { reply.new ≡ back_reply (back_refusal_of refusal.now) }
 {
     match refusal {
         BackRefusal::AtBase => reply.set(codes::AT_BASE, &[], &[]),
         BackRefusal::NotTip { tip } => reply.set(codes::NOT_TIP, &tip.0, &[]),
         BackRefusal::JournalFull => reply.set(codes::JOURNAL_FULL, &[], &[]),
+    }
+}
+
+/// The code of a command's refusal with its payload.
+pub(crate) fn refuse(reply: &mut ReplyBuf, refusal: &CommandRefusal)
+    ensures { reply.new ≡ command_reply refusal.now }
+{
+    match refusal {
+        CommandRefusal::Connect(refusal) => refuse_connect(reply, refusal),
+        CommandRefusal::Disconnect(refusal) => refuse_disconnect(reply, refusal),
     }
 }
 

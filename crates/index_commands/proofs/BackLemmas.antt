@@ -2,7 +2,7 @@
 use Rattle.std.proofs.Common.{◌≡◌, ◌≢◌, ℕ, List, [], ◌∷◌, drop, refl, sym, ◌∙◌}
 use Rattle.nmc_base.specs.declared.hashes.Hash32.{Hash32}
 use Rattle.chain_state.specs.Chain.{Indexed, SameIndex}
-use Rattle.chain_state.specs.StageBack.{IsStagedBackOn, IsBackRefusal, IsDisconnected, StagesBack}
+use Rattle.chain_state.specs.StageBack.{IsStagedBackOn, IsBackRefusal, IsDisconnected}
 use Rattle.chain_state.specs.declared.back.BackRefusal.{BackRefusal}
 use Rattle.chain_state.specs.declared.back.BackRefusal.TheVariants.{AtBase, NotTip, JournalFull}
 use Rattle.chain_state.specs.declared.back.BackOutcome.{BackOutcome}
@@ -15,7 +15,7 @@ use Rattle.chain_commands.specs.Disconnecting.{RefusesBack, disconnects as disco
 use Rattle.index_commands.specs.Standing.{StandsFor}
 use Rattle.index_commands.specs.Views.{back_refusal_of}
 use Rattle.index_commands.specs.Stages.{IsFullWith, HoldsBackIn, IsRefusedFor, LacksMemoryFor, StagesBackFor}
-use Rattle.index_commands.specs.GivenUp.{GivesUpBack}
+use Rattle.index_commands.specs.ByIndex.{MayLose, RefusesHash, StagesBackOn}
 use Rattle.index_commands.proofs.ChainTips.{chain_tip}
 use Rattle.index_commands.proofs.TakenLemmas.{same_self}
 use Rattle.chain_commands.proofs.DisconnectRefusals.{IsOwnTip, at_base_refused, not_tip_refused, memory_taken, full_refused, is_valid_back}
@@ -30,6 +30,11 @@ pub record StagingBack : Type 0 where
   pub chain : Chain
   pub hash : Hash32
   pub stands : StandsFor index chain
+
+abbrev pub IfStagedHash : Type 0 → BackOutcome → Type 0
+IfStagedHash P (StagedBack s) = P
+IfStagedHash P (back_refused same refusal) = Unit {0}
+IfStagedHash P (back_memory same) = Unit {0}
 
 module _ (g : StagingBack) where
   abbrev IsFull : Type 0
@@ -87,17 +92,21 @@ module _ (g : StagingBack) where
       stands = abandoned same alike;
     }
 
-  -- ---- each outcome, with room in the area and without
+  -- ---- each outcome by the index
 
-  own : (same : Indexed) → SameIndex same g.index → g.index.undos ≢ [] → g.hash ≡ g.index.tip.hash → LacksMemoryFor disconnect_refusals (HoldsBackIn g.area g.most g.chain g.hash.0) g.chain same
-  own same alike above hash_is = lacking same alike (may g.index (record { above = above; hash_is = hash_is; same = same_self g.index }))
+  -- the hash is that of the newest block, which the chain has
+  is_own : IsStagedBackOn g.index g.hash g.index → (same : Indexed) → SameIndex same g.index → LacksMemoryFor disconnect_refusals (HoldsBackIn g.area g.most g.chain g.hash.0) g.chain same
+  is_own on same alike = lacking same alike (may g.index on)
 
-  pub with_room : (outcome : BackOutcome) → StagesBack g.index g.hash outcome → (IsFull → ⊥) → StagesBackFor g.area g.most g.chain g.hash.0 outcome
-  with_room (StagedBack s) on fits = staged_for s on fits
-  with_room (back_refused same refusal) h fits = refused same refusal h.0 h.1
-  with_room (back_memory same) h fits = own same h.0 h.1 h.2
+  on_itself : (same : Indexed) → MayLose g.index g.hash same → IsStagedBackOn g.index g.hash g.index
+  on_itself same h = record { above = h.above; hash_is = h.hash_is; same = same_self g.index }
 
-  pub without_room : (outcome result : BackOutcome) → StagesBack g.index g.hash outcome → GivesUpBack outcome result → IsFull → StagesBackFor g.area g.most g.chain g.hash.0 result
-  without_room (StagedBack s) result on gone full = rw gone.is (full_for s on gone.same gone.abandoned full)
-  without_room (back_refused same refusal) result h gone full = rw gone (refused same refusal h.0 h.1)
-  without_room (back_memory same) result h gone full = rw gone (own same h.0 h.1 h.2)
+  refused_hash : (refusal : BackRefusal) (same : Indexed) → RefusesHash IsFull g.index g.hash refusal same → IsRefusedBy refusal same
+  refused_hash AtBase same h = refused same AtBase h.1 h.0
+  refused_hash (NotTip tip) same h = refused same (NotTip tip) h.1 h.0
+  refused_hash JournalFull same h = full_for g.index (on_itself same h.1) same h.1.stays h.0
+
+  pub stages_hash : (outcome : BackOutcome) → StagesBackOn IsFull g.index g.hash outcome → IfStagedHash (IsFull → ⊥) outcome → StagesBackFor g.area g.most g.chain g.hash.0 outcome
+  stages_hash (StagedBack s) on fits = staged_for s (record { above = on.above; hash_is = on.hash_is; same = on.stays }) fits
+  stages_hash (back_refused same refusal) h fits = refused_hash refusal same h
+  stages_hash (back_memory same) h fits = is_own (on_itself same h) same h.stays

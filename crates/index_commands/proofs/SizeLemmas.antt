@@ -1,13 +1,13 @@
 -- The sizes of commands, and their records.
-use Rattle.std.proofs.Common.{◌≡◌, List, ℕ, [], ◌∷◌, ◌++◌, length, drop, get_or, refl, ◌∙◌, sym, ap, arith, length-append}
+use Rattle.std.proofs.Common.{◌≡◌, ◌<◌, List, ℕ, [], ◌∷◌, ◌++◌, length, drop, get_or, refl, ◌∙◌, sym, ap, arith, length-append}
 use Rattle.std.proofs.lemmas.List.{take_at, get_or_at}
 use Rattle.std.proofs.Common.{take}
 use Rattle.std.specs.List.{AllByRecursion}
 use Rattle.chain_state.specs.Chain.{Indexed}
 use Rattle.chain_commands.specs.Chain.{Chain}
 use Rattle.chain_commands.specs.Event.{Command, Connect, Disconnect}
-use Rattle.chain_commands.specs.RunState.{after_commands}
-use Rattle.index_commands.specs.Records.{record_of, records_of, HasSize}
+use Rattle.chain_commands.specs.RunState.{after_commands, record_length}
+use Rattle.index_commands.specs.Records.{record_of, records_of, head_of, body_of, HasSize}
 use Rattle.index_commands.specs.Allowed.{IsAllowed, AreAllowed}
 use Rattle.index_commands.specs.Taking.{IsTakenBy, TakesCommand, LeadsTo}
 
@@ -34,6 +34,14 @@ led_sizes first index [] leads = tt
 led_sizes first index (command ∷ commands) (below, led, takes) = (takes_size below index command takes, led_sizes first below commands led)
 
 -- ---- the commands of records
+
+pub record_some : (command : Command) → HasSize command → 0 < record_length command
+record_some (Connect block) is = omega arith
+record_some (Disconnect hash) is = omega arith
+
+pub record_parts : (command : Command) (head : ℕ) (body : List ℕ) → head ≡ head_of command → body ≡ body_of command → head ∷ body ≡ record_of command
+record_parts (Connect block) head body is_head is_body = λ i. is_head i ∷ is_body i
+record_parts (Disconnect hash) head body is_head is_body = λ i. is_head i ∷ is_body i
 
 pub record_told : (a b : Command) → record_of a ≡ record_of b → a ≡ b
 record_told (Connect a) (Connect b) e = ap (λ (l : List ℕ). Connect (drop 1 l)) e

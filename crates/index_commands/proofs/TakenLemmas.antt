@@ -4,15 +4,17 @@ use Rattle.std.proofs.lemmas.Option.{none-some}
 use Rattle.block_grammar.specs.Block.{Block, IsBlock}
 use Rattle.block_grammar.specs.Merkle.{block_root}
 use Rattle.block_grammar.proofs.Statements.{same_block}
+use Rattle.nmc_base.specs.declared.chain_ends.Base.{Base}
 use Rattle.nmc_base.specs.declared.chain_ends.Profile.{Profile}
 use Rattle.nmc_base.specs.declared.chain_ends.Tip.{Tip}
 use Rattle.nmc_base.specs.declared.hashes.Hash32.{Hash32}
 use Rattle.chain_names.specs.Coins.{Maps}
-use Rattle.chain_names.specs.Changes.{first_refused}
+use Rattle.chain_names.specs.Changes.{first_refused, undone}
 use Rattle.chain_names.specs.Log.{behind_coinbase}
 use Rattle.chain_names.specs.Undo.{UndoRecord}
 use Rattle.name_tables.specs.Tables.{maps_by}
-use Rattle.chain_state.specs.Chain.{Indexed, SameIndex, StagedIndex, rule_refused}
+use Rattle.chain_state.specs.Chain.{Indexed, SameIndex, StagedIndex, rule_refused, newest_hash}
+use Rattle.chain_state.specs.StageBack.{IsDisconnected}
 use Rattle.chain_state.specs.declared.stage.Refusal.{Refusal}
 use Rattle.chain_state.specs.declared.stage.Refusal.TheVariants as code
 use Rattle.chain_state.specs.declared.back.BackRefusal.{BackRefusal}
@@ -21,8 +23,9 @@ use Rattle.chain_commands.specs.Event.{Command, Connect, Disconnect}
 use Rattle.chain_commands.specs.Connecting as connecting
 use Rattle.chain_commands.specs.Disconnecting as disconnecting
 use Rattle.chain_state.proofs.RefusalLemmas.{joined_hash}
-use Rattle.index_commands.specs.ByIndex.{TakesBlock, RefusesBytes, RefusesHash}
-use Rattle.index_commands.specs.Taking.{HoldsOn, HoldsBackOn, HasNone, IsTakenBy, TakesCommand}
+use Rattle.index_commands.specs.ByIndex.{TakesBlock, RefusesBytes, RefusesHash, MayLose}
+use Rattle.index_commands.specs.Records.{HasSize}
+use Rattle.index_commands.specs.Taking.{HoldsOn, HoldsBackOn, HasNone, IsTakenBy, TakesCommand, TakesDisconnect}
 
 -- ---- what is staged has no refusal
 
@@ -109,3 +112,24 @@ module _ (a b : Indexed) (same : SameIndex a b) where
   pub taken_alike : (command : Command) → IsTakenBy a command → IsTakenBy b command
   taken_alike (Connect bytes) is = ((λ refusal h. is.0 refusal (holds_alike bytes refusal h)), is.1)
   taken_alike (Disconnect hash) is = ((λ refusal h. is.0 refusal (holds_back_alike hash refusal h)), is.1)
+
+-- what comes of the same index
+disconnected_alike : (a b new : Indexed) → SameIndex b a → IsDisconnected b new → IsDisconnected a new
+disconnected_alike a b new same gone = record {
+  undo = gone.undo;
+  below = gone.below;
+  undos_were = sym same.undos ∙ gone.undos_were;
+  undos = gone.undos;
+  base = gone.base ∙ same.base;
+  height = ap (λ (tip : Tip). tip.height) (sym same.tip) ∙ gone.height;
+  hash = gone.hash ∙ ap (λ (base : Base). newest_hash base gone.below) same.base;
+  maps = gone.maps ∙ ap (λ (m : Maps). undone gone.undo.ops gone.undo.expired m) same.maps;
+  queue = gone.queue;
+}
+
+pub disconnected_from : (index staged new : Indexed) (hash : Hash32) → MayLose index hash staged → HasSize (Disconnect hash.0) → IsDisconnected staged new → TakesDisconnect index hash.0 new
+disconnected_from index staged new hash may long gone = record {
+  long = long;
+  hash_is = ap (λ (h : Hash32). h.0) may.hash_is;
+  disconnected = disconnected_alike index staged new may.stays gone;
+}

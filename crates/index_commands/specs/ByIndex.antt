@@ -16,6 +16,10 @@ use Rattle.chain_state.specs.declared.back.BackRefusal.{BackRefusal}
 use Rattle.chain_state.specs.declared.back.BackRefusal.TheVariants as back
 use Rattle.chain_state.specs.declared.back.BackOutcome.{BackOutcome}
 use Rattle.chain_state.specs.declared.back.BackOutcome.TheVariants.{StagedBack, Refused as back_refused, NoMemory as back_memory}
+use Rattle.index_commands.specs.Staged.{OfConnect, OfDisconnect}
+use Rattle.index_commands.specs.declared.command.ChainCommand.{ChainCommand}
+use Rattle.index_commands.specs.declared.command.ChainCommand.TheVariants.{Connect as a_block, Disconnect as a_hash}
+use Rattle.index_commands.specs.declared.staged.CommandOutcome.{CommandOutcome}
 
 -- ---- the bytes of a block
 
@@ -78,3 +82,9 @@ abbrev pub StagesBackOn : (full : Type 0) → Indexed → Hash32 → BackOutcome
 StagesBackOn full old hash (StagedBack s) = MayLose old hash s
 StagesBackOn full old hash (back_refused same refusal) = RefusesHash full old hash refusal same
 StagesBackOn full old hash (back_memory same) = MayLose old hash same
+
+-- ---- a command of either kind
+
+abbrev pub StagesCommandOn : (full : Type 0) → Indexed → ChainCommand → CommandOutcome → Type 0
+StagesCommandOn full old (a_block bytes) outcome = OfConnect (StagesOn full old bytes.now) outcome
+StagesCommandOn full old (a_hash hash) outcome = OfDisconnect (StagesBackOn full old hash) outcome

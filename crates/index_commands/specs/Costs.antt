@@ -5,10 +5,14 @@ use Rattle.chain_names.specs.Undo.{UndoRecord}
 use Rattle.chain_state.specs.Cost.{touched_by}
 use Rattle.chain_state.specs.Chain.{Indexed}
 use Rattle.chain_state.specs.Stage.{commit_steps}
-use Rattle.chain_state.specs.StageBack.{newest_work}
+use Rattle.chain_state.specs.StageBack.{newest_work, IsBackCheap}
 use Rattle.chain_state.specs.declared.stage.StageOutcome.{StageOutcome}
 use Rattle.chain_state.specs.declared.stage.StageOutcome.TheVariants.{Staged, Refused, NoMemory}
 use Rattle.chain_commands.specs.Event.{Command, Connect, Disconnect}
+use Rattle.index_commands.specs.Staged.{OfConnect, OfDisconnect}
+use Rattle.index_commands.specs.declared.command.ChainCommand.{ChainCommand}
+use Rattle.index_commands.specs.declared.command.ChainCommand.TheVariants.{Connect as a_block, Disconnect as a_hash}
+use Rattle.index_commands.specs.declared.staged.CommandOutcome.{CommandOutcome}
 
 -- a block takes eight steps, with its commit, for each input and each output behind its coinbase and for each coin that
 -- expires with it, and eight
@@ -17,6 +21,11 @@ IsCheapBlock bytes (Staged s) before after = (block : Block) → IsBlock bytes b
     → after + commit_steps s ≤ before + 8 * (touched_by block + length s.whole.expired.items) + 8
 IsCheapBlock bytes (Refused same refusal) before after = Unit {0}
 IsCheapBlock bytes (NoMemory same) before after = Unit {0}
+
+-- a disconnect twelve, likewise, for each operation of the block and for each coin that expired with it, and eight
+abbrev pub IsCheapStage : Indexed → ChainCommand → CommandOutcome → ℕ → ℕ → Type 0
+IsCheapStage old (a_block bytes) outcome before after = OfConnect (λ staged. IsCheapBlock bytes.now staged before after) outcome
+IsCheapStage old (a_hash hash) outcome before after = OfDisconnect (λ staged. IsBackCheap old staged before after) outcome
 
 -- how many coins expired with the newest block
 abbrev pub newest_expired : List UndoRecord → ℕ

@@ -1,14 +1,12 @@
 -- What following a record answers.
 use Rattle.std.specs.Prelude.{◌≡◌, ℕ, List, Result, Ok, Err, ⊤}
-use Rattle.chain_state.specs.Chain.{Indexed, IsConnected}
-use Rattle.chain_state.specs.StageBack.{IsDisconnected}
-use Rattle.chain_state.specs.declared.stage.StageOutcome.{StageOutcome}
-use Rattle.chain_state.specs.declared.stage.StageOutcome.TheVariants.{Staged, Refused as refused, NoMemory as no_memory}
-use Rattle.chain_state.specs.declared.back.BackOutcome.{BackOutcome}
-use Rattle.chain_state.specs.declared.back.BackOutcome.TheVariants.{StagedBack, Refused as back_refused, NoMemory as back_memory}
+use Rattle.chain_state.specs.Chain.{Indexed}
 use Rattle.chain_commands.specs.Event.{Command}
 use Rattle.index_commands.specs.Records.{record_of}
 use Rattle.index_commands.specs.Taking.{IsTakenBy, TakesCommand}
+use Rattle.index_commands.specs.Staged.{CommitsStaged}
+use Rattle.index_commands.specs.declared.staged.CommandOutcome.{CommandOutcome}
+use Rattle.index_commands.specs.declared.staged.CommandOutcome.TheVariants.{Staged, Refused as refused, NoMemory as no_memory}
 use Rattle.index_commands.specs.declared.following.Unfollowed.{Unfollowed}
 use Rattle.index_commands.specs.declared.following.Unfollowed.TheVariants.{Refused, NoMemory}
 
@@ -35,12 +33,7 @@ pub record IsDone (Commits : Indexed → Type 0) (result : Result Indexed Unfoll
   pub done : Commits new
   pub is : result ≡ Ok new
 
-abbrev pub Commits : StageOutcome → Result Indexed Unfollowed → Type 0
-Commits (Staged s) result = IsDone (IsConnected s) result
+abbrev pub Commits : CommandOutcome → Result Indexed Unfollowed → Type 0
+Commits (Staged s) result = IsDone (CommitsStaged s) result
 Commits (refused same refusal) result = result ≡ Err Refused
 Commits (no_memory same) result = result ≡ Err NoMemory
-
-abbrev pub CommitsBack : BackOutcome → Result Indexed Unfollowed → Type 0
-CommitsBack (StagedBack s) result = IsDone (IsDisconnected s) result
-CommitsBack (back_refused same refusal) result = result ≡ Err Refused
-CommitsBack (back_memory same) result = result ≡ Err NoMemory

@@ -1,5 +1,6 @@
 pub mod Views
 pub mod Standing
+pub mod Staged
 pub mod Stages
 pub mod GivenUp
 pub mod ByIndex
@@ -8,3 +9,7 @@ pub mod Records
 pub mod Allowed
 pub mod Taking
 pub mod Following
+pub mod Commands
+pub mod Damage
+pub mod Reading
+pub mod Keeping

@@ -8,6 +8,15 @@ abbrev pub record_of : Command → List ℕ
 record_of (Connect block) = 1 ∷ block
 record_of (Disconnect hash) = 2 ∷ hash
 
+-- the kind, and what stands behind it
+abbrev pub head_of : Command → ℕ
+head_of (Connect block) = 1
+head_of (Disconnect hash) = 2
+
+abbrev pub body_of : Command → List ℕ
+body_of (Connect block) = block
+body_of (Disconnect hash) = hash
+
 -- the records in the order of the file, the oldest first
 abbrev pub records_of : List Command → List (List ℕ)
 records_of [] = []

@@ -14,6 +14,10 @@ use Rattle.chain_commands.specs.Connecting.{Refusal, Holds, connects}
 use Rattle.chain_commands.specs.Disconnecting.{BackRefusal, HoldsBack, disconnects}
 use Rattle.index_commands.specs.Standing.{StandsFor}
 use Rattle.index_commands.specs.Views.{refusal_of, back_refusal_of}
+use Rattle.index_commands.specs.Staged.{OfConnect, OfDisconnect, IfStaged}
+use Rattle.index_commands.specs.declared.command.ChainCommand.{ChainCommand}
+use Rattle.index_commands.specs.declared.command.ChainCommand.TheVariants.{Connect as a_block, Disconnect as a_hash}
+use Rattle.index_commands.specs.declared.staged.CommandOutcome.{CommandOutcome}
 
 -- ---- of each kind of command, by its refusals and the condition of each
 
@@ -50,12 +54,6 @@ StagesFor area most chain bytes (NoMemory same) = LacksMemoryFor connects (Holds
 abbrev pub StagesBytes : (area most : ℕ) → Indexed → List ℕ → StageOutcome → Type 0
 StagesBytes area most old bytes outcome = (chain : Chain) → StandsFor old chain → StagesFor area most chain bytes outcome
 
--- what is staged has room in the area
-abbrev pub Fits : (area most : ℕ) → ℕ → StageOutcome → Type 0
-Fits area most needed (Staged s) = area + needed ≤ most
-Fits area most needed (Refused same refusal) = Unit {0}
-Fits area most needed (NoMemory same) = Unit {0}
-
 -- ---- the hash of the newest block
 
 abbrev pub HoldsBackIn : (area most : ℕ) → Chain → List ℕ → BackRefusal → Type 0
@@ -69,7 +67,12 @@ StagesBackFor area most chain hash (back_memory same) = LacksMemoryFor disconnec
 abbrev pub StagesHash : (area most : ℕ) → Indexed → List ℕ → BackOutcome → Type 0
 StagesHash area most old hash outcome = (chain : Chain) → StandsFor old chain → StagesBackFor area most chain hash outcome
 
-abbrev pub FitsBack : (area most : ℕ) → BackOutcome → Type 0
-FitsBack area most (StagedBack s) = area + 38 ≤ most
-FitsBack area most (back_refused same refusal) = Unit {0}
-FitsBack area most (back_memory same) = Unit {0}
+-- ---- a command of either kind
+
+abbrev pub StagesCommand : (area most : ℕ) → Indexed → ChainCommand → CommandOutcome → Type 0
+StagesCommand area most old (a_block bytes) outcome = OfConnect (StagesBytes area most old bytes.now) outcome
+StagesCommand area most old (a_hash hash) outcome = OfDisconnect (StagesHash area most old hash.0) outcome
+
+-- what is staged has room in the area
+abbrev pub Fits : (area most : ℕ) → Command → CommandOutcome → Type 0
+Fits area most command outcome = IfStaged (λ s. area + record_length command ≤ most) outcome

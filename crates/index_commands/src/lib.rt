@@ -1,10 +1,22 @@
-//! What a command does to an index: by the index alone, and so to each chain that it stands for.
+//! What a command does to an index, by the index alone, and so to each chain that it stands for; and the area that keeps commands: they
+//! are followed one by one from an index on, and kept.
 #![tactic(auto)]
 
+mod areas;
+mod command;
 mod following;
+mod keeping;
 mod laws;
+mod limits;
+mod reading;
+mod staged;
 mod staging;
 
-pub use following::{CONNECT, DISCONNECT, Unfollowed, follow};
+pub use areas::{Followed, follow_commands};
+pub use command::ChainCommand;
+pub use following::{Unfollowed, follow};
+pub use keeping::keep;
 pub use laws::{allowed_in_two_parts, commands_follow, commands_lead, one_lead, one_result};
-pub use staging::{CONNECT_RECORD, DISCONNECT_RECORD, stage_bytes, stage_hash};
+pub use limits::LONGEST_AREA;
+pub use staged::{CommandOutcome, CommandRefusal, StagedCommand};
+pub use staging::stage;

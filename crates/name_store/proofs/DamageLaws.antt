@@ -16,9 +16,9 @@ use Rattle.image_files.proofs.AreaLaws as image_laws
 use Rattle.index_commands.specs.Records.{records_of}
 use Rattle.index_commands.specs.Standing.{StandsFor}
 use Rattle.index_commands.proofs.LeadLemmas.{allowed_taken}
-use Rattle.command_areas.specs.Commands.{Origin, HasCommands, gate_behind}
-use Rattle.command_areas.specs.Damage.{HasBadRecord}
-use Rattle.command_areas.proofs.RecordLaws.{ended_well, one_record, bad_alike}
+use Rattle.index_commands.specs.Commands.{Origin, HasCommands, gate_behind}
+use Rattle.index_commands.specs.Damage.{HasBadRecord}
+use Rattle.index_commands.proofs.RecordLaws.{ended_well, one_record, bad_alike}
 use Rattle.name_store.specs.Header.{HasHeader, HasFields, IsInitialised, header_text, base_at, selections_at}
 use Rattle.name_store.specs.Damage as damage
 use Rattle.name_store.specs.Damage.{HasBadField, HasSelected, BeginsAt, IsDamaged}

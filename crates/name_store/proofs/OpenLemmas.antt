@@ -32,13 +32,13 @@ use Rattle.index_commands.specs.Standing as chains
 use Rattle.index_commands.specs.Records.{records_of}
 use Rattle.index_commands.proofs.SizeLemmas.{led_sizes, commands_told}
 use Rattle.index_commands.proofs.LeadLemmas.{led_base, led_taken, led_stands}
-use Rattle.command_areas.specs.Commands.{Origin, gate_behind}
-use Rattle.command_areas.specs.Damage.{HasBadRecord}
-use Rattle.command_areas.specs.Reading.{IsFrontOf, FollowedAnswer}
-use Rattle.command_areas.specs.declared.following.Followed.{Followed}
-use Rattle.command_areas.proofs.AreaLemmas.{area_size, all_read}
-use Rattle.command_areas.proofs.ReadingLemmas.{followed_all_same}
-use Rattle.command_areas.proofs.RecordLaws.{ended_well}
+use Rattle.index_commands.specs.Commands.{Origin, gate_behind}
+use Rattle.index_commands.specs.Damage.{HasBadRecord}
+use Rattle.index_commands.specs.Reading.{IsFrontOf, FollowedAnswer}
+use Rattle.index_commands.specs.declared.areas.Followed.{Followed}
+use Rattle.index_commands.proofs.AreaLemmas.{area_size, all_read}
+use Rattle.index_commands.proofs.ReadingLemmas.{followed_all_same}
+use Rattle.index_commands.proofs.RecordLaws.{ended_well}
 use Rattle.name_store.specs.declared.faults.OpenFault.{OpenFault}
 use Rattle.name_store.specs.declared.faults.OpenFault.TheVariants as faults
 use Rattle.name_store.specs.declared.header.Header.{Header}

@@ -17,20 +17,31 @@ use Rattle.chain_state.specs.declared.back.BackOutcome.TheVariants.{StagedBack}
 use Rattle.chain_commands.specs.Chain.{Chain}
 use Rattle.chain_commands.specs.Event.{Command, Connect, Disconnect}
 use Rattle.chain_commands.specs.RunState.{RunState, chain_of, area_of, record_length, accepted, longest_area}
-use Rattle.chain_commands.specs.Refusals.{Refusals, HasNoneBelow}
+use Rattle.chain_commands.specs.Refusals.{Refusals, IsFirst, HasNoneBelow}
 use Rattle.chain_commands.specs.Connecting as connecting
 use Rattle.chain_commands.specs.Connecting.{IsValid, Holds}
 use Rattle.chain_commands.specs.Disconnecting as disconnecting
 use Rattle.chain_commands.specs.Disconnecting.{IsValidBack, HoldsBack}
 use Rattle.index_commands.specs.Standing as chains
 use Rattle.index_commands.specs.Records.{record_of}
-use Rattle.index_commands.specs.Stages.{StagesBytes, StagesHash, IsFullWith, IsStagedFor}
+use Rattle.index_commands.specs.Records.{HasSize}
+use Rattle.index_commands.specs.Staged.{CommitsStaged}
+use Rattle.index_commands.specs.Stages.{StagesBytes, StagesHash, StagesCommand, IsFullWith, IsStagedFor, IsRefusedFor, LacksMemoryFor}
+use Rattle.index_commands.specs.Views.{refusal_of, back_refusal_of, command_of}
+use Rattle.index_commands.specs.declared.command.ChainCommand.{ChainCommand}
+use Rattle.index_commands.specs.declared.command.ChainCommand.TheVariants.{Connect as Block, Disconnect as Hash}
+use Rattle.index_commands.specs.declared.staged.StagedCommand.{StagedCommand}
+use Rattle.index_commands.specs.declared.staged.StagedCommand.TheVariants as stage
+use Rattle.index_commands.specs.declared.staged.CommandRefusal.{CommandRefusal}
+use Rattle.index_commands.specs.declared.staged.CommandRefusal.TheVariants as refused
+use Rattle.index_commands.specs.declared.staged.CommandOutcome.TheVariants as staging
+use Rattle.name_store.specs.Executing.{Executes}
 use Rattle.name_store.specs.declared.store.Outcome.TheVariants.{Done, Refused, NoMemory, Faulted}
 use Rattle.name_store.specs.Host.{IsHostOf}
 use Rattle.name_store.specs.Stands.{IsRunState}
 use Rattle.name_store.specs.Stored.{Stored, StandsFor, IsOn, area_file}
 use Rattle.name_store.specs.Outcomes.{Adds, AnswersFor, IsDone, IsFullOf, KeepsOn, LeavesDisk}
-use Rattle.command_areas.specs.Keeping.{Keeps}
+use Rattle.index_commands.specs.Keeping.{Keeps}
 use Rattle.name_store.proofs.StateLemmas.{state_with}
 use Rattle.name_store.proofs.StoreLemmas.{IsAlike, on_again, done_is, stands_still, each_stands, stands_next, on_next}
 
@@ -55,14 +66,14 @@ abbrev pub Allows : {M : Type 0} → (most : ℕ) → Refusals M → (Type 0 →
 Allows most refusals Holds command = (run : RunState) → IsRunState run → HasNoneBelow (Holds (IsFullOf most run command) (chain_of run)) refusals.order refusals.places
     → IsRunState (accepted run command)
 
-pub allows_connect : (most : ℕ) → most ≤ longest_area → (bytes : List ℕ) → length bytes ≤ LONGEST_BLOCK → Allows most connecting.connects (λ full chain. Holds full chain bytes) (Connect bytes)
+allows_connect : (most : ℕ) → most ≤ longest_area → (bytes : List ℕ) → length bytes ≤ LONGEST_BLOCK → Allows most connecting.connects (λ full chain. Holds full chain bytes) (Connect bytes)
 allows_connect most low bytes short run is valid =
     let full = IsFullOf most run (Connect bytes) in
     let alone : IsValid ⊥ (chain_of run) bytes = record { none = λ refusal low holds. valid.none refusal low (holds_beside full (chain_of run) bytes refusal holds) } in
     let room : ¬ (most < area_of run + record_length (Connect bytes)) = valid.none connecting.JournalFull (omega arith) in
     state_with run (Connect bytes) is (alone, short) (omega (arith, room, low))
 
-pub allows_disconnect : (most : ℕ) → most ≤ longest_area → (hash : List ℕ) → length hash ≡ 32 → Allows most disconnecting.disconnects (λ full chain. HoldsBack full chain hash) (Disconnect hash)
+allows_disconnect : (most : ℕ) → most ≤ longest_area → (hash : List ℕ) → length hash ≡ 32 → Allows most disconnecting.disconnects (λ full chain. HoldsBack full chain hash) (Disconnect hash)
 allows_disconnect most low hash long run is valid =
     let full = IsFullOf most run (Disconnect hash) in
     let alone : IsValidBack ⊥ (chain_of run) hash = record { none = λ refusal low holds. valid.none refusal low (back_beside full (chain_of run) hash refusal holds) } in
@@ -102,17 +113,17 @@ module _ (old new : Stored) (back : IsAlike old new) where
 -- ---- what was staged
 
 -- A command is staged on the index of a store, of every chain that it stands for, and behind it stands a run state.
-pub record Staging {M : Type 0} (most : ℕ) (refusals : Refusals M) (Holds : Type 0 → Chain → M → Type 0) (command : Command) (old : Stored) (Commits Abandons : Indexed → Type 0) : Type 0 where
-  pub allows : Allows most refusals Holds command
-  pub staged : (chain : Chain) → chains.StandsFor old.index chain → IsStagedFor refusals (Holds (IsFullWith old.area most command) chain) chain command Commits Abandons
+record Staging {M : Type 0} (most : ℕ) (refusals : Refusals M) (Holds : Type 0 → Chain → M → Type 0) (command : Command) (old : Stored) (Commits Abandons : Indexed → Type 0) : Type 0 where
+  allows : Allows most refusals Holds command
+  staged : (chain : Chain) → chains.StandsFor old.index chain → IsStagedFor refusals (Holds (IsFullWith old.area most command) chain) chain command Commits Abandons
 
 -- a block is staged
-pub a_block : (most : ℕ) → most ≤ longest_area → (bytes : List ℕ) → length bytes ≤ LONGEST_BLOCK → (old : Stored) (staged : StagedIndex) → StagesBytes old.area most old.index bytes (Staged staged)
+a_block : (most : ℕ) → most ≤ longest_area → (bytes : List ℕ) → length bytes ≤ LONGEST_BLOCK → (old : Stored) (staged : StagedIndex) → StagesBytes old.area most old.index bytes (Staged staged)
     → Staging most connecting.connects (λ full chain. Holds full chain bytes) (Connect bytes) old (IsConnected staged) (IsAbandoned staged)
 a_block most low bytes short old staged stages = record { allows = allows_connect most low bytes short; staged = stages }
 
 -- the disconnect of a hash is staged
-pub a_hash : (most : ℕ) → most ≤ longest_area → (hash : List ℕ) → length hash ≡ 32 → (old : Stored) (staged : Indexed) → StagesHash old.area most old.index hash (StagedBack staged)
+a_hash : (most : ℕ) → most ≤ longest_area → (hash : List ℕ) → length hash ≡ 32 → (old : Stored) (staged : Indexed) → StagesHash old.area most old.index hash (StagedBack staged)
     → Staging most disconnecting.disconnects (λ full chain. HoldsBack full chain hash) (Disconnect hash) old (IsDisconnected staged) (λ same. SameIndex same staged)
 a_hash most low hash long old staged stages = record { allows = allows_disconnect most low hash long; staged = stages }
 
@@ -125,21 +136,11 @@ pub record IsCommitted (command : Command) (old : Stored) (Commits : Indexed →
 
 module _ {M : Type 0} {most : ℕ} {refusals : Refusals M} {Holds : Type 0 → Chain → M → Type 0} {command : Command} {old : Stored} {Commits Abandons : Indexed → Type 0}
     (g : Staging most refusals Holds command old Commits Abandons) where
-  pub valid_of : (run : RunState) → StandsFor old run → HasNoneBelow (Holds (IsFullOf most run command) (chain_of run)) refusals.order refusals.places
+  valid_of : (run : RunState) → StandsFor old run → HasNoneBelow (Holds (IsFullOf most run command) (chain_of run)) refusals.order refusals.places
   valid_of run s = subst (λ (a : ℕ). HasNoneBelow (Holds (most < a + record_length command) (chain_of run)) refusals.order refusals.places) s.area (g.staged (chain_of run) s.index).valid
 
   next_of : (run : RunState) → StandsFor old run → IsRunState (accepted run command)
   next_of run s = g.allows run s.is_state (valid_of run s)
-
-  -- a fault comes only behind all refusals
-  pub keeps_faulted : {T R : Type 0} (tells : Bool) (before after : DiskSeen) (result : Result ℕ Failed) → (IsTrue tells → IsOn old before.moments.now)
-      → Keeps tells (area_file old) old.area (record_of command) before after result → KeepsOn {T = T} {R = R} tells old (Adds command) before after Faulted
-  keeps_faulted tells before after result on kept = λ told run s stands. record {
-    next = accepted run command;
-    is_next = refl;
-    done = tt;
-    any_moment = each_stands tells told old before after (on told) run s stands command (next_of run s) result kept;
-  }
 
   stands_with : (new : Stored) → IsCommitted command old Commits new → (run : RunState) → StandsFor old run → StandsFor new (accepted run command)
   stands_with new done run s = record {
@@ -150,17 +151,96 @@ module _ {M : Type 0} {most : ℕ} {refusals : Refusals M} {Holds : Type 0 → C
     is_state = next_of run s;
   }
 
-  pub answers_done : {R : Type 0} (seen : R → M) (new : Stored) → IsCommitted command old Commits new → (run : RunState) → StandsFor old run
+  answers_done : {R : Type 0} (seen : R → M) (new : Stored) → IsCommitted command old Commits new → (run : RunState) → StandsFor old run
       → AnswersFor refusals (Holds (IsFullOf most run command) (chain_of run)) seen (IsDone run command) run (Done new new.index.tip)
   answers_done seen new done run s = (valid_of run s, done_is run command new new.index.tip (stands_with new done run s) refl)
 
-  pub keeps_done : {T R : Type 0} (tells : Bool) (before after : DiskSeen) (new : Stored) (value : T) → (IsTrue tells → IsOn old before.moments.now)
-      → Keeps tells (area_file old) old.area (record_of command) before after (Ok new.area) → KeepsOn {T = T} {R = R} tells old (Adds command) before after (Done new value)
-  keeps_done tells before after new value on kept = λ told run s stands. record {
+-- ---- what is answered without it
+
+-- the store with another index
+abbrev pub with_index : Stored → Indexed → Stored
+with_index old index = record { index = index; host = old.host; slots = old.slots; area = old.area }
+
+module _ {M : Type 0} (most : ℕ) (refusals : Refusals M) (Holds : Type 0 → Chain → M → Type 0) (command : Command) (old : Stored) (same : Indexed) (run : RunState) (s : StandsFor old run) where
+  stands_so : chains.StandsFor same (chain_of run) → StandsFor (with_index old same) run
+  stands_so stands = record { index = stands; host = s.host; selections = s.selections; area = s.area; is_state = s.is_state }
+
+  refused_so : (refusal : M) → IsRefusedFor refusals (Holds (IsFullWith old.area most command) (chain_of run)) (chain_of run) refusal same
+      → IsFirst (Holds (IsFullOf most run command) (chain_of run)) refusals.order refusal × StandsFor (with_index old same) run
+  refused_so refusal h = (subst (λ (a : ℕ). IsFirst (Holds (most < a + record_length command) (chain_of run)) refusals.order refusal) s.area h.refuses, stands_so h.stands)
+
+  lacking_so : LacksMemoryFor refusals (Holds (IsFullWith old.area most command) (chain_of run)) (chain_of run) same
+      → HasNoneBelow (Holds (IsFullOf most run command) (chain_of run)) refusals.order refusals.before_memory × StandsFor (with_index old same) run
+  lacking_so h = (subst (λ (a : ℕ). HasNoneBelow (Holds (most < a + record_length command) (chain_of run)) refusals.order refusals.before_memory) s.area h.takes_memory, stands_so h.stands)
+
+-- ---- of a command of either kind
+
+abbrev holds_connect : List ℕ → Type 0 → Chain → connecting.Refusal → Type 0
+holds_connect bytes full chain = Holds full chain bytes
+
+abbrev holds_disconnect : List ℕ → Type 0 → Chain → disconnecting.BackRefusal → Type 0
+holds_disconnect hash full chain = HoldsBack full chain hash
+
+module _ (most : ℕ) (old : Stored) where
+  pub executes_refused : (command : ChainCommand) (same : Indexed) (refusal : CommandRefusal) → StagesCommand old.area most old.index command (staging.Refused same refusal)
+      → Executes most old command (Refused (with_index old same) refusal)
+  executes_refused (Block bytes) same (refused.Connect refusal) stages = λ run s.
+      refused_so most connecting.connects (holds_connect bytes.now) (Connect bytes.now) old same run s (refusal_of refusal) (stages (chain_of run) s.index)
+  executes_refused (Block bytes) same (refused.Disconnect refusal) stages = stages
+  executes_refused (Hash hash) same (refused.Connect refusal) stages = stages
+  executes_refused (Hash hash) same (refused.Disconnect refusal) stages = λ run s.
+      refused_so most disconnecting.disconnects (holds_disconnect hash.0) (Disconnect hash.0) old same run s (back_refusal_of refusal) (stages (chain_of run) s.index)
+
+  pub executes_lacking : (command : ChainCommand) (same : Indexed) → StagesCommand old.area most old.index command (staging.NoMemory same)
+      → Executes most old command (NoMemory (with_index old same))
+  executes_lacking (Block bytes) same stages = λ run s. lacking_so most connecting.connects (holds_connect bytes.now) (Connect bytes.now) old same run s (stages (chain_of run) s.index)
+  executes_lacking (Hash hash) same stages = λ run s. lacking_so most disconnecting.disconnects (holds_disconnect hash.0) (Disconnect hash.0) old same run s (stages (chain_of run) s.index)
+
+-- a command that was staged, within the limits
+pub record IsStaged (most : ℕ) (old : Stored) (command : ChainCommand) (s : StagedCommand) : Type 0 where
+  pub low : most ≤ longest_area
+  pub sized : HasSize (command_of command)
+  pub stages : StagesCommand old.area most old.index command (staging.Staged s)
+
+module _ (most : ℕ) (old : Stored) where
+  pub executes_faulted : (command : ChainCommand) (s : StagedCommand) → IsStaged most old command s → Executes most old command Faulted
+  executes_faulted (Block bytes) (stage.Connect s) is = valid_of (a_block most is.low bytes.now is.sized old s is.stages)
+  executes_faulted (Block bytes) (stage.Disconnect s) is = absurd is.stages
+  executes_faulted (Hash hash) (stage.Connect s) is = absurd is.stages
+  executes_faulted (Hash hash) (stage.Disconnect s) is = valid_of (a_hash most is.low hash.0 is.sized old s is.stages)
+
+  pub executes_done : (command : ChainCommand) (s : StagedCommand) → IsStaged most old command s → (new : Stored) → IsCommitted (command_of command) old (CommitsStaged s) new
+      → Executes most old command (Done new new.index.tip)
+  executes_done (Block bytes) (stage.Connect s) is new done = answers_done (a_block most is.low bytes.now is.sized old s is.stages) refusal_of new done
+  executes_done (Block bytes) (stage.Disconnect s) is new done = absurd is.stages
+  executes_done (Hash hash) (stage.Connect s) is new done = absurd is.stages
+  executes_done (Hash hash) (stage.Disconnect s) is new done = answers_done (a_hash most is.low hash.0 is.sized old s is.stages) back_refusal_of new done
+
+  -- behind it stands a run state
+  pub next_state : (command : ChainCommand) (s : StagedCommand) → IsStaged most old command s → (run : RunState) → StandsFor old run → IsRunState (accepted run (command_of command))
+  next_state (Block bytes) (stage.Connect s) is = next_of (a_block most is.low bytes.now is.sized old s is.stages)
+  next_state (Block bytes) (stage.Disconnect s) is = absurd is.stages
+  next_state (Hash hash) (stage.Connect s) is = absurd is.stages
+  next_state (Hash hash) (stage.Disconnect s) is = next_of (a_hash most is.low hash.0 is.sized old s is.stages)
+
+module _ {T R : Type 0} (tells : Bool) (before after : DiskSeen) (command : Command) (old : Stored) (next : (run : RunState) → StandsFor old run → IsRunState (accepted run command)) where
+  -- a fault comes only behind all refusals
+  pub keeps_faulted : (result : Result ℕ Failed) → (IsTrue tells → IsOn old before.moments.now) → Keeps tells (area_file old) old.area (record_of command) before after result
+      → KeepsOn {T = T} {R = R} tells old (Adds command) before after Faulted
+  keeps_faulted result on kept = λ told run s stands. record {
     next = accepted run command;
     is_next = refl;
-    done = stands_next tells told old before after (on told) run s stands command (next_of run s) new.area kept;
-    any_moment = each_stands tells told old before after (on told) run s stands command (next_of run s) (Ok new.area) kept;
+    done = tt;
+    any_moment = each_stands tells told old before after (on told) run s stands command (next run s) result kept;
+  }
+
+  pub keeps_done : (new : Stored) (value : T) → (IsTrue tells → IsOn old before.moments.now) → Keeps tells (area_file old) old.area (record_of command) before after (Ok new.area)
+      → KeepsOn {T = T} {R = R} tells old (Adds command) before after (Done new value)
+  keeps_done new value on kept = λ told run s stands. record {
+    next = accepted run command;
+    is_next = refl;
+    done = stands_next tells told old before after (on told) run s stands command (next run s) new.area kept;
+    any_moment = each_stands tells told old before after (on told) run s stands command (next run s) (Ok new.area) kept;
   }
 
 -- ---- the disk behind a command that was kept, or may have been

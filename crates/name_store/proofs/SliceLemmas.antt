@@ -26,8 +26,8 @@ use Rattle.image_files.specs.Saving.{SelectsArea}
 use Rattle.image_files.proofs.SaveLemmas.{apart, not_drafted}
 use Rattle.index_commands.specs.Records.{record_of, records_of, HasSize}
 use Rattle.index_commands.proofs.SizeLemmas.{allowed_sizes}
-use Rattle.command_areas.specs.Keeping.{HoldsRecords}
-use Rattle.command_areas.proofs.AreaLemmas.{area_size, records_fit}
+use Rattle.index_commands.specs.Keeping.{HoldsRecords}
+use Rattle.index_commands.proofs.AreaLemmas.{area_size, records_fit}
 use Rattle.name_store.specs.Header.{header_text}
 use Rattle.name_store.specs.Stands.{Stands, EachStands, EachStandsForEither, IsRunState}
 use Rattle.name_store.specs.Stored.{Stored, StandsFor, IsOn, area_file}

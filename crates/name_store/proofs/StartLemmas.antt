@@ -32,7 +32,7 @@ use Rattle.saved_widths.proofs.ChainLemmas.{wide_by_text}
 use Rattle.name_store.specs.Starting.{IsStartIndex, start_index, HasCoin, IsStartText, HasShortText, HasStartText}
 use Rattle.name_store.specs.declared.faults.CreateFromFault.{CreateFromFault}
 use Rattle.name_store.specs.declared.faults.CreateFromFault.TheVariants.{DiskFault}
-use Rattle.command_areas.proofs.ReadingLemmas.{never_fell, failed_since}
+use Rattle.index_commands.proofs.ReadingLemmas.{never_fell, failed_since}
 use Rattle.name_store.proofs.TextLemmas.{text_of, read_again}
 
 -- ---- the coins of a start list

@@ -8,9 +8,9 @@ use Rattle.chain_commands.proofs.SavingLemmas.{command_keeps}
 use Rattle.index_commands.specs.Allowed.{IsAllowed}
 use Rattle.index_commands.specs.Records.{records_of}
 use Rattle.index_commands.proofs.SizeLemmas.{allowed_sizes}
-use Rattle.command_areas.specs.Commands.{gate_behind}
-use Rattle.command_areas.specs.Keeping.{HoldsRecords}
-use Rattle.command_areas.proofs.AreaLemmas.{area_size}
+use Rattle.index_commands.specs.Commands.{gate_behind}
+use Rattle.index_commands.specs.Keeping.{HoldsRecords}
+use Rattle.index_commands.proofs.AreaLemmas.{area_size}
 use Rattle.gate_journal.specs.Records.{IsArea}
 use Rattle.name_store.specs.Stands.{IsRunState}
 

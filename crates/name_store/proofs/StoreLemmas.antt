@@ -18,7 +18,7 @@ use Rattle.image_slots.specs.Selections.{HasSelections, selected_by}
 use Rattle.image_slots.specs.Slotted.{Slotted, AreOn}
 use Rattle.index_commands.specs.Records.{record_of, records_of}
 use Rattle.index_commands.proofs.ChainTips.{index_tip}
-use Rattle.command_areas.specs.Keeping.{HoldsRecords, KeepsOrAdds, Keeps}
+use Rattle.index_commands.specs.Keeping.{HoldsRecords, KeepsOrAdds, Keeps}
 use Rattle.name_store.specs.Header.{header_text}
 use Rattle.name_store.specs.Host.{IsHostOf}
 use Rattle.name_store.specs.Stands.{Bytes, IsRunState, Stands, EachStandsForEither}

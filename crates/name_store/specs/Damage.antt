@@ -10,8 +10,8 @@ use Rattle.image_slots.specs.Selections.{HasSelections, selected_by}
 use Rattle.image_slots.specs.Damage as slots
 use Rattle.image_files.specs.Fronts.{HasFront, image_at}
 use Rattle.image_files.specs.Indexes.{BeginsWith, HasBadImage}
-use Rattle.command_areas.specs.Commands.{Origin}
-use Rattle.command_areas.specs.Damage.{HasBadRecord}
+use Rattle.index_commands.specs.Commands.{Origin}
+use Rattle.index_commands.specs.Damage.{HasBadRecord}
 use Rattle.name_store.specs.Header.{IsProfile, magic, magic_at, profile_at, height_at, HasHost, IsInitialised, HasHeader, selections_at, base_at}
 use Rattle.name_store.specs.Stands.{Bytes}
 

@@ -12,8 +12,7 @@ pub mod MakingSteps
 pub mod Starting
 pub mod Outcomes
 pub mod ByIndex
-pub mod Connecting
-pub mod Disconnecting
+pub mod Executing
 pub mod Saves
 pub mod Growing
 pub mod Drafting

@@ -10,10 +10,10 @@ use Rattle.name_store.specs.declared.faults.OpenFault.TheVariants.{Uninitialised
 use Rattle.name_store.specs.Header.{IsInitialised, IsUninitialised, base_at}
 use Rattle.name_store.specs.Stands.{Bytes, Stands}
 use Rattle.image_files.specs.Indexes.{HasBadImage}
-use Rattle.command_areas.specs.Commands.{Origin}
-use Rattle.command_areas.specs.Damage.{HasBadRecord}
-use Rattle.command_areas.specs.Reading.{HasFollowedAll}
-use Rattle.command_areas.specs.declared.following.Followed.{Followed}
+use Rattle.index_commands.specs.Commands.{Origin}
+use Rattle.index_commands.specs.Damage.{HasBadRecord}
+use Rattle.index_commands.specs.Reading.{HasFollowedAll}
+use Rattle.index_commands.specs.declared.areas.Followed.{Followed}
 use Rattle.name_store.specs.Damage.{BeginsAt, HasSelected, IsDamaged}
 use Rattle.name_store.specs.Stored.{Stored, StandsFor, IsOn, area_file}
 

@@ -9,7 +9,7 @@ use Rattle.chain_commands.specs.Chain.{Chain, height_of, tip_hash}
 use Rattle.chain_commands.specs.RunState.{RunState, chain_of, area_of}
 use Rattle.image_slots.specs.Selections.{selected_by}
 use Rattle.image_slots.specs.Slotted.{Slotted, AreOn}
-use Rattle.command_areas.specs.Keeping.{HoldsRecords}
+use Rattle.index_commands.specs.Keeping.{HoldsRecords}
 use Rattle.name_store.specs.Header.{header_text}
 use Rattle.name_store.specs.Host.{IsHostOf}
 use Rattle.name_store.specs.Stands.{IsRunState, EachStands}

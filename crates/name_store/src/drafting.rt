@@ -4,7 +4,7 @@ ghost use Rattle.std.specs.Prelude.{◌≡◌, IsTrue};
 ghost use Rattle.name_store.specs.Slicing.{BeginAnswer, IfRefused, LeavesBegun};
 ghost use Rattle.name_store.specs.Stored.{IsOn};
 
-use crate::saving::{SaveRefusal, let_go};
+use crate::saving::SaveRefusal;
 use crate::store::Store;
 use disk_model::Disk;
 use image_slots::{Draft, DraftFault};
@@ -64,7 +64,7 @@ impl Store {
             }
             Err(DraftFault::ImageLimit) => DraftOutcome::Refused(store, SaveRefusal::ImageLimit),
             Err(DraftFault::DiskFault) => {
-                let_go(store);
+                store.let_go();
                 DraftOutcome::Faulted
             }
         }

@@ -14,10 +14,10 @@ use crate::faults::OpenFault;
 use crate::header::read_header;
 use crate::limits::SLOT_LIMITS;
 use crate::store::Store;
-use command_areas::{Followed, LONGEST_AREA, follow_commands};
 use disk_model::{Disk, Failed};
 use image_files::read_image;
 use image_slots::Slots;
+use index_commands::{Followed, LONGEST_AREA, follow_commands};
 use nmc_base::Base;
 use std::alloc::Global;
 

@@ -21,9 +21,6 @@ pub enum SaveRefusal {
     ImageLimit,
 }
 
-/// Lets go of a store, in a place of its own: such a place is dear to prove.
-pub(crate) fn let_go(_store: Store) {}
-
 impl Store {
     /// Saves the index: writes its image to the area that isn't selected, syncs that and selects it. From then on the files need none
     /// of the blocks that were connected so far. Says how many saves were selected since the files were made.
@@ -60,7 +57,7 @@ impl Store {
             }
             Err(SaveFault::NoMemory) => Outcome::NoMemory(Store::of(chain, host, slots, area)),
             Err(SaveFault::DiskFault) => {
-                let_go(Store::of(chain, host, slots, area));
+                Store::of(chain, host, slots, area).let_go();
                 Outcome::Faulted
             }
         }

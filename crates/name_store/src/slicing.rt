@@ -9,11 +9,10 @@ ghost use Rattle.name_store.specs.declared.slice_steps.TheConstants.{LONGEST_SLI
 
 use crate::drafting::SlicedDraft;
 use crate::limits::EMPTY_AREA;
-use crate::saving::let_go;
 use crate::slice_steps::{write_last, write_next};
 use crate::store::Store;
-use command_areas::LONGEST_AREA;
 use disk_model::Disk;
+use index_commands::LONGEST_AREA;
 
 /// What came of a slice. A store that is handed back with `Written` or `AreaLimit` is as it was. A fault of the disk hands none back: open
 /// the files again.
@@ -56,7 +55,7 @@ impl Store {
         match write_next(disk, &mut draft, from, self.slots.selected(), piece, most) {
             Ok(()) => SliceOutcome::Written(self, SlicedDraft { draft, from }),
             Err(_) => {
-                let_go(self);
+                self.let_go();
                 SliceOutcome::Faulted
             }
         }
@@ -99,7 +98,7 @@ impl Store {
                 SliceOutcome::Selected(store, u64::from(number))
             }
             Err(_) => {
-                let_go(Store::of(chain, host, slots, area));
+                Store::of(chain, host, slots, area).let_go();
                 SliceOutcome::Faulted
             }
         }

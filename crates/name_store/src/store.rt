@@ -1,28 +1,23 @@
 //! The index of a chain, with the files of a disk that keep its commands and saves.
 
-ghost use Rattle.std.specs.Prelude.{◌≡◌, ◌≤◌, length, IsTrue};
-ghost use Rattle.nmc_base.specs.declared.limits.TheConstants.{LONGEST_BLOCK};
+ghost use Rattle.std.specs.Prelude.{◌≡◌, ◌≤◌, IsTrue};
 ghost use Rattle.chain_commands.specs.RunState.{longest_area};
-ghost use Rattle.chain_commands.specs.Event.{Connect, Disconnect};
 ghost use Rattle.disk_model.specs.Changes.{LeavesOthers};
-ghost use Rattle.name_store.specs.Stored.{IsOn, area_file};
 ghost use Rattle.index_commands.specs.Stages.{IsFullWith};
-ghost use Rattle.name_store.specs.ByIndex.{ConnectsOn, DisconnectsOn};
-ghost use Rattle.name_store.specs.Outcomes.{Adds, IfUndone, LeavesDisk, KeepsOn};
+ghost use Rattle.index_commands.specs.Views.{command_of, IsWithinLimits};
+ghost use Rattle.name_store.specs.ByIndex.{ExecutesOn};
+ghost use Rattle.name_store.specs.Executing.{Executes, IsCheapIfDone};
 ghost use Rattle.name_store.specs.Growing.{Grows, AddsRecord};
+ghost use Rattle.name_store.specs.Outcomes.{Adds, IfUndone, LeavesDisk, KeepsOn};
+ghost use Rattle.name_store.specs.Stored.{IsOn, area_file};
 ghost use Rattle.name_store.specs.declared.limits.TheConstants.{EMPTY_AREA, SLOT_LIMITS};
-ghost use Rattle.name_store.specs.Connecting as connecting;
-ghost use Rattle.name_store.specs.Disconnecting as disconnecting;
 
-use chain_state::{
-    BackOutcome, BackRefusal, Chain, Refusal, StageOutcome, StagedBack, StagedChain,
-};
-use command_areas::{LONGEST_AREA, keep};
+use chain_state::Chain;
 use disk_model::Disk;
 use domain_text::Name;
 use image_slots::Slots;
-use index_commands::{CONNECT, DISCONNECT, stage_bytes, stage_hash};
-use nmc_base::{Hash32, Steps, Tip};
+use index_commands::{ChainCommand, CommandOutcome, CommandRefusal, LONGEST_AREA, keep, stage};
+use nmc_base::{Steps, Tip};
 use std::alloc::Global;
 use std::marker::Model;
 use std::sync::ledger::Ledger;
@@ -60,12 +55,6 @@ pub enum Outcome<T, R> {
     NoMemory(Store),
     Faulted,
 }
-
-/// Lets go of a staged block, in a place of its own: such a place is dear to prove.
-fn let_go(_staged: StagedChain) {}
-
-/// Lets go of a staged disconnect, likewise.
-fn let_go_back(_staged: StagedBack) {}
 
 impl Store {
     /// The store of these parts.
@@ -108,52 +97,53 @@ impl Store {
         Outcome::Done(Store::of(chain, host, slots, area), tip)
     }
 
-    /// Connects a block: stages it, keeps it in the area, and then changes the index.
+    /// Executes a command: stages it, keeps it in the area, and then changes the index. A connect's block joins the chain, a
+    /// disconnect's newest block leaves it.
     ///
-    /// The refusals are those of the machine, that of a full area last. Where the block is refused, and where memory is
+    /// The refusals are those of the machine, that of a full area last. Where the command is refused, and where memory is
     /// wanting, the disk isn't asked. A crash at any moment leaves files that stand for the run state before or after, and the
     /// other two files as they were.
-    pub fn connect<D: Disk, L: Ledger>(
+    pub fn execute<D: Disk, L: Ledger>(
         self,
         alloc: Global,
         disk: &mut D,
-        bytes: &[u8],
+        command: ChainCommand<'_>,
         steps: &mut Steps<L>,
-    ) -> Outcome<Tip, Refusal>
-        requires short { length bytes.now ≤ LONGEST_BLOCK }
+    ) -> Outcome<Tip, CommandRefusal>
+        requires within { IsWithinLimits command }
         requires on_disk { IsTrue D.tells → IsOn self (D.seen disk.old).moments.now }
-        ensures connects { connecting.Connects longest_area self bytes.now result }
-        ensures on_index { ConnectsOn (IsFullWith self.area longest_area (Connect bytes.now)) self.index bytes.now result }
+        ensures executes { Executes longest_area self command.entry result }
+        ensures on_index { ExecutesOn (IsFullWith self.area longest_area (command_of command.entry)) self.index command.entry result }
         ensures undone { IfUndone (disk.new ≡ disk.old) result }
         ensures leaves { LeavesDisk D.tells (LeavesOthers (area_file self)) (D.seen disk.old) (D.seen disk.new) result }
-        ensures kept { KeepsOn D.tells self (Adds (Connect bytes.now)) (D.seen disk.old) (D.seen disk.new) result }
-        ensures grows { Grows (Connect bytes.now) self result }
-        ensures adds { IsTrue D.tells → AddsRecord (Connect bytes.now) self (D.seen disk.old) (D.seen disk.new) result }
-        ensures cost { connecting.IsCheapIfDone bytes.now result steps.old steps.new }
+        ensures kept { KeepsOn D.tells self (Adds (command_of command.entry)) (D.seen disk.old) (D.seen disk.new) result }
+        ensures grows { Grows (command_of command.entry) self result }
+        ensures adds { IsTrue D.tells → AddsRecord (command_of command.entry) self (D.seen disk.old) (D.seen disk.new) result }
+        ensures cost { IsCheapIfDone self.index command.entry result steps.old steps.new }
     {
-        self.connect_within(alloc, disk, bytes, LONGEST_AREA, steps)
+        self.execute_within(alloc, disk, command, LONGEST_AREA, steps)
     }
 
     /// The same, where an area has no more bytes than `longest`.
-    pub fn connect_within<D: Disk, L: Ledger>(
+    pub fn execute_within<D: Disk, L: Ledger>(
         self,
         alloc: Global,
         disk: &mut D,
-        bytes: &[u8],
+        command: ChainCommand<'_>,
         longest: u64,
         steps: &mut Steps<L>,
-    ) -> Outcome<Tip, Refusal>
-        requires short { length bytes.now ≤ LONGEST_BLOCK }
+    ) -> Outcome<Tip, CommandRefusal>
+        requires within { IsWithinLimits command }
         requires longest { longest ≤ longest_area }
         requires on_disk { IsTrue D.tells → IsOn self (D.seen disk.old).moments.now }
-        ensures connects { connecting.Connects longest self bytes.now result }
-        ensures on_index { ConnectsOn (IsFullWith self.area longest (Connect bytes.now)) self.index bytes.now result }
+        ensures executes { Executes longest self command.entry result }
+        ensures on_index { ExecutesOn (IsFullWith self.area longest (command_of command.entry)) self.index command.entry result }
         ensures undone { IfUndone (disk.new ≡ disk.old) result }
         ensures leaves { LeavesDisk D.tells (LeavesOthers (area_file self)) (D.seen disk.old) (D.seen disk.new) result }
-        ensures kept { KeepsOn D.tells self (Adds (Connect bytes.now)) (D.seen disk.old) (D.seen disk.new) result }
-        ensures grows { Grows (Connect bytes.now) self result }
-        ensures adds { IsTrue D.tells → AddsRecord (Connect bytes.now) self (D.seen disk.old) (D.seen disk.new) result }
-        ensures cost { connecting.IsCheapIfDone bytes.now result steps.old steps.new }
+        ensures kept { KeepsOn D.tells self (Adds (command_of command.entry)) (D.seen disk.old) (D.seen disk.new) result }
+        ensures grows { Grows (command_of command.entry) self result }
+        ensures adds { IsTrue D.tells → AddsRecord (command_of command.entry) self (D.seen disk.old) (D.seen disk.new) result }
+        ensures cost { IsCheapIfDone self.index command.entry result steps.old steps.new }
     {
         let Store {
             chain,
@@ -161,9 +151,9 @@ impl Store {
             slots,
             area,
         } = self;
-        let staged = match stage_bytes(alloc, chain, bytes, area, longest, steps) {
-            StageOutcome::Staged(staged) => staged,
-            StageOutcome::Refused(chain, refusal) => {
+        let staged = match stage(alloc, chain, command, area, longest, steps) {
+            CommandOutcome::Staged(staged) => staged,
+            CommandOutcome::Refused(chain, refusal) => {
                 let store = Store {
                     chain,
                     host,
@@ -172,7 +162,7 @@ impl Store {
                 };
                 return Outcome::Refused(store, refusal);
             }
-            StageOutcome::NoMemory(chain) => {
+            CommandOutcome::NoMemory(chain) => {
                 return Outcome::NoMemory(Store {
                     chain,
                     host,
@@ -182,68 +172,17 @@ impl Store {
             }
         };
         let file = slots.selected();
-        match keep(disk, file, area, CONNECT, bytes, longest) {
+        match keep(disk, file, area, command, longest) {
             Ok(area) => Store::done(staged.commit(steps), host, slots, area),
             Err(_) => {
-                let_go(staged);
+                staged.let_go();
                 Outcome::Faulted
             }
         }
     }
 
-    /// Disconnects the newest block, which has this hash: stages that, keeps it in the area, and then changes the index.
-    ///
-    /// The same holds as of a connect.
-    pub fn disconnect<D: Disk, L: Ledger>(
-        self,
-        alloc: Global,
-        disk: &mut D,
-        hash: Hash32,
-        steps: &mut Steps<L>,
-    ) -> Outcome<Tip, BackRefusal>
-        requires on_disk { IsTrue D.tells → IsOn self (D.seen disk.old).moments.now }
-        ensures disconnects { disconnecting.Disconnects longest_area self hash.0 result }
-        ensures on_index { DisconnectsOn (IsFullWith self.area longest_area (Disconnect hash.0)) self.index hash result }
-        ensures undone { IfUndone (disk.new ≡ disk.old) result }
-        ensures leaves { LeavesDisk D.tells (LeavesOthers (area_file self)) (D.seen disk.old) (D.seen disk.new) result }
-        ensures kept { KeepsOn D.tells self (Adds (Disconnect hash.0)) (D.seen disk.old) (D.seen disk.new) result }
-        ensures grows { Grows (Disconnect hash.0) self result }
-        ensures adds { IsTrue D.tells → AddsRecord (Disconnect hash.0) self (D.seen disk.old) (D.seen disk.new) result }
-        ensures cost { disconnecting.IsCheapIfDone self.index result steps.old steps.new }
-    {
-        let Store {
-            chain,
-            host,
-            slots,
-            area,
-        } = self;
-        let staged = match stage_hash(alloc, chain, hash, area, LONGEST_AREA, steps) {
-            BackOutcome::StagedBack(staged) => staged,
-            BackOutcome::Refused(chain, refusal) => {
-                let store = Store {
-                    chain,
-                    host,
-                    slots,
-                    area,
-                };
-                return Outcome::Refused(store, refusal);
-            }
-            BackOutcome::NoMemory(chain) => {
-                return Outcome::NoMemory(Store {
-                    chain,
-                    host,
-                    slots,
-                    area,
-                });
-            }
-        };
-        let file = slots.selected();
-        match keep(disk, file, area, DISCONNECT, &hash.0, LONGEST_AREA) {
-            Ok(area) => Store::done(staged.commit(steps), host, slots, area),
-            Err(_) => {
-                let_go_back(staged);
-                Outcome::Faulted
-            }
-        }
+    /// Lets go of a store that is of no use. Call it in the place of dropping it, which each crate would prove anew.
+    pub fn let_go(self) {
+        self.chain.let_go();
     }
 }

@@ -8,6 +8,7 @@ use super::first_block::{FIRST_BLOCK, FIRST_HASH};
 use super::making::made;
 use chain_state::{BackRefusal, Refusal};
 use disk_model::Disk;
+use index_commands::{ChainCommand, CommandRefusal};
 use memory_disk::{Choice, MemoryDisk};
 use name_store::{CreateFault, OpenFault, Outcome, SaveRefusal, Store};
 use nmc_base::{Hash32, NoMemory, Steps, Tip};
@@ -69,8 +70,12 @@ fn of_tip(tip: Tip) -> Found {
     Found::Other(tip.height)
 }
 
-/// Lets a store go, if there is one. It is dear to prove, so all do it here.
-pub(super) fn let_go(_: Option<Store>) {}
+/// Lets a store go, if there is one.
+pub(super) fn let_go(store: Option<Store>) {
+    if let Some(store) = store {
+        store.let_go();
+    }
+}
 
 /// What the files of the disk are found to be.
 pub(super) fn look_at<D: Disk>(alloc: Global, disk: &mut D) -> Found {
@@ -84,15 +89,12 @@ pub(super) fn look_at<D: Disk>(alloc: Global, disk: &mut D) -> Found {
     }
 }
 
-impl From<Refusal> for Answer {
-    fn from(refusal: Refusal) -> Self {
-        Answer::Refused(refusal)
-    }
-}
-
-impl From<BackRefusal> for Answer {
-    fn from(refusal: BackRefusal) -> Self {
-        Answer::RefusedBack(refusal)
+impl From<CommandRefusal> for Answer {
+    fn from(refusal: CommandRefusal) -> Self {
+        match refusal {
+            CommandRefusal::Connect(refusal) => Answer::Refused(refusal),
+            CommandRefusal::Disconnect(refusal) => Answer::RefusedBack(refusal),
+        }
     }
 }
 
@@ -139,7 +141,7 @@ fn connect_to<D: Disk, L: Ledger>(
     requires some { 0 < blank.parts }
 {
     let mut steps = Steps::<L>::new(blank);
-    answer_of(store.connect(alloc, disk, &FIRST_BLOCK, &mut steps))
+    answer_of(store.execute(alloc, disk, ChainCommand::Connect(&FIRST_BLOCK), &mut steps))
 }
 
 /// Disconnects the block of this hash from a store that is on the disk.
@@ -156,7 +158,8 @@ fn disconnect_from<D: Disk, L: Ledger>(
     requires some { 0 < blank.parts }
 {
     let mut steps = Steps::<L>::new(blank);
-    answer_of(store.disconnect(alloc, disk, hash, &mut steps))
+    let command = ChainCommand::Disconnect(hash);
+    answer_of(store.execute(alloc, disk, command, &mut steps))
 }
 
 /// Connects the first block to the store that the files of the disk are.

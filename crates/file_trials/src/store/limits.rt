@@ -14,6 +14,7 @@ use chain_state::{Chain, Refusal};
 use disk_model::Disk;
 use image_files::{ReadFault, SaveFault, read_length, save_index};
 use image_slots::{SlotLimits, Slots};
+use index_commands::ChainCommand;
 use memory_disk::MemoryDisk;
 use name_store::Store;
 use nmc_base::Steps;
@@ -40,7 +41,8 @@ fn connect_within<D: Disk, L: Ledger>(
     requires some { 0 < blank.parts }
 {
     let mut steps = Steps::<L>::new(blank);
-    answer_of(store.connect_within(alloc, disk, &FIRST_BLOCK, longest, &mut steps))
+    let command = ChainCommand::Connect(&FIRST_BLOCK);
+    answer_of(store.execute_within(alloc, disk, command, longest, &mut steps))
 }
 
 /// Connects the first block to the store that the files of the disk are, within this length.

@@ -10,6 +10,7 @@ use super::life::{
 };
 use crate::comparing::{ends, is_right_or_unknown};
 use disk_model::Disk;
+use index_commands::ChainCommand;
 use memory_disk::{Choice, MemoryDisk};
 use name_store::{CreateFault, OpenFault, Outcome, Store};
 use nmc_base::{Hash32, Steps};
@@ -30,8 +31,9 @@ fn connect_twice<D: Disk, L: Ledger>(
     requires some { 0 < blank.parts }
 {
     let mut steps = Steps::<L>::new(blank);
-    match store.connect(alloc, disk, &FIRST_BLOCK, &mut steps) {
-        Outcome::NoMemory(again) => answer_of(again.connect(alloc, disk, &FIRST_BLOCK, &mut steps)),
+    let command = ChainCommand::Connect(&FIRST_BLOCK);
+    match store.execute(alloc, disk, command, &mut steps) {
+        Outcome::NoMemory(again) => answer_of(again.execute(alloc, disk, command, &mut steps)),
         outcome => answer_of(outcome),
     }
 }
@@ -49,9 +51,9 @@ fn disconnect_twice<D: Disk, L: Ledger>(
     requires some { 0 < blank.parts }
 {
     let mut steps = Steps::<L>::new(blank);
-    let hash = Hash32(FIRST_HASH);
-    match store.disconnect(alloc, disk, hash, &mut steps) {
-        Outcome::NoMemory(again) => { answer_of(again.disconnect(alloc, disk, hash, &mut steps)) }
+    let command = ChainCommand::Disconnect(Hash32(FIRST_HASH));
+    match store.execute(alloc, disk, command, &mut steps) {
+        Outcome::NoMemory(again) => answer_of(again.execute(alloc, disk, command, &mut steps)),
         outcome => answer_of(outcome),
     }
 }

@@ -13,6 +13,7 @@ use super::life::{
     Answer, BASE_TIP, FIRST_TIP, Found, connect, finds, gets, leaves_either, let_go, look_at, make,
 };
 use disk_model::Disk;
+use index_commands::ChainCommand;
 use memory_disk::MemoryDisk;
 use name_store::{DraftOutcome, LONGEST_SLICE, Outcome, SliceOutcome, SlicedDraft, Store};
 use nmc_base::{Bytes, Hash32, NoMemory, Steps};
@@ -89,7 +90,8 @@ fn disconnect<D: Disk, L: Ledger>(
 {
     let (store, draft) = begun;
     let mut steps = Steps::<L>::new(blank);
-    match store.disconnect(alloc, disk, Hash32(FIRST_HASH), &mut steps) {
+    let command = ChainCommand::Disconnect(Hash32(FIRST_HASH));
+    match store.execute(alloc, disk, command, &mut steps) {
         Outcome::Done(store, _) => Some((store, draft)),
         Outcome::Refused(store, _) => {
             let_go(Some(store));

@@ -4,8 +4,8 @@ ghost use Rattle.std.specs.Prelude.{◌≤◌};
 ghost use Rattle.nmc_base.specs.declared.limits.TheConstants.{HIGHEST_HEIGHT};
 
 use super::stop::Stop;
-use chain_state::{BackOutcome, Chain, Refusal, StageOutcome};
-use index_commands::{stage_bytes, stage_hash};
+use chain_state::{BackRefusal, Chain, Refusal};
+use index_commands::{ChainCommand, CommandOutcome, CommandRefusal, stage};
 use nmc_base::{Base, LONGEST_BLOCK, Steps, Tip};
 use std::alloc::Global;
 use std::sync::ledger::Ledger;
@@ -29,7 +29,16 @@ pub struct Held {
 /// The one place where a chain is let go.
 pub fn let_go(_: Held) {}
 
-fn number_of(refusal: &Refusal) -> Answer {
+fn number_of(refusal: &CommandRefusal) -> Answer {
+    match refusal {
+        CommandRefusal::Connect(refusal) => number_of_connect(refusal),
+        CommandRefusal::Disconnect(BackRefusal::NotTip { .. }) => (6, 0),
+        CommandRefusal::Disconnect(BackRefusal::AtBase) => (7, 0),
+        CommandRefusal::Disconnect(BackRefusal::JournalFull) => (5, 0),
+    }
+}
+
+fn number_of_connect(refusal: &Refusal) -> Answer {
     match refusal {
         Refusal::BadBlock { at } => (1, *at),
         Refusal::NotOnTip { .. } => (2, 0),
@@ -40,21 +49,12 @@ fn number_of(refusal: &Refusal) -> Answer {
     }
 }
 
-/// The chain behind a block, and the answer.
-fn settled<L: Ledger>(outcome: StageOutcome, steps: &mut Steps<L>) -> (Chain, Answer) {
+/// The chain behind a command, and the answer.
+fn settled<L: Ledger>(outcome: CommandOutcome, steps: &mut Steps<L>) -> (Chain, Answer) {
     match outcome {
-        StageOutcome::Staged(staged) => (staged.commit(steps), (0, 0)),
-        StageOutcome::Refused(chain, refusal) => (chain, number_of(&refusal)),
-        StageOutcome::NoMemory(chain) => (chain, NO_MEMORY),
-    }
-}
-
-/// The chain behind a disconnect, and whether there was memory for it.
-fn settled_back<L: Ledger>(outcome: BackOutcome, steps: &mut Steps<L>) -> (Chain, bool) {
-    match outcome {
-        BackOutcome::StagedBack(staged) => (staged.commit(steps), true),
-        BackOutcome::Refused(chain, _) => (chain, true),
-        BackOutcome::NoMemory(chain) => (chain, false),
+        CommandOutcome::Staged(staged) => (staged.commit(steps), (0, 0)),
+        CommandOutcome::Refused(chain, refusal) => (chain, number_of(&refusal)),
+        CommandOutcome::NoMemory(chain) => (chain, NO_MEMORY),
     }
 }
 
@@ -122,7 +122,8 @@ impl Held {
             return Err(Stop::Wrong("too long"));
         }
         let chain = self.take()?;
-        let outcome = stage_bytes(alloc, chain, bytes, AREA.0, AREA.1, steps);
+        let command = ChainCommand::Connect(bytes);
+        let outcome = stage(alloc, chain, command, AREA.0, AREA.1, steps);
         let (chain, answer) = settled(outcome, steps);
         self.put(chain);
         Ok(answer)
@@ -136,9 +137,10 @@ impl Held {
     ) -> Result<bool, Stop> {
         let chain = self.take()?;
         let hash = chain.tip().hash;
-        let outcome = stage_hash(alloc, chain, hash, AREA.0, AREA.1, steps);
-        let (chain, is_done) = settled_back(outcome, steps);
+        let command = ChainCommand::Disconnect(hash);
+        let outcome = stage(alloc, chain, command, AREA.0, AREA.1, steps);
+        let (chain, answer) = settled(outcome, steps);
         self.put(chain);
-        Ok(is_done)
+        Ok(answer != NO_MEMORY)
     }
 }

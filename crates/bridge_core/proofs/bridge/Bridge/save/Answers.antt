@@ -23,7 +23,7 @@ returns-in-Refused g c =
     let seen = g.D.Disk.seen in
     let by = c.in-Refused.ensures in
     subst (λ (old : Bridged). AnswersEvent tells seen old c.args.disk.now Save c.refuse_save.new.reply (On (bridged c.in-Refused.store c.self.inside.desk)) c.save.new.disk) c.self.view_is
-    (request_refused (record { tells = tells; seen = seen; old = bridged c.self.inside.store c.self.inside.desk; before = c.args.disk.now; after = c.save.new.disk; reply = c.refuse_save.new.reply }) a_save is_save (bridged c.in-Refused.store c.self.inside.desk) c.in-Refused.refusal
+    (request_refused (record { tells = tells; seen = seen; old = bridged c.self.inside.store c.self.inside.desk; before = c.args.disk.now; after = c.save.new.disk; reply = c.refuse_save.new.reply }) a_save is_save (bridged c.in-Refused.store c.self.inside.desk) c.in-Refused.refusal c.in-Refused.refusal
     (record { answers = by.saves; undone = by.undone; leaves = by.leaves; kept = by.kept }) c.refuse_save.ensures (save_undone c.refuse_save.new.reply (save_refusal_of c.in-Refused.refusal) c.refuse_save.ensures) refl)
 
 pub returns-in-NoMemory : goal.returns-in-NoMemory

@@ -9,7 +9,7 @@ use Rattle.chain_commands.specs.Saving.{most_selections}
 use Rattle.image_slots.specs.Answers.{FaultAnswer}
 use Rattle.image_slots.specs.Selections.{HasSelections, selected_by}
 use Rattle.image_slots.specs.Slotted.{AreOn}
-use Rattle.command_areas.proofs.ReadingLemmas.{never_fell}
+use Rattle.index_commands.proofs.ReadingLemmas.{never_fell}
 use Rattle.name_store.specs.Damage.{HasSelected}
 use Rattle.name_store.specs.Opening.{IsFollowed, IsOpened, OpenAnswer, AreaAnswer}
 use Rattle.name_store.proofs.OpenLemmas.{HasOpened, opened_store_is, slots_bad, area_bad}

@@ -1,4 +1,0 @@
-pub mod Commands
-pub mod Damage
-pub mod Reading
-pub mod Keeping

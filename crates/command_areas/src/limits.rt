@@ -1,2 +1,0 @@
-/// No area is longer: 2^42 bytes.
-pub const LONGEST_AREA: u64 = 1 << 42;
