@@ -12,22 +12,25 @@ both p q = λ i. p i && q i
 
 itself : (key : CacheKey) → same_key key key ≡ true
 itself key =
-    both ((unsigned_Decides key.accepted key.accepted).1 refl)
+    both ((unsigned_Decides key.mark key.mark).1 refl)
+    (both ((unsigned_Decides key.accepted key.accepted).1 refl)
     (both ((unsigned_Decides key.kind key.kind).1 refl)
     (both ((unsigned_Decides key.limit key.limit).1 refl)
-    (both ((booleans_Decides key.edns key.edns).1 refl) ((bytes_decides key.name key.name).1 refl))))
+    (both ((booleans_Decides key.edns key.edns).1 refl) ((bytes_decides key.name key.name).1 refl)))))
 
 one : (a b : CacheKey) → same_key a b ≡ true → a ≡ b
 one a b h =
-    let later = second_so (a.accepted == b.accepted) _ h in
+    let behind = second_so (a.mark == b.mark) _ h in
+    let later = second_so (a.accepted == b.accepted) _ behind in
     let last = second_so (a.kind == b.kind) _ later in
     let end = second_so (a.limit == b.limit) _ last in
-    let accepted = (unsigned_Decides a.accepted b.accepted).0 (first_so (a.accepted == b.accepted) _ h) in
+    let mark = (unsigned_Decides a.mark b.mark).0 (first_so (a.mark == b.mark) _ h) in
+    let accepted = (unsigned_Decides a.accepted b.accepted).0 (first_so (a.accepted == b.accepted) _ behind) in
     let kind = (unsigned_Decides a.kind b.kind).0 (first_so (a.kind == b.kind) _ later) in
     let limit = (unsigned_Decides a.limit b.limit).0 (first_so (a.limit == b.limit) _ last) in
     let edns = (booleans_Decides a.edns b.edns).0 (first_so (beq a.edns b.edns) _ end) in
     let name = (bytes_decides a.name b.name).0 (second_so (beq a.edns b.edns) _ end) in
-    λ i. record { accepted = accepted i; kind = kind i; name = name i; limit = limit i; edns = edns i }
+    λ i. record { accepted = accepted i; name = name i; mark = mark i; kind = kind i; limit = limit i; edns = edns i }
 
 pub same_key-Decides : (a b : CacheKey) → Decides (same_key a b) (a ≡ b)
 same_key-Decides a b = (one a b, λ e. subst (λ (key : CacheKey). same_key a key ≡ true) e (itself a))

@@ -8,13 +8,13 @@ use Rattle.answer_cache.specs.declared.cache_key.CacheKey.{CacheKey}
 
 -- the key that it stands for
 abbrev pub key_of : AskedKey → CacheKey
-key_of asked = record { accepted = asked.accepted; kind = asked.kind; name = asked.name.now; limit = asked.limit; edns = asked.edns }
+key_of asked = record { accepted = asked.accepted; name = asked.name.now; mark = asked.mark; kind = asked.kind; limit = asked.limit; edns = asked.edns }
 
--- each of the five fields is the same
+-- each of the six fields is the same
 abbrev pub same_key : CacheKey → CacheKey → Bool
-same_key a b = (a.accepted == b.accepted) && ((a.kind == b.kind) && ((a.limit == b.limit) && (beq a.edns b.edns && bytes_eq a.name b.name)))
+same_key a b = (a.mark == b.mark) && ((a.accepted == b.accepted) && ((a.kind == b.kind) && ((a.limit == b.limit) && (beq a.edns b.edns && bytes_eq a.name b.name))))
 
--- the fields but the name, in one number of 64 bits: of the count the low 31 bits, QTYPE, the limit, and whether there is an OPT record
+-- the fields but the name and its mark, in one number of 64 bits: of the count the low 31 bits, QTYPE, the limit, and whether there is an OPT record
 abbrev pub key_number : CacheKey → ℕ
 key_number key = key.accepted % 0x8000_0000 + key.kind * 0x8000_0000 + key.limit * 0x8000_0000_0000 + (if key.edns then 0x8000_0000_0000_0000 else 0)
 

@@ -23,10 +23,12 @@ const EDNS_UNIT: u64 = 0x8000_0000_0000_0000;
 pub struct AskedKey<'a> {
     /// How many connects and disconnects were accepted so far.
     pub accepted: u64,
-    /// The QTYPE (RFC 1035, 3.2.3).
-    pub kind: u16,
     /// The QNAME in its wire form (RFC 1035, 3.1), in lower case.
     pub name: &'a [u8],
+    /// That of the name, by [`mark_of`](crate::mark_of).
+    pub mark: u64,
+    /// The QTYPE (RFC 1035, 3.2.3).
+    pub kind: u16,
     /// How many bytes the reply may have.
     pub limit: u16,
     /// Whether the query has an OPT record (RFC 6891, 6.1).
@@ -57,8 +59,10 @@ impl PartialEq for AskedKey<'_> {
 
     ghost laws = { on_per key_of same_key-partial_equivalence };
 
+    // The mark comes first: a look-up that meets many names with the hash of its own passes each by one comparison.
     fn eq(&self, other: &AskedKey<'_>) -> bool {
-        self.accepted == other.accepted
+        self.mark == other.mark
+            && self.accepted == other.accepted
             && self.kind == other.kind
             && self.limit == other.limit
             && self.edns == other.edns

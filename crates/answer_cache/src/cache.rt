@@ -23,7 +23,7 @@ const LONGEST_SPARE: usize = 512;
 ///
 /// The hasher of the map has a fixed seed, so strangers who choose names can choose such whose keys fall into one row of the
 /// map. These are at most as many as the cache holds: so a look-up compares at most `capacity` keys, and a put, which looks up
-/// three times, at most thrice as many.
+/// three times, at most thrice as many, each by 32 bytes of its name or by the mark of a longer one.
 ///
 /// What gives way leaves its memory to the next answer, where its text isn't long: a full cache takes memory for a put only where
 /// that is too little.

@@ -14,6 +14,8 @@ pub struct CacheKey {
     pub accepted: u64,
     /// The QNAME in its wire form (RFC 1035, 3.1), in lower case.
     pub name: Bytes,
+    /// That of the name, by [`mark_of`](crate::mark_of).
+    pub mark: u64,
     /// The QTYPE (RFC 1035, 3.2.3).
     pub kind: u16,
     /// How many bytes the reply may have.
@@ -27,8 +29,9 @@ impl CacheKey {
     pub(crate) fn empty(alloc: Global) -> CacheKey {
         CacheKey {
             accepted: 0,
-            kind: 0,
             name: Bytes::new(alloc),
+            mark: 0,
+            kind: 0,
             limit: 0,
             edns: false,
         }
@@ -39,6 +42,7 @@ impl CacheKey {
         ensures { OnOk result (self.new ≡ key_of asked.entry) }
     {
         self.accepted = asked.accepted;
+        self.mark = asked.mark;
         self.kind = asked.kind;
         self.limit = asked.limit;
         self.edns = asked.edns;
@@ -52,8 +56,9 @@ impl CacheKey {
     {
         AskedKey {
             accepted: self.accepted,
-            kind: self.kind,
             name: self.name.as_slice(),
+            mark: self.mark,
+            kind: self.kind,
             limit: self.limit,
             edns: self.edns,
         }

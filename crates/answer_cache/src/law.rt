@@ -4,7 +4,7 @@ ghost use Rattle.answer_cache.specs.Keys.{same_key};
 ghost use Rattle.answer_cache.specs.Cached.{Cached, empty_cache, held, behind_get, behind_put};
 ghost use Rattle.answer_cache.specs.declared.cache_key.CacheKey.{CacheKey};
 
-/// Two keys are one exactly where each of the five fields is the same.
+/// Two keys are one exactly where each of the six fields is the same.
 pub fn exact_keys()
     ensures { (a b : CacheKey) → Decides (same_key a b) (a ≡ b) }
 {}

@@ -6,8 +6,10 @@ mod cache;
 mod cache_key;
 mod entry;
 mod law;
+mod mark;
 
 pub use asked_key::AskedKey;
 pub use cache::Cache;
 pub use cache_key::CacheKey;
 pub use law::{exact_keys, held_is_put};
+pub use mark::mark_of;

@@ -5,7 +5,7 @@ ghost use Rattle.std.specs.Option.{option_map};
 ghost use Rattle.std.specs.Str.{bytes_eq};
 
 use crate::comparing::same;
-use bit_resolver::{Answered, Zone};
+use bit_resolver::Answered;
 use dns_message::{EDNS_SIZE, Transport};
 use domain_text::absolute_name;
 use import_expand::Names;
@@ -68,12 +68,12 @@ fn reply_to(
     let Some(host) = absolute_name(b"ns.example.") else {
         return 0;
     };
-    let zone = Zone { host, serial: 40 };
     let mut values = 0;
     match answers.answer(
         alloc,
         &Index { rows: served },
-        &zone,
+        &host,
+        40,
         message,
         Transport::Udp,
         buffer,

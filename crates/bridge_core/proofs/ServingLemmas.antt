@@ -8,8 +8,8 @@ use Rattle.chain_names.specs.Tables.{names_in}
 use Rattle.chain_state.specs.Chain.{Indexed}
 use Rattle.chain_state.specs.Standing.{StandsForChain, chain_maps}
 use Rattle.dns_message.specs.declared.transport.Transport.{Transport}
-use Rattle.kept_answers.specs.Answering.{Answering, AnswersMessage}
-use Rattle.bridge_core.specs.Serving.{served_by, served_on, zone_at, AnswersBy, AnswersOn}
+use Rattle.kept_answers.specs.Answering.{Answering, AnswersMessage, zone_at}
+use Rattle.bridge_core.specs.Serving.{served_by, served_on, AnswersBy, AnswersOn}
 
 module _ (base : Base) (start : Log) (blocks : List (List ℕ)) (c : Indexed) (s : StandsForChain base start blocks c) where
   same_served : served_by c ≡ served_on base start blocks

@@ -8,8 +8,7 @@ use Rattle.chain_names.specs.Tables.{names_in}
 use Rattle.chain_state.specs.Chain.{Indexed}
 use Rattle.dns_message.specs.declared.transport.Transport.{Transport}
 use Rattle.import_expand.specs.Sources.{Live}
-use Rattle.bit_resolver.specs.declared.zone.Zone.{Zone}
-use Rattle.kept_answers.specs.Answering.{Answering, AnswersMessage}
+use Rattle.kept_answers.specs.Answering.{Answering, AnswersMessage, zone_at}
 
 -- the values that an index serves at its tip
 abbrev pub served_by : Indexed → Live
@@ -18,10 +17,6 @@ served_by c = served_value c.base.profile (names_in c.tables.names) c.tip.height
 -- the values that a chain serves at its tip: of each name that of its entry in the chain's log, while it isn't expired
 abbrev pub served_on : Base → Log → List (List ℕ) → Live
 served_on base start blocks = served_value base.profile (history_of (log_of start base.height blocks)) (base.height + length blocks)
-
--- the zone of a host, at a tip of this height
-abbrev pub zone_at : List ℕ → ℕ → Zone
-zone_at host height = record { host = host; serial = height }
 
 -- What a message that came by this transport is answered with from an index, where the answers that are kept are right for what it
 -- serves.

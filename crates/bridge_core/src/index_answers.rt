@@ -9,7 +9,7 @@ ghost use Rattle.bit_resolver.specs.Replies.{told, IsWithin};
 ghost use Rattle.bridge_core.specs.Serving.{AnswersBy, AnswersOn};
 
 use crate::served::Served;
-use bit_resolver::{Answered, Zone};
+use bit_resolver::Answered;
 use chain_state::Chain;
 use dns_message::Transport;
 use domain_text::Name;
@@ -36,16 +36,13 @@ pub fn answer(
         → AnswersOn base start blocks host.now transport message.now answers.old (told result buffer.new) answers.new }
     ensures within { IsWithin (most_of transport) result }
 {
-    let zone = Zone {
-        host: host.copy(),
-        serial: chain.tip().height,
-    };
     let served = Served::of(chain);
     let mut values = 0;
     answers.answer(
         alloc,
         &served,
-        &zone,
+        host,
+        chain.tip().height,
         message,
         transport,
         buffer,

@@ -12,9 +12,14 @@ use Rattle.bit_resolver.specs.Replies.{contents_of, answer_text, failure_text, M
 use Rattle.bit_resolver.specs.declared.limits.TheConstants.{CLASS_IN}
 use Rattle.bit_resolver.specs.declared.zone.Zone.{Zone}
 use Rattle.answer_cache.specs.declared.cache_key.CacheKey.{CacheKey}
+use Rattle.answer_cache.specs.Marks.{mark_of}
 use Rattle.answer_cache.specs.Cached.{Cached, empty_cache, held, found, counted, behind_put, behind_want}
 use Rattle.kept_answers.specs.Kept.{Kept, IsKept, kept_reply, kept_text, reply_with}
 use Rattle.kept_answers.specs.declared.limits.TheConstants.{LONGEST_KEPT, MOST_KEPT}
+
+-- the zone of a host, at a tip of this height
+abbrev pub zone_at : List ℕ → ℕ → Zone
+zone_at host height = record { host = host; serial = height }
 
 -- ---- what is kept, and under what
 
@@ -31,10 +36,10 @@ last_count = 2 ^ 64 - 1
 abbrev pub one_more : ℕ → ℕ
 one_more count = if nat_lt count last_count then suc count else count
 
--- what the answer to a question is kept under: the command that was accepted last; QTYPE; QNAME without regard to case (RFC 1035, 2.3.3);
--- how long the reply may be; and whether it has an OPT record
+-- what the answer to a question is kept under: the command that was accepted last; QNAME without regard to case (RFC 1035, 2.3.3), with
+-- its mark; QTYPE; how long the reply may be; and whether it has an OPT record
 abbrev pub key_for : ℕ → ℕ → Query → CacheKey
-key_for accepted limit q = record { accepted = accepted; kind = q.kind; name = lower q.name; limit = limit; edns = is_some q.edns }
+key_for accepted limit q = record { accepted = accepted; name = lower q.name; mark = mark_of (lower q.name); kind = q.kind; limit = limit; edns = is_some q.edns }
 
 -- what is kept of the answer to a question
 abbrev pub kept_answer : Live → Zone → ℕ → Query → Kept

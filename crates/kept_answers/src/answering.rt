@@ -12,19 +12,29 @@ ghost use Rattle.bit_resolver.specs.Replies.{told, IsWithin};
 ghost use Rattle.answer_cache.specs.Cached.{held};
 ghost use Rattle.answer_cache.specs.Keys.{key_of};
 ghost use Rattle.kept_answers.specs.Kept.{Kept, IsKept, reply_with};
-ghost use Rattle.kept_answers.specs.Answering.{AnswersMessage, AnswersQuestion, GivesKept, IsHeldOrMissed, IsLookedFor, Stores, key_for};
+ghost use Rattle.kept_answers.specs.Answering.{AnswersMessage, AnswersQuestion, GivesKept, IsHeldOrMissed, IsLookedFor, Stores, key_for, zone_at};
 
 use crate::answers::Answers;
 use crate::giving::give;
 use crate::keeping::keep;
 use crate::limits::LONGEST_KEPT;
 use crate::lower::lower_in;
-use answer_cache::AskedKey;
+use answer_cache::{AskedKey, mark_of};
 use bit_resolver::{Answered, CLASS_IN, Replied, Zone, reply_to_question};
 use dns_message::{Asked, Question, Transport, read_query};
-use domain_text::LONGEST_WIRE;
+use domain_text::{LONGEST_WIRE, Name};
 use import_expand::Names;
 use std::alloc::Global;
+
+/// The zone of a host. It is made for what isn't kept alone, since it takes a copy of the host.
+fn zone_of(host: &Name, serial: u32) -> Zone
+    ensures { result ≡ zone_at host.now serial }
+{
+    Zone {
+        host: host.copy(),
+        serial,
+    }
+}
 
 impl Answers {
     /// Whether the answer to a question is looked for.
@@ -66,10 +76,12 @@ impl Answers {
         ensures key { key_of result ≡ key_for self.now.accepted limit (query_of asked.now) }
         ensures limit { result.limit ≡ limit }
     {
+        let name = lower_in(room, asked.name);
         AskedKey {
             accepted: self.accepted,
+            name,
+            mark: mark_of(name),
             kind: asked.kind,
-            name: lower_in(room, asked.name),
             limit: limit as u16,
             edns: asked.edns.is_some(),
         }
@@ -114,7 +126,8 @@ impl Answers {
         &mut self,
         alloc: Global,
         names: &N,
-        zone: &Zone,
+        host: &Name,
+        serial: u32,
         asked: &Question<'_>,
         limit: usize,
         buffer: &mut [u8],
@@ -125,7 +138,7 @@ impl Answers {
         requires greatest { limit ≤ GREATEST_LIMIT }
         requires name { IsName asked.now.name.now }
         requires looked_for { IsLookedFor self.old (query_of asked.now) }
-        ensures answers { AnswersQuestion (N.served names.now) zone.now limit (query_of asked.now) self.old (take result buffer.new) self.new }
+        ensures answers { AnswersQuestion (N.served names.now) (zone_at host.now serial) limit (query_of asked.now) self.old (take result buffer.new) self.new }
         ensures within { result ≤ limit }
         ensures bound { spent.new ≤ MOST_HELD }
     {
@@ -138,7 +151,7 @@ impl Answers {
         match reply_to_question(
             alloc,
             names,
-            zone,
+            &zone_of(host, serial),
             asked,
             limit,
             buffer,
@@ -160,7 +173,8 @@ impl Answers {
         &mut self,
         alloc: Global,
         names: &N,
-        zone: &Zone,
+        host: &Name,
+        serial: u32,
         message: &[u8],
         transport: Transport,
         buffer: &mut [u8],
@@ -168,7 +182,7 @@ impl Answers {
     ) -> Answered
         requires { most_of transport ≤ length buffer.old }
         // Where the answers that are kept are right the reply is the definition's, or SERVFAIL for want of memory.
-        ensures message { AnswersMessage (N.served names.now) zone.now transport message.now self.old (told result buffer.new) self.new }
+        ensures message { AnswersMessage (N.served names.now) (zone_at host.now serial) transport message.now self.old (told result buffer.new) self.new }
         // A reply that is to be kept is held then, or counted as missed.
         ensures held { IsHeldOrMissed transport (reading_of message.now) (told result buffer.new) self.old self.new }
         ensures most { IsWithin (most_of transport) result }
@@ -177,8 +191,11 @@ impl Answers {
     {
         if let Some(asked) = self.question(message) {
             let limit = transport.limit(&asked);
-            return Answered::Text(self.reply(alloc, names, zone, &asked, limit, buffer, spent));
+            return Answered::Text(self.reply(
+                alloc, names, host, serial, &asked, limit, buffer, spent,
+            ));
         }
-        bit_resolver::answer(alloc, names, zone, message, transport, buffer, spent)
+        let zone = zone_of(host, serial);
+        bit_resolver::answer(alloc, names, &zone, message, transport, buffer, spent)
     }
 }

@@ -1,8 +1,8 @@
-use Rattle.std.proofs.Common.{◌≡◌, ap, subst, ◌∙◌}
+use Rattle.std.proofs.Common.{ap, subst}
 use Rattle.nmc_base.specs.declared.chain_ends.Tip.{Tip}
 use Rattle.bit_resolver.specs.Replies.{told}
-use Rattle.kept_answers.specs.Answering.{AnswersMessage}
-use Rattle.bridge_core.specs.Serving.{served_by, zone_at}
+use Rattle.kept_answers.specs.Answering.{AnswersMessage, zone_at}
+use Rattle.bridge_core.specs.Serving.{served_by}
 use Rattle.bridge_core.proofs.ServingLemmas.{answers_on}
 use Rattle.bridge_core.proofs.index_answers.answer.Goals as goal
 
@@ -11,10 +11,8 @@ returns-clause-index c =
     let bytes = c.args.message.now in
     let transport = c.args.transport in
     let reply = told c.answer.result c.answer.new.buffer in
-    let zone : zone_at c.copy.result c.tip.result.height ≡ zone_at c.args.host.now c.args.chain.now.tip.height =
-    ap (λ host. zone_at host c.tip.result.height) c.copy.ensures ∙ ap (λ (tip : Tip). zone_at c.args.host.now tip.height) c.tip.ensures in
     subst (λ live. AnswersMessage live (zone_at c.args.host.now c.args.chain.now.tip.height) transport bytes c.args.answers.now reply c.answer.new.self) (ap served_by c.of-served.ensures)
-    (subst (λ z. AnswersMessage (served_by c.of-served.result.chain.now) z transport bytes c.args.answers.now reply c.answer.new.self) zone c.answer.ensures.message)
+    (subst (λ (tip : Tip). AnswersMessage (served_by c.of-served.result.chain.now) (zone_at c.args.host.now tip.height) transport bytes c.args.answers.now reply c.answer.new.self) c.tip.ensures c.answer.ensures.message)
 
 pub returns-clause-chain : goal.returns-clause-chain
 returns-clause-chain c = λ base start blocks stands.
