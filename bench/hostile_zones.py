@@ -4,6 +4,7 @@
 each label; `d/x` imports it, and is asked for under many labels. The others are that in other forms, and values of the greatest
 length that say little.
 """
+import itertools
 import json
 import random
 import string
@@ -274,6 +275,47 @@ def mistaken(labels=10):
     return alike(lambda: {label: {} for label in there}, lambda top: of_one_number(asked, top))
 
 
+# What a label's number is made of, and so many remainders it may leave: by these an object tells at once of most labels that it lacks them.
+WRAP, BASE, REMAINDERS = 1 << 55, 257, 251
+
+
+def remainder_of(label):
+    number = 0
+    for byte in label.encode():
+        number = number % WRAP * BASE + byte + 1
+    return number % REMAINDERS
+
+
+def by_remainder(texts):
+    """These labels by their remainders, of which most labels have the first."""
+    found = {}
+    for text in texts:
+        found.setdefault(remainder_of(text), []).append(text)
+    return sorted(found.values(), key=len, reverse=True)
+
+
+def labels_of(length):
+    return map("".join, itertools.product(string.ascii_lowercase + string.digits, repeat=length))
+
+
+def of_few_remainders(count, length=2):
+    """So many labels of so many letters that leave as few remainders as can be."""
+    return list(itertools.chain(*by_remainder(labels_of(length))))[:count]
+
+
+def left_alike(room, count, length=2):
+    """The maps have, in so many bytes, labels that leave the remainders of those that are asked, and none of these."""
+    asked = of_few_remainders(count, length)
+    others = [it for it in by_remainder(labels_of(length + 1)) if remainder_of(it[0]) in set(map(remainder_of, asked))]
+    chance = random.Random(4)
+
+    def entries():
+        each = itertools.cycle(others)
+        return {chance.choice(next(each)): {} for _ in range(room // (length + 7))}
+
+    return alike(entries, lambda top: ".".join(asked) + "." + top)
+
+
 def joined_name(hop):
     """The name below a hop's top under whose first label the next one's stands."""
     return ".".join([f"z{hop}9", *different("").split(".")[: MOST_DIFFERENT - 2]]) + f".x{hop}.bit."
@@ -329,6 +371,9 @@ def many():
         yield Row(f"maps of {size} bytes in {MANY}", by_size(size), different("x0.bit."), 0)
     yield Row(f"labels without an object in {MANY}", hollow(), different("x0.bit."), 0)
     yield Row(f"labels of one number in {MANY}", mistaken(), of_one_number(ONE_NUMBER[1], "x0.bit."), 0)
+    for count, length in ((80, 2), (61, 3)):
+        asked = ".".join(of_few_remainders(count, length))
+        yield Row(f"labels of {length} letters of few remainders in {MANY}", left_alike(200, count, length), f"{asked}.x0.bit.", 0)
     yield Row(f"each label in {MANY}", joined(), joined_name(0), 0)
     yield Row(f"each label in {MANY}, an entry in each", spread(), joined_name(0), 0)
     yield Row(f"each label in {MANY}, an entry in each, names of each hop", apart(), joined_name(0), 0)

@@ -4,7 +4,7 @@ use Rattle.import_expand.specs.Books.{objects}
 use Rattle.import_expand.proofs.BookLemmas.{asked_later, none_asked, passed_on, later_same, later_both, keeps_later, shows_later}
 use Rattle.import_expand.proofs.ExpandLemmas.{shows_start, shows_same, shows_enough, shows_all, shows_some, shows_none, finds_by, finds_is_some, under, under_all, under_some, under_none}
 use Rattle.import_expand.proofs.expansion.join_many.Goals as goal
-use Rattle.import_expand.proofs.expansion.join_many.Goals.{in-Some+in_ok-add_entry-in-Some, in-None}
+use Rattle.import_expand.proofs.expansion.join_many.Goals.{in-Some+in_ok-expand-in-Some, in-None}
 
 pub loop-source-init : goal.loop-source-init
 loop-source-init g c = (
@@ -26,26 +26,26 @@ returns-clause-added g c ns ms hn hm =
     shows_same (objects c.loop-source.book) c.loop-source.found.items _ _ (under_all live c.args.label.now ns ms)
     (shows_all (record { gives = under live c.args.label.now; first = objects c.args.book.now; numbers = c.args.of.now; of = ns; before = ms; shown = hn }) (objects c.loop-source.book) c.loop-source.found.items c.loop-source.source-index (omega arith) (c.loop-source.invariant.3 ns ms hn hm))
 
-pub add_entry-requires-clause-sound : goal.add_entry-requires-clause-sound
-add_entry-requires-clause-sound g c = c.in_ok-entry.ensures.keeps.sound (g.N.Names.served c.args.names.now) c.loop-source.invariant.1.sound
+pub expand-requires-clause-sound : goal.expand-requires-clause-sound
+expand-requires-clause-sound g c = c.in_ok-entry.ensures.keeps.sound (g.N.Names.served c.args.names.now) c.loop-source.invariant.1.sound
 
 pub loop-source-preserved : goal.loop-source-preserved
 loop-source-preserved g c = elim c.match-branch-2.branch [
-  | in-Some+in_ok-add_entry-in-Some w ↦
+  | in-Some+in_ok-expand-in-Some w ↦
       let live = g.N.Names.served c.args.names.now in
       let inv = c.loop-source.invariant in
       let keeps = c.in_ok-entry.ensures.keeps in
       rw (w.book-is, w.found-is) (
-        w.in_ok-add_entry-in-Some.ensures.few,
-        later_both live c.args.book.now c.loop-source.book _ inv.1 (later_both live c.loop-source.book c.asked_entry.new.self _ (keeps_later live c.loop-source.book c.asked_entry.new.self keeps inv.1.sound) w.in_ok-add_entry-in-Some.ensures.later),
-        asked_later (objects c.asked_entry.new.self) (objects w.add_entry.new.book) c.args.label.now c.asked_entry.new.asked.items w.in_ok-add_entry-in-Some.ensures.later.grows (c.in_ok-entry.ensures.asked live inv.1.sound inv.2),
+        w.in_ok-expand-in-Some.ensures.few,
+        later_both live c.args.book.now c.loop-source.book _ inv.1 (later_both live c.loop-source.book c.asked_entry.new.self _ (keeps_later live c.loop-source.book c.asked_entry.new.self keeps inv.1.sound) w.in_ok-expand-in-Some.ensures.later),
+        asked_later (objects c.asked_entry.new.self) (objects w.expand.new.book) c.args.label.now c.asked_entry.new.asked.items w.in_ok-expand-in-Some.ensures.later.grows (c.in_ok-entry.ensures.asked live inv.1.sound inv.2),
         λ ns ms hn hm.
-            shows_some (record { gives = under live c.args.label.now; first = objects c.args.book.now; numbers = c.args.of.now; of = ns; before = ms; shown = hn }) (objects c.loop-source.book) (objects w.add_entry.new.book) c.loop-source.found.items w.add_entry.new.found.items c.loop-source.source-index
+            shows_some (record { gives = under live c.args.label.now; first = objects c.args.book.now; numbers = c.args.of.now; of = ns; before = ms; shown = hn }) (objects c.loop-source.book) (objects w.expand.new.book) c.loop-source.found.items w.expand.new.found.items c.loop-source.source-index
             inv.1.grows (omega arith) (inv.3 ns ms hn hm)
             (λ o cur at hc.
             let f = finds_is_some (objects c.asked_entry.new.self) w.in-Some.entry (entry_of c.args.label.now o) (finds_by (objects c.asked_entry.new.self) c.in_ok-entry.field-0 (Some w.in-Some.entry) _ w.in-Some.is (c.in_ok-entry.ensures.found live o inv.1.sound inv.2 at)) in
-            under_some live (objects w.add_entry.new.book) c.args.label.now w.add_entry.new.found.items o f.object cur f.is
-            (w.in_ok-add_entry-in-Some.ensures.added f.object cur f.at (shows_later (objects c.loop-source.book) (objects c.asked_entry.new.self) keeps.grows c.loop-source.found.items cur hc))),
+            under_some live (objects w.expand.new.book) c.args.label.now w.expand.new.found.items o f.object cur f.is
+            (w.in_ok-expand-in-Some.ensures.added f.object cur f.at (shows_later (objects c.loop-source.book) (objects c.asked_entry.new.self) keeps.grows c.loop-source.found.items cur hc))),
       )
   | in-None w ↦
       let live = g.N.Names.served c.args.names.now in
