@@ -1,7 +1,7 @@
 ghost use Rattle.std.specs.Prelude.{◌≡◌, ◌≤◌, ◌⊎◌, length, IfOk};
 ghost use Rattle.system_io.specs.Arrival.{IsOfFeed, IsWithin};
 ghost use Rattle.system_io.specs.Loopback.{loopback_bytes, Asks};
-ghost use Rattle.system_io.specs.FeedReplies.{SendsReply};
+ghost use Rattle.system_io.specs.FeedReplies.{IsShut, SendsReply};
 ghost use Rattle.system_io.specs.Net.{Fetches, HandsOnOk, SendsOn};
 
 use crate::clock::SECOND;
@@ -94,8 +94,15 @@ impl<'a> Feed<'a> {
         ensures { SendsOn (N.told net.old) (N.told net.new) Peer.Feed }
     {
         if self.has_left(net, now) {
-            self.place = Place::Free;
+            self.put(Place::Free);
         }
+    }
+
+    // What held the place before is let go of here alone: that is dear to prove.
+    fn put(&mut self, place: Place)
+        ensures { self.new.place ≡ place }
+    {
+        self.place = place;
     }
 
     /// Goes on with it, and says whether it has left, or its time is over.
@@ -123,28 +130,39 @@ impl<'a> Feed<'a> {
     fn close_until<N: Net>(&mut self, net: &mut N, now: u64, until: u64)
         ensures { SendsOn (N.told net.old) (N.told net.new) Peer.Feed }
     {
-        let place = mem::replace(&mut self.place, Place::Free);
-        self.place = match place {
+        let place = match mem::replace(&mut self.place, Place::Free) {
             Place::Open(link) | Place::Ended(Some(link)) => Place::Leaving(link, until),
             Place::Ended(None) => Place::Free,
             other => other,
         };
+        self.put(place);
         self.let_leave(net, now);
     }
 
     /// Gives the place, where it is free, to the connection that waits, and lets the next one wait.
     fn receive(&mut self, now: u64) -> io::Result<()> {
         if self.waiting.is_none() {
-            if let Some(guest) = self.door.next(now)? {
-                self.waiting = Some(FeedLink::new(self.alloc, guest, now)?);
-            }
+            self.waiting = self.next(now)?;
         }
         if matches!(self.place, Place::Free) {
-            if let Some(link) = self.waiting.take() {
-                self.place = Place::Open(link);
-            }
+            self.seat();
         }
         Ok(())
+    }
+
+    /// The next connection that the door lets in.
+    fn next(&mut self, now: u64) -> io::Result<Option<FeedLink>> {
+        match self.door.next(now)? {
+            None => Ok(None),
+            Some(guest) => Ok(Some(FeedLink::new(self.alloc, guest, now)?)),
+        }
+    }
+
+    /// Gives the place to the connection that waits, if one does.
+    fn seat(&mut self) {
+        if let Some(link) = self.waiting.take() {
+            self.put(Place::Open(link));
+        }
     }
 
     /// Reads the next piece of the connection that has the place. At 0 it has ended.
@@ -171,7 +189,7 @@ impl<'a> Feed<'a> {
             self.close(net, now);
             return Polled::FeedEnd;
         }
-        self.place = Place::Free;
+        self.put(Place::Free);
         Polled::FeedEnd
     }
 
@@ -182,7 +200,7 @@ impl<'a> Feed<'a> {
         ensures sends { SendsOn (N.told net.old) (N.told net.new) Peer.Feed }
     {
         if error.kind() != ErrorKind::WouldBlock {
-            self.place = Place::Free;
+            self.put(Place::Free);
             return Polled::FeedEnd;
         }
         if self.make_room(net, now) {
@@ -254,13 +272,18 @@ impl<'a> Feed<'a> {
             _ => return Err(ErrorKind::NotConnected.into()),
         };
         if let Err(error) = &answer {
-            let place = mem::replace(&mut self.place, Place::Ended(None));
-            if let Place::Open(link) = place {
-                if error.kind() == ErrorKind::OutOfMemory {
-                    self.place = Place::Ended(Some(link));
-                }
-            }
+            self.fail(error.kind() == ErrorKind::OutOfMemory);
         }
         answer
+    }
+
+    /// Ends the connection. Where a reply couldn't be kept for want of memory, those before it are still to be sent.
+    fn fail(&mut self, wants_memory: bool)
+        ensures { IsShut self.new.place }
+    {
+        match mem::replace(&mut self.place, Place::Ended(None)) {
+            Place::Open(link) if wants_memory => self.put(Place::Ended(Some(link))),
+            other => drop(other),
+        }
     }
 }

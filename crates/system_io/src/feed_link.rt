@@ -156,18 +156,27 @@ impl FeedLink {
     {
         let mut unread = [0; 16_384];
         for _ in 0..LAST_READS {
-            match net.discard(&mut self.link, &mut unread) {
-                Ok(0) => {
-                    self.has_ended = true;
-                    break;
-                }
-                Ok(_) => {}
-                Err(error) if error.kind() == ErrorKind::WouldBlock => break,
-                Err(error) if error.kind() == ErrorKind::Interrupted => {}
-                Err(error) => return Err(error),
+            if !self.drain_once(net, &mut unread)? {
+                break;
             }
         }
         Ok(())
+    }
+
+    /// Lets go of so much of it as one read takes, and says whether more may be there.
+    fn drain_once<N: Net>(&mut self, net: &mut N, unread: &mut [u8]) -> io::Result<bool>
+        ensures { Adds (N.told net.old) (N.told net.new) [] }
+    {
+        match net.discard(&mut self.link, unread) {
+            Ok(0) => {
+                self.has_ended = true;
+                Ok(false)
+            }
+            Ok(_) => Ok(true),
+            Err(error) if error.kind() == ErrorKind::WouldBlock => Ok(false),
+            Err(error) if error.kind() == ErrorKind::Interrupted => Ok(true),
+            Err(error) => Err(error),
+        }
     }
 
     /// Goes on with leaving, and says whether it has left: its replies were sent, and the peer has taken note of their end. What
