@@ -154,13 +154,12 @@ pub record Turn (D : Type 0) : Type 0 where
   pub after : D
   pub reply : Reply
 
--- Q are the refusals of the store's call, of which R are those of the request.
-module _ {D T R M Q : Type 0} (t : Turn D) (request : Request T R M) where
-  abbrev lacking : Stored → Outcome T Q
-  lacking new = NoMemory new
+module _ {D T R M : Type 0} (t : Turn D) (request : Request T R M) where
+  abbrev lacking : (Q : Type 0) → Stored → Outcome T Q
+  lacking Q new = NoMemory new
 
-  -- what the store's call says
-  pub record Did (outcome : Outcome T R) (of_call : Outcome T Q) : Type 0 where
+  -- what the store's call says, of whose refusals Q those of the request are some
+  pub record Did {Q : Type 0} (outcome : Outcome T R) (of_call : Outcome T Q) : Type 0 where
     pub answers : (run : RunState) → stores.StandsFor t.old.store run → AnswersFor request.refusals (request.HoldsOf run) request.view (request.DoesOf run) run outcome
     pub undone : IfUndone (t.after ≡ t.before) of_call
     pub leaves : store.LeavesDisk t.tells (SparesFiles t.old.store request.event) (t.seen t.before) (t.seen t.after) of_call
@@ -173,8 +172,8 @@ module _ {D T R M Q : Type 0} (t : Turn D) (request : Request T R M) where
   abbrev Stays : Stored → Type 0
   Stays new = (run : RunState) → stores.StandsFor t.old.store run → Step run request.event t.reply run × stores.StandsFor new run
 
-  module _ (kind : IsKind request) where
-    pub request_done : (new : Bridged) (told : T) → Did (Done new.store told) (Done new.store told) → t.reply ≡ request.told_as told → new.answers ≡ request.behind t.old.answers → Answered (On new)
+  module _ {Q : Type 0} (kind : IsKind request) where
+    pub request_done : (new : Bridged) (told : T) → Did {Q = Q} (Done new.store told) (Done new.store told) → t.reply ≡ request.told_as told → new.answers ≡ request.behind t.old.answers → Answered (On new)
     request_done new told d same behind =
         let is_zero : t.reply.code ≡ 0 = code_of t.reply (request.told_as told) same ∙ kind.code_is told in
         let lead : (run : RunState) → stores.StandsFor t.old.store run → Leads request run new.store told = λ run s. kind.leads run new.store told (d.answers run s).1 in
@@ -201,8 +200,8 @@ module _ {D T R M Q : Type 0} (t : Turn D) (request : Request T R M) where
 
     -- the store is as it was, and the disk wasn't asked
     request_undone : (new : Bridged) → IsUndone t.reply → t.after ≡ t.before → Stays new.store → new.answers ≡ t.old.answers
-        → store.LeavesDisk t.tells (SparesFiles t.old.store request.event) (t.seen t.before) (t.seen t.after) (lacking new.store)
-        → KeepsOn t.tells t.old.store (λ run next. IsDoneBy run request.event next) (t.seen t.before) (t.seen t.after) (lacking new.store) → Answered (On new)
+        → store.LeavesDisk t.tells (SparesFiles t.old.store request.event) (t.seen t.before) (t.seen t.after) (lacking Q new.store)
+        → KeepsOn t.tells t.old.store (λ run next. IsDoneBy run request.event next) (t.seen t.before) (t.seen t.after) (lacking Q new.store) → Answered (On new)
     request_undone new undone same stays as_were leaves kept = record {
       step = λ run s. record { new = run; step = (stays run s.store).0; stands = stands_still t.old new run run s (stays run s.store).1 refl refl as_were };
       told = undone.1;
@@ -221,20 +220,20 @@ module _ {D T R M Q : Type 0} (t : Turn D) (request : Request T R M) where
       answers = kind.stays t.old new t.reply undone.0 as_were;
     }
 
-    pub request_refused : (new : Bridged) (refusal : R) (of_call : Q) → Did (Refused new.store refusal) (Refused new.store of_call) → t.reply ≡ request.refusals.reply_of (request.view refusal) → IsUndone t.reply
+    pub request_refused : (new : Bridged) (refusal : R) (of_call : Q) → Did {Q = Q} (Refused new.store refusal) (Refused new.store of_call) → t.reply ≡ request.refusals.reply_of (request.view refusal) → IsUndone t.reply
         → new.answers ≡ t.old.answers → Answered (On new)
     request_refused new refusal of_call d told undone as_were =
         request_undone new undone d.undone (λ run s. (kind.steps run t.reply run (declines (request.view refusal) (d.answers run s).0 refl told), (d.answers run s).1)) as_were
         (record { later = d.leaves.later; worked = tt; none = d.leaves.none; failed = tt; still_on = d.leaves.still_on; others = d.leaves.others })
         (λ tell run s stands. let k = d.kept tell run s stands in record { next = k.next; is_next = k.is_next; done = tt; any_moment = k.any_moment })
 
-    pub request_lacking : (new : Bridged) → Did (NoMemory new.store) (NoMemory new.store) → t.reply ≡ no_memory_reply → new.answers ≡ t.old.answers → Answered (On new)
+    pub request_lacking : (new : Bridged) → Did {Q = Q} (NoMemory new.store) (NoMemory new.store) → t.reply ≡ no_memory_reply → new.answers ≡ t.old.answers → Answered (On new)
     request_lacking new d told as_were =
         let code = code_of t.reply no_memory_reply told in
         request_undone new (λ is_zero. omega (arith, code, is_zero), λ fault. omega (arith, code, fault)) d.undone
         (λ run s. (kind.steps run t.reply run (lacks_memory (d.answers run s).0 refl told), (d.answers run s).1)) as_were d.leaves d.kept
 
-    pub request_faulted : Did Faulted Faulted → t.reply ≡ fault_reply → Answered Ended
+    pub request_faulted : Did {Q = Q} Faulted Faulted → t.reply ≡ fault_reply → Answered Ended
     request_faulted d told =
         let code : t.reply.code ≡ fault_code = code_of t.reply fault_reply told in
         record {

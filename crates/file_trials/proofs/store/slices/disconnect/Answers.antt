@@ -5,7 +5,7 @@ use Rattle.file_trials.proofs.store.slices.disconnect.Goals as goal
 pub returns-in-Done : goal.returns-in-Done
 returns-in-Done g c = λ image written going.
     let before = g.D.Disk.seen c.args.disk.now in
-    let after = g.D.Disk.seen c.disconnect.new.disk in
+    let after = g.D.Disk.seen c.execute.new.disk in
     let old = c.args.begun.0 in
     let draft = c.args.begun.1 in
     let grows = c.in-Done.ensures.grows in
