@@ -2,7 +2,7 @@
 use Rattle.std.proofs.Common.{◌≡◌, ℕ, ◌+◌, ◌≤◌, Bool, true, false, List, [], ◌∷◌, ◌++◌, length, refl, sym, ap, ◌∙◌, arith, length-append, suc, ◌-◌, ◌<◌, get_or, take, drop, zero}
 use Rattle.std.proofs.lemmas.Grind.{common_steps}
 use Rattle.std.specs.List.{AllByRecursion}
-use Rattle.std.specs.Prelude.{Some, ◌||◌, slice_get}
+use Rattle.std.specs.Prelude.{None, Some, ◌||◌, slice_get}
 use Rattle.nmc_base.specs.declared.hashes.OutPoint.{OutPoint}
 use Rattle.chain_names.proofs.Shown.{true_is_not_false}
 
@@ -43,6 +43,12 @@ take_suc (y ∷ xs) (suc i) x e = ap (λ l. y ∷ l) (take_suc xs i x e)
 
 pub take_next : (xs : List OutPoint) (i : ℕ) (x : OutPoint) → Some x ≡ slice_get xs i → take (i + 1) xs ≡ take i xs ++ x ∷ []
 take_next xs i x e = let next : i + 1 ≡ suc i = omega arith in ap (λ n. take n xs) next ∙ take_suc xs i x (sym e)
+
+-- there is an item before the end
+pub item_there : (xs : List OutPoint) (i : ℕ) → i < length xs → None ≡ slice_get xs i → ⊥
+item_there [] i below e = omega (arith, below)
+item_there (y ∷ xs) zero below e = cc
+item_there (y ∷ xs) (suc i) below e = item_there xs i (omega (arith, below)) e
 
 -- ---- booleans
 
