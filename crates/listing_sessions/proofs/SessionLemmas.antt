@@ -7,10 +7,11 @@ use Rattle.feed_frames.specs.Replies.{Reply}
 use Rattle.chain_commands.specs.Chain.{Chain}
 use Rattle.chain_commands.specs.Reply.{no_memory_reply}
 use Rattle.pin_views.specs.declared.rows.Row.{Row}
+use Rattle.sliced_save.specs.Mirror.{Mirrored}
 use Rattle.nmc_base.specs.declared.chain_ends.Profile.{Profile}
 use Rattle.listing_sessions.specs.Listing.{is_served, page_text}
 use Rattle.listing_sessions.specs.Pages.{Pinned, pinned, is_live, GivesPage}
-use Rattle.listing_sessions.specs.Pinned.{held_at, listing_at, IsHeldAt, IsLeastEmpty, IsPinnedTo, IsTakenFrom, GivesPageAt, StandsForOne, StandFor, Moves}
+use Rattle.listing_sessions.specs.Pinned.{held_at, listing_at, IsHeldAt, IsLeastEmpty, IsPinnedTo, IsTakenFrom, AreTakenFrom, ArePinnedBy, GivesPageAt, StandsForOne, StandFor, Moves}
 use Rattle.listing_sessions.specs.Sessions.{Session, session, Sessions, most_sessions, none_open, with_session, opened_reply, too_many_reply, no_session_reply, closed_reply, IsLeastFree, AreAllOpen, Opens, opens, too_many, lacks_memory, Pages, gives_page, Closes, closes}
 use Rattle.listing_sessions.specs.Sessions as steps
 use Rattle.listing_sessions.proofs.PageLemmas.{pages_alike}
@@ -173,6 +174,13 @@ module _ (held : List (Option Pinned)) (sessions : Sessions) (stand : StandFor h
       stands = subst (λ (x : List (Option Pinned)). StandFor x (with_session sessions number (Some behind))) (sym p.new_is)
           (stand_put held sessions stand number (Some p.now) (Some behind) p.was.within pinned_behind);
     }
+
+-- ---- what a session is opened on
+
+pub pinned_from : (chain : Chain) (mirror : Option Mirrored) (rows : List (List ℕ × Row)) (profile : Profile) (height : ℕ) → AreTakenFrom chain mirror profile height → ArePinnedBy mirror rows
+    → IsTakenFrom chain rows profile height
+pinned_from chain None rows profile height taken pinned = absurd pinned
+pinned_from chain (Some mirror) rows profile height taken pinned = record { listing = pinned chain taken.mirror_is; profile_is = taken.profile_is; height_is = taken.height_is }
 
 -- ---- a listing that is taken out and put back
 
