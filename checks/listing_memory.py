@@ -1,8 +1,8 @@
 """Runs of `list` where memory is wanting: with each call for memory of a run failing in turn, and with less and less of it.
 
 A frame that finds none is answered so and did nothing; a run that finds none for its start ends with status 8. A page, the closing of a
-session and a slice want none. Behind a connect or a disconnect whose rows found none no session is opened any more, while those that are
-open go on; and behind one that found none for what a save in slices is begun from, none is begun, while one that runs goes on.
+session and a slice want none. Behind a connect or a disconnect that found none for what listings are read from and saves in slices are
+begun from, no session is opened any more and no save begun, while sessions that are open and a save that runs go on.
 """
 from answer_cases import Frames as Written
 from common import Run, pieces, run_in
@@ -44,13 +44,12 @@ def texts_of(store):
 # Each call in turn
 
 
-def came_of(files, size, frames, wanting=None, without_map=None, without_mirror=None):
-    """By the model: what comes of the frames, where memory is wanting for one of them; or behind one for the map of the rows, or for
-    what a save in slices is begun from."""
+def came_of(files, size, frames, wanting=None, without_mirror=None):
+    """By the model: what comes of the frames, where memory is wanting for one of them; or behind one for what listings are read from and
+    saves in slices are begun from."""
     lister, told = Lister(Store.opened(files), size), []
     for at, item in enumerate(frames):
         told.append(without_memory(item) if at == wanting else lister.answer(item))
-        lister.has_map = lister.has_map and at != without_map
         lister.has_mirror = lister.has_mirror and at != without_mirror
     return Came(Run(b"".join(told), 0, ""), texts_of(lister.store))
 
@@ -62,7 +61,6 @@ def may_come(files, size, frames):
         if item[:1] not in (PAGE, CLOSING, SLICE):
             found[f"frame {at}"] = came_of(files, size, frames, wanting=at)
         if item[:1] in (CONNECT, DISCONNECT):
-            found[f"no map behind {at}"] = came_of(files, size, frames, without_map=at)
             found[f"no mirror behind {at}"] = came_of(files, size, frames, without_mirror=at)
     return found
 
@@ -103,11 +101,11 @@ def failing_calls(tally):
     frames, end = [*blocks, *sessions, *again], len(blocks)
     # The block that opens the names, the one that updates the first, its disconnect, and the same block again.
     needed = [f"frame {at}" for at in (0, end - 1, end + 2, end + 6, end + 14)]
-    needed += [f"no map behind {at}" for at in (end - 1, end + 2, end + 6, end + 14)]
+    needed += [f"no mirror behind {at}" for at in (end - 1, end + 2, end + 6, end + 14)]
     with failing_heap() as heap:
         files = listed(tally, heap, "sessions over new files", texts_of(made(INIT)), 1, frames, ["the start", *needed])
         above = [OPEN, back(last), page(0), OPEN, *[OPEN] * MOST_SESSIONS, last, page(1), OPEN, close(4), OPEN, page(4)]
-        needed = ["the start", *(f"{what} {at}" for what in ("frame", "no map behind") for at in (1, 4 + MOST_SESSIONS))]
+        needed = ["the start", *(f"{what} {at}" for what in ("frame", "no mirror behind") for at in (1, 4 + MOST_SESSIONS))]
         listed(tally, heap, "sessions over saved files", files, 2, above, needed)
         store = made(INIT)
         for item in blocks:

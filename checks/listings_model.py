@@ -50,11 +50,11 @@ def rows_of(chain):
 
 class Lister:
     """A store and its sessions: by their numbers, the rows that are left of each; and the sliced save that runs, or None. Where memory
-    was wanting behind a command for the map of the current rows, or for what a sliced save is begun from, it has none from there on."""
+    was wanting behind a command for what listings are read from and sliced saves are begun from, it has none from there on."""
 
     def __init__(self, store, page):
         self.store, self.page, self.sessions, self.save = store, page, {}, None
-        self.has_map = self.has_mirror = True
+        self.has_mirror = True
 
     height = property(lambda self: self.store.height)
     tip = property(lambda self: self.store.tip)
@@ -82,7 +82,7 @@ class Lister:
         free = [it for it in range(MOST_SESSIONS) if it not in self.sessions]
         if not free:
             return reply(TOO_MANY)
-        if not self.has_map:
+        if not self.has_mirror:
             return reply(NO_MEMORY)
         self.sessions[free[0]] = rows_of(self.store.index)
         return reply(0, number(4, free[0]))

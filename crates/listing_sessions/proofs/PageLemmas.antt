@@ -13,9 +13,9 @@ use Rattle.chain_names.specs.Coins.{entry_of}
 use Rattle.chain_names.specs.Index.{served_item, value_of}
 use Rattle.chain_names.specs.declared.coin.Item.{Item}
 use Rattle.chain_commands.specs.Chain.{Chain, height_of}
-use Rattle.kept_rows.proofs.RowLemmas.{found_at}
 use Rattle.pin_views.specs.Rows.{row_of}
 use Rattle.pin_views.specs.declared.rows.Row.{Row}
+use Rattle.sliced_save.proofs.RowLemmas.{found_at}
 use Rattle.listing_sessions.specs.Listing.{IsListing, flag, histories, is_served, page_text, row_text}
 use Rattle.listing_sessions.specs.Pages.{is_live}
 

@@ -1,16 +1,21 @@
 -- What is held of sessions, place by place.
 use Rattle.std.proofs.Common.{◌≡◌, inl, inr, ℕ, zero, suc, ◌+◌, ◌<◌, ◌≤◌, arith, true, false, List, [], ◌∷◌, length, set, take, drop, Option, Some, None, refl, sym, ap, subst, ◌∙◌}
-use Rattle.std.specs.Prelude.{◌≢◌, ◌⊎◌, nat_eq}
+use Rattle.std.specs.Prelude.{◌≢◌, ◌⊎◌, IfOk, Result, Ok, Err, nat_eq}
 use Rattle.std.specs.List.{AllByRecursion, slice_get}
 use Rattle.std.proofs.lemmas.Bool.{cases_Bool, eqb-true, eqb-false}
+use Rattle.nmc_base.specs.declared.chain_ends.Base.{Base}
+use Rattle.chain_names.specs.Coins.{history_of}
+use Rattle.chain_names.specs.Log.{Log, log_of}
 use Rattle.feed_frames.specs.Replies.{Reply}
 use Rattle.chain_commands.specs.Chain.{Chain}
 use Rattle.chain_commands.specs.Reply.{no_memory_reply}
 use Rattle.pin_views.specs.declared.rows.Row.{Row}
+use Rattle.sliced_save.specs.Mirror.{Mirrored, MirrorsChain}
+use Rattle.sliced_save.specs.Rows.{AreRowsOf}
 use Rattle.nmc_base.specs.declared.chain_ends.Profile.{Profile}
 use Rattle.listing_sessions.specs.Listing.{is_served, page_text}
 use Rattle.listing_sessions.specs.Pages.{Pinned, pinned, is_live, GivesPage}
-use Rattle.listing_sessions.specs.Pinned.{held_at, listing_at, IsHeldAt, IsLeastEmpty, IsPinnedTo, IsTakenFrom, GivesPageAt, StandsForOne, StandFor, Moves}
+use Rattle.listing_sessions.specs.Pinned.{held_at, listing_at, IsHeldAt, IsLeastEmpty, IsPinnedTo, IsTakenFrom, AreTakenFrom, ArePinnedBy, GivesPageAt, StandsForOne, StandFor, Moves}
 use Rattle.listing_sessions.specs.Sessions.{Session, session, Sessions, most_sessions, none_open, with_session, opened_reply, too_many_reply, no_session_reply, closed_reply, IsLeastFree, AreAllOpen, Opens, opens, too_many, lacks_memory, Pages, gives_page, Closes, closes}
 use Rattle.listing_sessions.specs.Sessions as steps
 use Rattle.listing_sessions.proofs.PageLemmas.{pages_alike}
@@ -173,6 +178,19 @@ module _ (held : List (Option Pinned)) (sessions : Sessions) (stand : StandFor h
       stands = subst (λ (x : List (Option Pinned)). StandFor x (with_session sessions number (Some behind))) (sym p.new_is)
           (stand_put held sessions stand number (Some p.now) (Some behind) p.was.within pinned_behind);
     }
+
+-- ---- what a session is opened on
+
+pub pinned_from : (chain : Chain) (mirror : Option Mirrored) (rows : List (List ℕ × Row)) (profile : Profile) (height : ℕ) → AreTakenFrom chain mirror profile height → ArePinnedBy mirror rows
+    → IsTakenFrom chain rows profile height
+pinned_from chain None rows profile height are by = absurd by
+pinned_from chain (Some mirror) rows profile height are by = record { listing = by chain are.mirror_is; profile_is = are.profile_is; height_is = are.height_is }
+
+pub pinned_by : {E : Type 0} (mirror : Mirrored) (result : Result (List (List ℕ × Row)) E)
+    → IfOk result (λ rows. (base : Base) (start : Log) (blocks : List (List ℕ)) → MirrorsChain base start blocks mirror → AreRowsOf (history_of (log_of start base.height blocks)) rows)
+    → IfOk result (ArePinnedBy (Some mirror))
+pinned_by mirror (Ok rows) are = λ chain is. are chain.base chain.start chain.blocks is
+pinned_by mirror (Err fault) are = tt
 
 -- ---- a listing that is taken out and put back
 

@@ -8,8 +8,8 @@ use Rattle.chain_names.specs.Index.{served_value}
 use Rattle.chain_names.specs.Log.{log_of}
 use Rattle.chain_names.specs.declared.coin.Item.{Item}
 use Rattle.chain_commands.specs.Chain.{Chain, height_of}
-use Rattle.kept_rows.specs.Rows.{AreRowsOf}
 use Rattle.pin_views.specs.declared.rows.Row.{Row}
+use Rattle.sliced_save.specs.Rows.{AreRowsOf}
 
 -- the history of each name, by the chain's log
 abbrev pub histories : Chain → List ℕ → List Item

@@ -8,6 +8,7 @@ use Rattle.listing_sessions.specs.Listing.{IsListing}
 use Rattle.listing_sessions.specs.Sessions.{Session, Sessions}
 use Rattle.listing_sessions.specs.Pages.{Pinned, GivesPage}
 use Rattle.pin_views.specs.declared.rows.Row.{Row}
+use Rattle.sliced_save.specs.Mirror.{Mirrored, MirrorsChain}
 
 -- what stands at a place, if anything
 abbrev pub held_at : Option (Option Pinned) → Option Pinned
@@ -72,7 +73,20 @@ pub record Moves (Step : Sessions → Reply → Sessions → Type 0) (old : Sess
 abbrev pub MakesStep : (Sessions → Reply → Sessions → Type 0) → List (Option Pinned) → Reply → List (Option Pinned) → Type 0
 MakesStep Step old reply new = (sessions : Sessions) → StandFor old sessions → Moves Step sessions reply new
 
--- the rows are those of the chain, where they are there at all
-abbrev pub AreTakenFrom : Chain → Option (List (List ℕ × Row)) → Profile → ℕ → Type 0
-AreTakenFrom chain None profile height = (profile ≡ chain.base.profile) × (height ≡ height_of chain)
-AreTakenFrom chain (Some rows) profile height = IsTakenFrom chain rows profile height
+-- ---- what a session is opened on
+
+-- the mirror is that of the chain's index, where it is there at all
+abbrev pub IsMirrorOn : Chain → Option Mirrored → Type 0
+IsMirrorOn chain None = Unit {0}
+IsMirrorOn chain (Some mirror) = MirrorsChain chain.base chain.start chain.blocks mirror
+
+-- the mirror, the profile and the height are the chain's
+pub record AreTakenFrom (chain : Chain) (mirror : Option Mirrored) (profile : Profile) (height : ℕ) : Type 0 where
+  pub mirror_is : IsMirrorOn chain mirror
+  pub profile_is : profile ≡ chain.base.profile
+  pub height_is : height ≡ height_of chain
+
+-- there is a mirror, and the rows are the listing of each chain that it is on
+abbrev pub ArePinnedBy : Option Mirrored → List (List ℕ × Row) → Type 0
+ArePinnedBy None rows = ⊥
+ArePinnedBy (Some mirror) rows = (chain : Chain) → IsMirrorOn chain (Some mirror) → IsListing chain rows

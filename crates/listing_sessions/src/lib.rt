@@ -8,7 +8,7 @@ mod page;
 mod replies;
 mod sessions;
 
-pub use kept_rows::Rows;
 pub use laws::one_listing;
 pub use page::{LARGEST_PAGE, LONGEST_PAGE};
 pub use sessions::{MOST_SESSIONS, Sessions};
+pub use sliced_save::Rows;

@@ -1,15 +1,17 @@
 ghost use Rattle.std.specs.Prelude.{◌≡◌, ◌+◌, ◌*◌, ◌<◌, ◌≤◌, ◌++◌, Some, length, not, slice_get, take, vec_capacity, vec_len};
 ghost use Rattle.std.specs.List.{flat_map};
-ghost use Rattle.kept_rows.specs.Rows.{FitsRow};
 ghost use Rattle.listing_sessions.specs.Listing.{row_text};
 ghost use Rattle.listing_sessions.specs.Pages.{GivesPage, is_live, left_of, longest_row, pinned};
 ghost use Rattle.listing_sessions.specs.declared.page.TheConstants.{LARGEST_PAGE, LONGEST_PAGE};
 ghost use Rattle.nmc_base.specs.Expiry.{is_expired};
 ghost use Rattle.nmc_base.specs.Heights.{highest};
+ghost use Rattle.pin_views.specs.Rows.{row_of};
+ghost use Rattle.sliced_save.specs.Rows.{FitsRow};
 
 use crate::page::{write_head, write_row};
-use kept_rows::{Row, Rows};
+use chain_names::Item;
 use nmc_base::Profile;
+use sliced_save::Rows;
 use std::marker::Model;
 
 /// A listing that is paged through: the rows of a chain's names, the profile of the chain and the height of its tip, and how many of
@@ -83,16 +85,16 @@ impl Listing {
         ensures capacity { vec_capacity text.old ≤ vec_capacity text.new }
     {
         for i in 0..count {
-            let (name, row) = self.left(i);
-            write_row(text, name, row, self.serves(row));
+            let (name, item) = self.left(i);
+            write_row(text, name, item, self.serves(item));
         }
     }
 
-    /// The i-th of the rows that weren't given.
-    fn left(&self, i: usize) -> (&[u8], &Row)
+    /// The name and the item of the i-th of the rows that weren't given.
+    fn left(&self, i: usize) -> (&[u8], &Item)
         requires { self.now.position + i < length self.now.rows }
-        ensures row { Some (result.0.now, result.1.now) ≡ slice_get (left_of self.now) i }
-        ensures fits { FitsRow result.0.now result.1.now }
+        ensures row { Some (result.0.now, row_of result.1.now) ≡ slice_get (left_of self.now) i }
+        ensures fits { FitsRow result.0.now (row_of result.1.now) }
     {
         // The number of rows fits its type.
         let _count = self.rows.len();
@@ -102,11 +104,11 @@ impl Listing {
         }
     }
 
-    /// Whether the row's name is served: its value isn't expired at the height of the tip.
-    fn serves(&self, row: &Row) -> bool
-        requires { row.now.height ≤ highest }
-        ensures { result ≡ not (is_expired self.now.profile row.now.height self.now.height) }
+    /// Whether a name is served whose last item this is: its value isn't expired at the height of the tip.
+    fn serves(&self, item: &Item) -> bool
+        requires { item.now.height ≤ highest }
+        ensures { result ≡ not (is_expired self.now.profile item.now.height self.now.height) }
     {
-        !self.profile.expired(row.height, self.height)
+        !self.profile.expired(item.height, self.height)
     }
 }

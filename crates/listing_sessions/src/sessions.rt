@@ -3,7 +3,7 @@ ghost use Rattle.std.specs.Option.{option_map};
 ghost use Rattle.nmc_base.specs.Heights.{highest};
 ghost use Rattle.chain_commands.specs.Chain.{Chain};
 ghost use Rattle.listing_sessions.specs.Sessions.{Opens, Pages, Closes, none_open};
-ghost use Rattle.listing_sessions.specs.Pinned.{AreTakenFrom, IsHeldAt, IsLeastEmpty, MakesStep, StandFor, TurnsAt, listing_at};
+ghost use Rattle.listing_sessions.specs.Pinned.{ArePinnedBy, AreTakenFrom, IsHeldAt, IsLeastEmpty, MakesStep, StandFor, TurnsAt, listing_at};
 ghost use Rattle.listing_sessions.specs.declared.page.TheConstants.{LARGEST_PAGE, LONGEST_PAGE};
 
 use crate::listing::Listing;
@@ -12,8 +12,8 @@ use crate::replies::{
     lack_memory, refuse_more, refuse_number, tell_closed, tell_number, tell_page,
 };
 use frame_loop::ReplyBuf;
-use kept_rows::Rows;
 use nmc_base::{NoMemory, Profile};
+use sliced_save::{Mirror, Rows};
 use std::alloc::Global;
 use std::marker::Model;
 use std::mem;
@@ -43,13 +43,13 @@ impl Model for Sessions {
     ghost invariant = { λ s. (length s.held.items ≡ MOST_SESSIONS) × (LONGEST_PAGE ≤ vec_capacity s.text) };
 }
 
-/// Rows that are pinned as they are now, where they are there.
-fn pinned_now(rows: Option<&Rows>) -> Result<Rows, NoMemory>
-    ensures { IfOk result (λ pinned. Some pinned ≡ option_map (λ r. r.now) rows.entry) }
+/// The rows of a mirror, pinned as they are now, where it is there.
+fn pinned_now(mirror: Option<&Mirror>) -> Result<Rows, NoMemory>
+    ensures { IfOk result (ArePinnedBy (option_map (λ m. m.now) mirror.entry)) }
 {
-    match rows {
+    match mirror {
         None => Err(NoMemory),
-        Some(rows) => rows.pin(),
+        Some(mirror) => mirror.pin_rows(),
     }
 }
 
@@ -134,16 +134,22 @@ impl Sessions {
         Ok(Sessions { held, text })
     }
 
-    /// Opens a session on the chain of these rows, with its profile and the height of its tip, under the least number that isn't open.
-    /// Code 0 and the number in 4 bytes, low byte first; code 31 where as many are open as may be; or code FE, want of memory, which it
-    /// is too where no rows are there.
-    pub fn open(&mut self, rows: Option<&Rows>, profile: Profile, height: u32, reply: &mut ReplyBuf)
+    /// Opens a session on the chain of whose index this is the mirror, with its profile and the height of its tip, under the least number
+    /// that isn't open. Code 0 and the number in 4 bytes, low byte first; code 31 where as many are open as may be; or code FE, want of
+    /// memory, which it is too where no mirror is there.
+    pub fn open(
+        &mut self,
+        mirror: Option<&Mirror>,
+        profile: Profile,
+        height: u32,
+        reply: &mut ReplyBuf,
+    )
         requires low { height ≤ highest }
-        ensures { (chain : Chain) → AreTakenFrom chain (option_map (λ r. r.now) rows.entry) profile height → MakesStep (Opens chain) self.old reply.new self.new }
+        ensures { (chain : Chain) → AreTakenFrom chain (option_map (λ m. m.now) mirror.entry) profile height → MakesStep (Opens chain) self.old reply.new self.new }
     {
         match least_empty(&self.held) {
             None => refuse_more(reply),
-            Some(number) => match pinned_now(rows) {
+            Some(number) => match pinned_now(mirror) {
                 Err(NoMemory) => lack_memory(reply),
                 Ok(rows) => {
                     let listing = Listing::new(rows, profile, height);
@@ -167,8 +173,8 @@ impl Sessions {
         }
     }
 
-    /// Closes a session. Code 0; or code 32 where no session of this number is open. It hands back the rows that the session was
-    /// opened on, and lets go of none.
+    /// Closes a session. Code 0; or code 32 where no session of this number is open. It hands back the rows that the session pinned, and
+    /// lets go of none.
     pub fn close(&mut self, number: u32, reply: &mut ReplyBuf) -> Option<Rows>
         ensures step { MakesStep (Closes number) self.old reply.new self.new }
         ensures rows { result ≡ option_map (λ l. l.rows) (listing_at self.old number) }

@@ -40,7 +40,7 @@ use Rattle.name_lister.specs.Step.{ListState, PlainStep}
 use Rattle.name_lister.specs.declared.lister.ListTurned.TheVariants.{On, Ended}
 use Rattle.name_lister.specs.declared.saving.Saving.{Saving}
 use Rattle.name_lister.proofs.FileLemmas.{spares, files_beside}
-use Rattle.name_lister.proofs.KeptLemmas.{views_now}
+use Rattle.name_lister.proofs.KeptLemmas.{mirror_now}
 use Rattle.name_lister.proofs.TurnLemmas.{files_stay}
 
 -- ---- what changes nothing
@@ -148,9 +148,9 @@ module _ (old : Listed) (none : old.saving ≡ None) (state : ListState) (s : St
   begins_without_memory few = lacks_memory saver_none (few_of few) refl saver_none
 
   -- what was pinned is the text of the chain's index
-  module _ (indexed : IsIndexed old.bridge.store.index) (slices : Sliced) (pinned : IsPinnedBy old.views.mirror slices) where
+  module _ (indexed : IsIndexed old.bridge.store.index) (slices : Sliced) (pinned : IsPinnedBy old.mirror slices) where
     text_here : IsTextOfIndex old.bridge.store.index slices.text
-    text_here = by old.views.mirror pinned (views_now (chain_of state.run) old.bridge.store.index old.views s.bridge.store.index s.views).mirror where
+    text_here = by old.mirror pinned (mirror_now (chain_of state.run) old.bridge.store.index old.mirror s.bridge.store.index s.mirror) where
       by : (mirror : Option Mirrored) → IsPinnedBy mirror slices → IsMirrorNow old.bridge.store.index mirror → IsTextOfIndex old.bridge.store.index slices.text
       by None pinned now = absurd pinned
       by (Some mirror) pinned now = pinned.is_text old.bridge.store.index indexed now
@@ -184,12 +184,12 @@ module _ (old : Listed) (none : old.saving ≡ None) (state : ListState) (s : St
 -- ---- the draft
 
 module _ {D : Type 0} (tells : Bool) (seen : D → DiskSeen) (old : Listed) (before after : D) (none : old.saving ≡ None) (indexed : IsIndexed old.bridge.store.index) (slices : Sliced)
-    (pinned : IsPinnedBy old.views.mirror slices) (size : ℕ) (size_is : size ≡ length slices.text) where
+    (pinned : IsPinnedBy old.mirror slices) (size : ℕ) (size_is : size ≡ length slices.text) where
   -- the draft was begun
   module _ (bridge : Bridged) (drafting : Drafting) (has : HasBegun old.bridge.store size bridge.store drafting)
       (leaves : LeavesBegun tells old.bridge.store (seen before) (seen after) (drafts.Begun bridge.store drafting)) (answers : bridge.answers ≡ old.bridge.answers) where
     abbrev begun_lister : Listed
-    begun_lister = listed bridge old.views old.held old.page (Some (record { draft = drafting; slices = slices }))
+    begun_lister = listed bridge old.mirror old.held old.page (Some (record { draft = drafting; slices = slices }))
 
     few : old.bridge.store.slots.count < most_selections
     few = omega (arith, has.is_draft.few, ap (λ (x : Stored). x.slots.count) has.same)
@@ -210,7 +210,7 @@ module _ {D : Type 0} (tells : Bool) (seen : D → DiskSeen) (old : Listed) (bef
         step = record { moves = (refl, begins_here old none state s indexed slices pinned few short); sessions = refl };
         stands = record {
           bridge = bridge_stands state.run s.bridge;
-          views = s.views;
+          mirror = s.mirror;
           sessions = s.sessions;
           saving = saver_begun old none state s indexed slices pinned drafting (ap (λ (d : Drafting). d.from) has.drafting_is) (ap (λ (d : Drafting). d.draft.written) has.drafting_is);
         };
@@ -230,14 +230,14 @@ module _ {D : Type 0} (tells : Bool) (seen : D → DiskSeen) (old : Listed) (bef
 
   -- it was refused
   module _ (on : IsTrue tells → IsListOn old (seen before).moments.now) (bridge : Bridged) (answers : bridge.answers ≡ old.bridge.answers) (untouched : after ≡ before) where
-    same_lister : bridge.store ≡ old.bridge.store → listed bridge old.views old.held old.page None ≡ old
-    same_lister same = λ i. record { bridge = record { store = same i; answers = answers i }; views = old.views; held = old.held; page = old.page; saving = sym none i }
+    same_lister : bridge.store ≡ old.bridge.store → listed bridge old.mirror old.held old.page None ≡ old
+    same_lister same = λ i. record { bridge = record { store = same i; answers = answers i }; mirror = old.mirror; held = old.held; page = old.page; saving = sym none i }
 
     pub draft_refused : (refusal : SaveRefusal) → old.bridge.store.slots.count < most_selections → BeginAnswer old.bridge.store size (drafts.Refused bridge.store refusal)
-        → AnswersList tells seen old before Begin (save_refusal_reply (save_refusal_of refusal)) (On (listed bridge old.views old.held old.page None)) after
+        → AnswersList tells seen old before Begin (save_refusal_reply (save_refusal_of refusal)) (On (listed bridge old.mirror old.held old.page None)) after
     draft_refused refusals.CheckpointLimit few answer = absurd (omega (arith, few, answer.1))
     draft_refused refusals.ImageLimit few answer =
-        subst (λ (d : D). AnswersList tells seen old before Begin (save_refusal_reply ImageLimit) (On (listed bridge old.views old.held old.page None)) d) (sym untouched)
+        subst (λ (d : D). AnswersList tells seen old before Begin (save_refusal_reply ImageLimit) (On (listed bridge old.mirror old.held old.page None)) d) (sym untouched)
         (subst (λ (l : Listed). AnswersList tells seen old before Begin (save_refusal_reply ImageLimit) (On l) before) (sym (same_lister answer.0))
         (begin_aside tells seen old before on (save_refusal_reply ImageLimit) (λ is. omega (arith, is), λ is. omega (arith, is))
         (λ state s. begins_too_long old none state s indexed slices pinned few (omega (arith, answer.2, size_is)))))

@@ -28,7 +28,7 @@ use Rattle.bridge_core.specs.declared.slicing.SliceTurned.TheVariants as turns
 use Rattle.sliced_save.specs.Sliced.{Sliced}
 use Rattle.name_lister.specs.Answers.{AnswersList}
 use Rattle.name_lister.specs.Event.{Slice}
-use Rattle.name_lister.specs.Kept.{AreViewsOf}
+use Rattle.listing_sessions.specs.Pinned.{IsMirrorOn}
 use Rattle.name_lister.specs.Lister.{Listed, listed, StandsFor, IsListOn}
 use Rattle.name_lister.specs.Saver as savers
 use Rattle.name_lister.specs.Saver.{Saver, IsSplit, Selects, IsTooLong, writes, selects, gives_up, drafted_area, slice_size, more_reply, selected_reply, area_limit_reply}
@@ -168,7 +168,7 @@ module _ {D : Type 0} (tells : Bool) (seen : D → DiskSeen) (old : Listed) (bef
           written_is = omega (arith, ap (λ (d : Drafting). d.draft.written) has.drafting_is, is.written_is);
         }
 
-    pub slice_written : AnswersList tells seen old before (Slice asked) more_reply (On (listed bridge old.views old.held old.page (Some saving_on))) after
+    pub slice_written : AnswersList tells seen old before (Slice asked) more_reply (On (listed bridge old.mirror old.held old.page (Some saving_on))) after
     slice_written = record {
       step = λ state s.
           let held = there old saving saving_is given.image state s in
@@ -186,7 +186,7 @@ module _ {D : Type 0} (tells : Bool) (seen : D → DiskSeen) (old : Listed) (bef
               });
               sessions = refl;
             };
-            stands = record { bridge = same_bridge old.bridge bridge has.same answers state.run s.bridge; views = s.views; sessions = s.sessions; saving = saver_on state s };
+            stands = record { bridge = same_bridge old.bridge bridge has.same answers state.run s.bridge; mirror = s.mirror; sessions = s.sessions; saving = saver_on state s };
             follow = λ told stood. files_beside old.bridge.store state.run s.bridge.store (seen before) (seen after) stood (beside (leaves.others told))
                 (kept told state.run held.is.newer held.is.older saving.slices.text (here next state s told stood));
           };
@@ -220,7 +220,7 @@ module _ {D : Type 0} (tells : Bool) (seen : D → DiskSeen) (old : Listed) (bef
         let is = (there old saving saving_is given.image state s).is in
         stands state.run is.newer is.older saving.slices.text s.bridge.store (draft_for old saving saving_is given.image state s) given.image
 
-    pub slice_selected : AnswersList tells seen old before (Slice asked) (selected_reply number) (On (listed bridge old.views old.held old.page None)) after
+    pub slice_selected : AnswersList tells seen old before (Slice asked) (selected_reply number) (On (listed bridge old.mirror old.held old.page None)) after
     slice_selected = record {
       step = λ state s.
           let held = there old saving saving_is given.image state s in
@@ -233,7 +233,7 @@ module _ {D : Type 0} (tells : Bool) (seen : D → DiskSeen) (old : Listed) (bef
             };
             stands = record {
               bridge = stands_still old.bridge bridge state.run (run_behind next state s) s.bridge (selected_stands state s) refl (same_chain state s) answers;
-              views = subst (λ (chain : Chain). AreViewsOf chain old.views) (sym (same_chain state s)) s.views;
+              mirror = subst (λ (chain : Chain). IsMirrorOn chain old.mirror) (sym (same_chain state s)) s.mirror;
               sessions = s.sessions;
               saving = tt;
             };
@@ -257,14 +257,14 @@ module _ {D : Type 0} (tells : Bool) (seen : D → DiskSeen) (old : Listed) (bef
   module _ (next : IsNextOf saving.draft saving.slices.text piece) (bridge : Bridged) (same : bridge.store ≡ old.bridge.store) (last : left_of old.bridge.store saving.draft ≤ slice_size asked)
       (over : longest_area < length_with old.bridge.store saving.draft) (answers : bridge.answers ≡ old.bridge.answers) (untouched : after ≡ before)
       (leaves : LeavesSlice tells old.bridge.store saving.draft piece (seen before) (seen after) (slices.AreaLimit bridge.store)) where
-    pub slice_too_long : AnswersList tells seen old before (Slice asked) area_limit_reply (On (listed bridge old.views old.held old.page None)) after
+    pub slice_too_long : AnswersList tells seen old before (Slice asked) area_limit_reply (On (listed bridge old.mirror old.held old.page None)) after
     slice_too_long = record {
       step = λ state s.
           let held = there old saving saving_is given.image state s in
           record {
             new = record { run = state.run; sessions = state.sessions; saver = None };
             step = record { moves = gives_up held.saver held.saver_is (too_long_there old saving saving_is given.image state s (slice_size asked) last over) refl refl refl; sessions = refl };
-            stands = record { bridge = same_bridge old.bridge bridge same answers state.run s.bridge; views = s.views; sessions = s.sessions; saving = tt };
+            stands = record { bridge = same_bridge old.bridge bridge same answers state.run s.bridge; mirror = s.mirror; sessions = s.sessions; saving = tt };
             follow = λ told stood. subst (λ (d : D). KeepsFiles state.run state.run (seen before) (seen d)) (sym untouched) (files_stay seen before state.run stood);
           };
       later = leaves.later;
@@ -324,7 +324,7 @@ module _ {D : Type 0} (tells : Bool) (seen : D → DiskSeen) (old : Listed) (bef
 
 -- the lister behind a slice
 abbrev pub behind_slice : Listed → Option (Bridged × Option Saving) → ListTurned
-behind_slice old (Some left) = On (listed left.0 old.views old.held old.page left.1)
+behind_slice old (Some left) = On (listed left.0 old.mirror old.held old.page left.1)
 behind_slice old None = Ended
 
 -- what is kept of the save is that of the store

@@ -27,67 +27,65 @@ use Rattle.bridge_core.specs.Runs as runs
 use Rattle.bridge_core.specs.Runs.{KeepsFiles}
 use Rattle.bridge_core.specs.declared.bridge.Turned.TheVariants as bridge
 use Rattle.bridge_core.proofs.ReachedLemmas.{is_machine}
-use Rattle.listing_sessions.specs.Listing.{histories}
 use Rattle.listing_sessions.specs.Pages.{Pinned}
-use Rattle.listing_sessions.specs.Pinned.{AreTakenFrom, MakesStep, StandFor}
+use Rattle.listing_sessions.specs.Pinned.{AreTakenFrom, IsMirrorOn, MakesStep, StandFor}
 use Rattle.listing_sessions.specs.Sessions.{Opens, Pages, Closes}
-use Rattle.pin_views.specs.declared.rows.Row.{Row}
+use Rattle.sliced_save.specs.Mirror.{Mirrored}
 use Rattle.name_lister.specs.Answers.{AnswersList, AsksPlain}
 use Rattle.name_lister.specs.Event.{Plain, Open, Page, Close}
-use Rattle.name_lister.specs.Kept.{AreViewsOf, AreViewsNow, AreViewsBefore, AreRowsBy}
+use Rattle.name_lister.specs.Kept.{IsMirrorNow, IsMirrorBefore}
 use Rattle.name_lister.specs.Lister.{Listed, listed, IsListOn}
 use Rattle.name_lister.specs.Saver.{Saver}
 use Rattle.name_lister.specs.Saving.{SavesFor, IsSavingOn}
 use Rattle.name_lister.specs.Step.{PlainStep, IsAllowed}
 use Rattle.name_lister.specs.declared.lister.ListTurned.TheVariants.{On, Ended}
 use Rattle.name_lister.specs.declared.saving.Saving.{Saving}
-use Rattle.name_lister.specs.declared.views.Views.{Views}
-use Rattle.name_lister.proofs.KeptLemmas.{views_on, views_now, views_before, views_without}
+use Rattle.name_lister.proofs.KeptLemmas.{mirror_on, mirror_now, mirror_before, mirror_without}
 use Rattle.name_lister.proofs.SaverLemmas.{IsAsked, saver_follows}
 
 -- ---- what is kept behind an event
 
 -- of every step that the bridge's stores stand for: what was kept of the old chain becomes what is kept of the new one
-abbrev pub FollowViews : Listed → Event → Reply → Listed → Type 0
-FollowViews old event reply new =
+abbrev pub FollowsMirror : Listed → Event → Reply → Listed → Type 0
+FollowsMirror old event reply new =
     (run next : RunState) → machine.Step run event reply next → bridges.StandsFor old.bridge run → bridges.StandsFor new.bridge next
-    → AreViewsOf (chain_of run) old.views → AreViewsOf (chain_of next) new.views
+    → IsMirrorOn (chain_of run) old.mirror → IsMirrorOn (chain_of next) new.mirror
 
 module _ (old new : Listed) (reply : Reply) where
   -- the chain stays, and so does what is kept of it
-  pub stay_views : (event : Event) → ((run next : RunState) → machine.Step run event reply next → chain_of next ≡ chain_of run) → new.views ≡ old.views → FollowViews old event reply new
-  stay_views event stays same = λ run next step s t are.
-      subst (λ (views : Views). AreViewsOf (chain_of next) views) (sym same) (subst (λ (chain : Chain). AreViewsOf chain old.views) (sym (stays run next step)) are)
+  pub stay_mirror : (event : Event) → ((run next : RunState) → machine.Step run event reply next → chain_of next ≡ chain_of run) → new.mirror ≡ old.mirror → FollowsMirror old event reply new
+  stay_mirror event stays same = λ run next step s t are.
+      subst (λ (mirror : Option Mirrored). IsMirrorOn (chain_of next) mirror) (sym same) (subst (λ (chain : Chain). IsMirrorOn chain old.mirror) (sym (stays run next step)) are)
 
-  pub connected_views : (block : List ℕ)
-      → (reply.code ≡ 0 → AreViewsBefore new.bridge.store.index old.views → AreViewsNow new.bridge.store.index new.views) → (reply.code ≢ 0 → new.views ≡ old.views)
-      → FollowViews old (Do (Connect block)) reply new
-  connected_views block done same = λ run next step s t are. by run next step t are (cases_eq reply.code 0) where
+  pub connected_mirror : (block : List ℕ)
+      → (reply.code ≡ 0 → IsMirrorBefore new.bridge.store.index old.mirror → IsMirrorNow new.bridge.store.index new.mirror) → (reply.code ≢ 0 → new.mirror ≡ old.mirror)
+      → FollowsMirror old (Do (Connect block)) reply new
+  connected_mirror block done same = λ run next step s t are. by run next step t are (cases_eq reply.code 0) where
     by : (run next : RunState) → machine.Step run (Do (Connect block)) reply next → bridges.StandsFor new.bridge next
-        → AreViewsOf (chain_of run) old.views → (reply.code ≡ 0) ⊎ (reply.code ≢ 0) → AreViewsOf (chain_of next) new.views
+        → IsMirrorOn (chain_of run) old.mirror → (reply.code ≡ 0) ⊎ (reply.code ≢ 0) → IsMirrorOn (chain_of next) new.mirror
     by run next step t are (inl is_zero) =
         let is : next ≡ accepted run (Connect block) = (step_leaves run next (Do (Connect block)) reply step).done is_zero in
         let index = new.bridge.store.index in
         let stands : chains.StandsFor index (with_block (chain_of run) block) = subst (λ (r : RunState). chains.StandsFor index (chain_of r)) is t.store.index in
-        views_on (chain_of next) index new.views t.store.index (done is_zero (views_before (chain_of run) index old.views block stands are))
+        mirror_on (chain_of next) index new.mirror t.store.index (done is_zero (mirror_before (chain_of run) index old.mirror block stands are))
     by run next step t are (inr other) =
         let is : next ≡ run = (step_leaves run next (Do (Connect block)) reply step).undone other in
-        subst (λ (views : Views). AreViewsOf (chain_of next) views) (sym (same other)) (subst (λ (r : RunState). AreViewsOf (chain_of r) old.views) (sym is) are)
+        subst (λ (mirror : Option Mirrored). IsMirrorOn (chain_of next) mirror) (sym (same other)) (subst (λ (r : RunState). IsMirrorOn (chain_of r) old.mirror) (sym is) are)
 
-  pub disconnected_views : (hash : List ℕ)
-      → (reply.code ≡ 0 → AreViewsNow old.bridge.store.index old.views → AreViewsBefore old.bridge.store.index new.views) → (reply.code ≢ 0 → new.views ≡ old.views)
-      → FollowViews old (Do (Disconnect hash)) reply new
-  disconnected_views hash done same = λ run next step s t are. by run next step s are (cases_eq reply.code 0) where
+  pub disconnected_mirror : (hash : List ℕ)
+      → (reply.code ≡ 0 → IsMirrorNow old.bridge.store.index old.mirror → IsMirrorBefore old.bridge.store.index new.mirror) → (reply.code ≢ 0 → new.mirror ≡ old.mirror)
+      → FollowsMirror old (Do (Disconnect hash)) reply new
+  disconnected_mirror hash done same = λ run next step s t are. by run next step s are (cases_eq reply.code 0) where
     by : (run next : RunState) → machine.Step run (Do (Disconnect hash)) reply next → bridges.StandsFor old.bridge run
-        → AreViewsOf (chain_of run) old.views → (reply.code ≡ 0) ⊎ (reply.code ≢ 0) → AreViewsOf (chain_of next) new.views
+        → IsMirrorOn (chain_of run) old.mirror → (reply.code ≡ 0) ⊎ (reply.code ≢ 0) → IsMirrorOn (chain_of next) new.mirror
     by run next step s are (inl is_zero) =
         let is : next ≡ accepted run (Disconnect hash) = (step_leaves run next (Do (Disconnect hash)) reply step).done is_zero in
         let index = old.bridge.store.index in
-        subst (λ (r : RunState). AreViewsOf (chain_of r) new.views) (sym is)
-        (views_without (chain_of run) index new.views s.store.index (done is_zero (views_now (chain_of run) index old.views s.store.index are)))
+        subst (λ (r : RunState). IsMirrorOn (chain_of r) new.mirror) (sym is)
+        (mirror_without (chain_of run) index new.mirror s.store.index (done is_zero (mirror_now (chain_of run) index old.mirror s.store.index are)))
     by run next step s are (inr other) =
         let is : next ≡ run = (step_leaves run next (Do (Disconnect hash)) reply step).undone other in
-        subst (λ (views : Views). AreViewsOf (chain_of next) views) (sym (same other)) (subst (λ (r : RunState). AreViewsOf (chain_of r) old.views) (sym is) are)
+        subst (λ (mirror : Option Mirrored). IsMirrorOn (chain_of next) mirror) (sym (same other)) (subst (λ (r : RunState). IsMirrorOn (chain_of r) old.mirror) (sym is) are)
 
 -- ---- what any run may be asked
 
@@ -133,7 +131,7 @@ module _ {D : Type 0} (tells : Bool) (seen : D → DiskSeen) (old : Listed) (bef
     pub still : IsTrue tells → IsSavingOn new.bridge.store new.saving (seen after).moments.now
 
   -- the bridge went on, what is kept followed, and the rest stays
-  pub plain_on : (new : Listed) → IsAsked old.saving event → AnswersEvent tells seen old.bridge before event reply (bridge.On new.bridge) after → FollowViews old event reply new → IsBeside new
+  pub plain_on : (new : Listed) → IsAsked old.saving event → AnswersEvent tells seen old.bridge before event reply (bridge.On new.bridge) after → FollowsMirror old event reply new → IsBeside new
       → AnswersList tells seen old before (Plain event) reply (On new) after
   plain_on new is by follow beside =
       let turn : runs.Turns (bridge_machine tells seen) old.bridge before event reply new.bridge after = (is_machine tells seen).turns old.bridge before event reply new.bridge after by in
@@ -145,7 +143,7 @@ module _ {D : Type 0} (tells : Bool) (seen : D → DiskSeen) (old : Listed) (bef
               step = record { moves = (plain_step old.saving state.saver event reply state.run made.new is s.saving made.step, refl); sessions = refl };
               stands = record {
                 bridge = made.stands;
-                views = follow state.run made.new made.step s.bridge made.stands s.views;
+                mirror = follow state.run made.new made.step s.bridge made.stands s.mirror;
                 sessions = subst (λ (h : List (Option Pinned)). StandFor h state.sessions) (sym beside.held) s.sessions;
                 saving = subst (λ (saving : Option Saving). SavesFor made.new saving state.saver) (sym beside.saving)
                     (saver_follows old.saving state.saver event reply state.run made.new is s.saving made.step);
@@ -188,11 +186,9 @@ module _ {D : Type 0} (tells : Bool) (seen : D → DiskSeen) (old : Listed) (bef
 
 -- ---- what is asked of sessions
 
--- rows of the chain are taken from it
-taken_from : (chain : Chain) (rows : Option (List (List ℕ × Row))) (c : Indexed) → chains.StandsFor c chain → AreRowsBy (histories chain) rows
-    → AreTakenFrom chain rows c.base.profile c.tip.height
-taken_from chain None c s are = (ap (λ (b : Base). b.profile) s.base_is, s.height)
-taken_from chain (Some rows) c s are = record { listing = are; profile_is = ap (λ (b : Base). b.profile) s.base_is; height_is = s.height }
+-- what is kept of the chain is taken from it
+taken_from : (chain : Chain) (mirror : Option Mirrored) (c : Indexed) → chains.StandsFor c chain → IsMirrorOn chain mirror → AreTakenFrom chain mirror c.base.profile c.tip.height
+taken_from chain mirror c s is = record { mirror_is = is; profile_is = ap (λ (b : Base). b.profile) s.base_is; height_is = s.height }
 
 -- the run state stays, and so do the files
 pub files_stay : {D : Type 0} (seen : D → DiskSeen) (disk : D) (run : RunState) → AreFilesOf run (seen disk).moments.now → KeepsFiles run run (seen disk) (seen disk)
@@ -201,19 +197,19 @@ files_stay seen disk run stood = record { files = stood; any_moment = start (λ 
 -- it leaves the bridge, what is kept, the save that runs, and the disk
 module _ {D : Type 0} (tells : Bool) (seen : D → DiskSeen) (old : Listed) (disk : D) (on : IsTrue tells → IsListOn old (seen disk).moments.now) (reply : Reply) (held : List (Option Pinned)) where
   abbrev pub behind : Listed
-  behind = listed old.bridge old.views held old.page old.saving
+  behind = listed old.bridge old.mirror held old.page old.saving
 
-  pub opened : ((chain : Chain) → AreTakenFrom chain old.views.rows old.bridge.store.index.base.profile old.bridge.store.index.tip.height → MakesStep (Opens chain) old.held reply held)
+  pub opened : ((chain : Chain) → AreTakenFrom chain old.mirror old.bridge.store.index.base.profile old.bridge.store.index.tip.height → MakesStep (Opens chain) old.held reply held)
       → AnswersList tells seen old disk Open reply (On behind) disk
   opened opens = record {
     step = λ state s.
         let chain = chain_of state.run in
         let index = s.bridge.store.index in
-        let moved = opens chain (taken_from chain old.views.rows old.bridge.store.index index s.views.rows) state.sessions s.sessions in
+        let moved = opens chain (taken_from chain old.mirror old.bridge.store.index index s.mirror) state.sessions s.sessions in
         record {
           new = record { run = state.run; sessions = moved.new; saver = state.saver };
           step = record { moves = (refl, refl); sessions = moved.step };
-          stands = record { bridge = s.bridge; views = s.views; sessions = moved.stands; saving = s.saving };
+          stands = record { bridge = s.bridge; mirror = s.mirror; sessions = moved.stands; saving = s.saving };
           follow = λ told stood. files_stay seen disk state.run stood;
         };
     later = NeverFell_refl (seen disk).faults;
@@ -232,7 +228,7 @@ module _ {D : Type 0} (tells : Bool) (seen : D → DiskSeen) (old : Listed) (dis
     step = λ state s. let moved = pages state.sessions s.sessions in record {
       new = record { run = state.run; sessions = moved.new; saver = state.saver };
       step = record { moves = (refl, refl); sessions = moved.step };
-      stands = record { bridge = s.bridge; views = s.views; sessions = moved.stands; saving = s.saving };
+      stands = record { bridge = s.bridge; mirror = s.mirror; sessions = moved.stands; saving = s.saving };
       follow = λ told stood. files_stay seen disk state.run stood;
     };
     later = NeverFell_refl (seen disk).faults;
@@ -251,7 +247,7 @@ module _ {D : Type 0} (tells : Bool) (seen : D → DiskSeen) (old : Listed) (dis
     step = λ state s. let moved = closes state.sessions s.sessions in record {
       new = record { run = state.run; sessions = moved.new; saver = state.saver };
       step = record { moves = (refl, refl); sessions = moved.step };
-      stands = record { bridge = s.bridge; views = s.views; sessions = moved.stands; saving = s.saving };
+      stands = record { bridge = s.bridge; mirror = s.mirror; sessions = moved.stands; saving = s.saving };
       follow = λ told stood. files_stay seen disk state.run stood;
     };
     later = NeverFell_refl (seen disk).faults;

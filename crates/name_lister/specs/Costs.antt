@@ -1,32 +1,21 @@
 -- What the turn of a lister costs, in steps on the tables.
-use Rattle.std.specs.Prelude.{◌≡◌, ℕ, ◌+◌, ◌*◌, ◌≤◌, length}
-use Rattle.chain_commands.specs.Event.{Command, Connect, Disconnect, Do, Ask, Save}
+use Rattle.std.specs.Prelude.{◌≡◌, ℕ, ◌+◌, length}
+use Rattle.chain_commands.specs.Event.{Command, Do, Ask, Save}
 use Rattle.chain_state.specs.Chain.{Indexed}
 use Rattle.feed_frames.specs.Replies.{Reply}
 use Rattle.index_commands.specs.Costs.{IsCheap}
-use Rattle.kept_rows.specs.Rows.{newest_ops}
 use Rattle.name_lister.specs.Event.{ListEvent, Plain, Open, Page, Close, Begin, Slice}
 use Rattle.name_lister.specs.Lister.{Listed}
 use Rattle.name_lister.specs.declared.lister.ListTurned.{ListTurned}
 use Rattle.name_lister.specs.declared.lister.ListTurned.TheVariants.{On, Ended}
 
--- of an opening: the tables of the index are walked so often, each name in three steps and each coin in one
+-- of an opening: the tables of the index are walked once, each name and each coin in one step
 abbrev pub opening_cost : Indexed → ℕ
-opening_cost index = 3 * length index.tables.names + length index.tables.coins + 3
+opening_cost index = length index.tables.names + length index.tables.coins + 2
 
--- the operations on names of the block that joins the chain, or leaves it
-abbrev pub ops_of : Indexed → Command → Indexed → ℕ
-ops_of old (Connect bytes) new = length (newest_ops new.undos)
-ops_of old (Disconnect hash) new = length (newest_ops old.undos)
-
--- as many steps as without listings, and two more for each of these operations
-pub record IsCheapListed (old : Indexed) (command : Command) (new : Indexed) (before after : ℕ) : Type 0 where
-  pub mid : ℕ
-  pub cheap : IsCheap old command new before mid
-  pub few_more : after ≤ mid + 2 * ops_of old command new
-
+-- no step more than without listings
 abbrev pub IsCheapOn : Listed → Command → ListTurned → ℕ → ℕ → Type 0
-IsCheapOn old command (On lister) before after = IsCheapListed old.bridge.store.index command lister.bridge.store.index before after
+IsCheapOn old command (On lister) before after = IsCheap old.bridge.store.index command lister.bridge.store.index before after
 IsCheapOn old command Ended before after = Unit {0}
 
 -- a command that is accepted; and sessions and saves in slices take no step

@@ -2,12 +2,11 @@
 use Rattle.std.specs.Prelude.{◌≡◌, ℕ, suc, ◌+◌, ◌<◌, ◌≤◌, List, [], ◌∷◌}
 use Rattle.name_lister.specs.Event.{ListEvent, Plain, Open, Page, Close, Begin, Slice}
 use Rattle.name_lister.specs.declared.leavings.Leaving.{Leaving}
-use Rattle.name_lister.specs.declared.leavings.Leaving.TheVariants.{Rows, Coins, Names}
+use Rattle.name_lister.specs.declared.leavings.Leaving.TheVariants.{Coins, Names}
 use Rattle.name_lister.specs.declared.leavings.TheConstants.{LET_GO_AT_ONCE}
 
 -- the parts that are left of a map below its top
 abbrev pub parts_of : Leaving → ℕ
-parts_of (Rows parts) = parts
 parts_of (Coins parts) = parts
 parts_of (Names parts) = parts
 

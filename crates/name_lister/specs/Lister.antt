@@ -4,32 +4,31 @@ use Rattle.disk_model.specs.Moments.{Files}
 use Rattle.bridge_core.specs.Bridged as bridges
 use Rattle.bridge_core.specs.Bridged.{Bridged}
 use Rattle.chain_commands.specs.RunState.{chain_of}
-use Rattle.listing_sessions.specs.Pinned.{StandFor}
+use Rattle.listing_sessions.specs.Pinned.{IsMirrorOn, StandFor}
 use Rattle.listing_sessions.specs.Pages.{Pinned}
 use Rattle.name_store.specs.Stored.{IsOn}
-use Rattle.name_lister.specs.Kept.{AreViewsOf}
+use Rattle.sliced_save.specs.Mirror.{Mirrored}
 use Rattle.name_lister.specs.Saving.{SavesFor, IsSavingOn}
 use Rattle.name_lister.specs.Step.{ListState}
 use Rattle.name_lister.specs.declared.saving.Saving.{Saving}
-use Rattle.name_lister.specs.declared.views.Views.{Views}
 
--- the bridge, what is kept of its chain to be pinned, the listings that are open, how many rows a page has, and the sliced save that runs
+-- the bridge, the mirror of its index, the listings that are open, how many rows a page has, and the sliced save that runs
 pub record Listed : Type 0 where
   pub bridge : Bridged
-  pub views : Views
+  pub mirror : Option Mirrored
   pub held : List (Option Pinned)
   pub page : ℕ
   pub saving : Option Saving
 
-abbrev pub listed : Bridged → Views → List (Option Pinned) → ℕ → Option Saving → Listed
-listed bridge views held page saving = record { bridge = bridge; views = views; held = held; page = page; saving = saving }
+abbrev pub listed : Bridged → Option Mirrored → List (Option Pinned) → ℕ → Option Saving → Listed
+listed bridge mirror held page saving = record { bridge = bridge; mirror = mirror; held = held; page = page; saving = saving }
 
--- The bridge stands for the run state, and what is kept is that of its chain; the listings are those of the sessions, and the save is
--- the machine's.
+-- The bridge stands for the run state, and the mirror is that of its chain; the listings are those of the sessions, and the save is the
+-- machine's.
 pub record StandsFor (lister : Listed) (state : ListState) : Type 0 where
   pub bridge : bridges.StandsFor lister.bridge state.run
   -- behind a want of memory it isn't there
-  pub views : AreViewsOf (chain_of state.run) lister.views
+  pub mirror : IsMirrorOn (chain_of state.run) lister.mirror
   pub sessions : StandFor lister.held state.sessions
   pub saving : SavesFor state.run lister.saving state.saver
 

@@ -7,7 +7,7 @@ use crate::letting_go::let_leaving_go;
 use chain_names::{Coin, Item};
 use listing_sessions::Rows;
 use nmc_base::{NoMemory, OutPoint};
-use pin_views::{MapWaste, NameKey, Row, SharedStack};
+use pin_views::{MapWaste, NameKey, SharedStack};
 use sliced_save::{MirrorWaste, Slices};
 use std::alloc::Global;
 use std::marker::Model;
@@ -21,7 +21,6 @@ pub const MOST_LEAVINGS: usize = 16;
 /// A map that nobody looks at any more.
 #[derive(Drop)]
 pub enum Leaving {
-    Rows(MapWaste<NameKey, Row>),
     Coins(MapWaste<OutPoint, Coin>),
     Names(MapWaste<NameKey, SharedStack<Item>>),
 }
@@ -33,7 +32,6 @@ impl Leaving {
         ensures done { result ≡ nat_eq (parts_of self.new) 0 }
     {
         match self {
-            Leaving::Rows(waste) => waste.let_go(most),
             Leaving::Coins(waste) => waste.let_go(most),
             Leaving::Names(waste) => waste.let_go(most),
         }
@@ -58,13 +56,6 @@ impl Model for Leavings {
     ghost view = { λ l. l.kept.items };
 
     ghost invariant = { λ l. MOST_LEAVINGS ≤ vec_capacity l.kept };
-}
-
-fn rows_leaving(waste: Option<MapWaste<NameKey, Row>>) -> Option<Leaving> {
-    match waste {
-        None => None,
-        Some(waste) => Some(Leaving::Rows(waste)),
-    }
 }
 
 fn coins_leaving(waste: Option<MapWaste<OutPoint, Coin>>) -> Option<Leaving> {
@@ -145,7 +136,7 @@ impl Leavings {
         ensures { total self.old ≤ total self.new }
     {
         if let Some(rows) = rows {
-            self.add_some(rows_leaving(rows.into_waste()));
+            self.add_some(names_leaving(rows.into_waste()));
         }
     }
 

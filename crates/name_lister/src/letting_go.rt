@@ -4,9 +4,8 @@ use crate::answering::Running;
 use crate::leavings::{Leaving, Leavings};
 use crate::lister::{ListTurned, Lister};
 use crate::saving::Saving;
-use crate::views::Views;
 use bridge_core::Bridge;
-use listing_sessions::{Rows, Sessions};
+use listing_sessions::Sessions;
 use sliced_save::{Mirror, Slices};
 
 pub(crate) fn let_bridge_go(_bridge: Bridge) {}
@@ -17,9 +16,7 @@ pub(crate) fn let_leaving_go(_leaving: Leaving) {}
 
 pub(crate) fn let_leavings_go(_leavings: Leavings) {}
 
-pub(crate) fn let_rows_go(_rows: Option<Rows>) {}
-
-fn let_mirror_go(_mirror: Mirror) {}
+fn let_mirror_go(_mirror: Option<Mirror>) {}
 
 pub(crate) fn let_saving_go(saving: Option<Saving>) {
     if let Some(saving) = saving {
@@ -28,30 +25,26 @@ pub(crate) fn let_saving_go(saving: Option<Saving>) {
     }
 }
 
-fn let_views_go(views: Views) {
-    let Views { rows, mirror } = views;
-    let_rows_go(rows);
-    if let Some(mirror) = mirror {
-        let_mirror_go(mirror);
-    }
-}
-
 /// What a lister keeps beside its bridge.
-pub(crate) fn let_rest_go(views: Views, _sessions: Sessions, saving: Option<Saving>) {
-    let_views_go(views);
+pub(crate) fn let_rest_go(
+    mirror: Option<Mirror>,
+    _sessions: Sessions,
+    saving: Option<Saving>,
+) {
+    let_mirror_go(mirror);
     let_saving_go(saving);
 }
 
 fn let_lister_go(lister: Lister) {
     let Lister {
         bridge,
-        views,
+        mirror,
         sessions,
         page: _,
         saving,
     } = lister;
     let_bridge_go(bridge);
-    let_rest_go(views, sessions, saving);
+    let_rest_go(mirror, sessions, saving);
 }
 
 pub(crate) fn let_go(turned: ListTurned) {

@@ -9,10 +9,10 @@ mod leavings;
 mod letting_go;
 mod lister;
 mod listing;
+mod mirroring;
 mod replies;
 mod saving;
 mod slicing;
-mod views;
 
 pub use event::ListEvent;
 pub use laws::{accepted_commands, pinned_pages, saves_in_slices};

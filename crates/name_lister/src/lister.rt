@@ -25,10 +25,10 @@ ghost use Rattle.listing_sessions.specs.declared.page.TheConstants.{LARGEST_PAGE
 
 use crate::event::ListEvent;
 use crate::leavings::Leavings;
-use crate::letting_go::{let_bridge_go, let_rest_go, let_rows_go};
+use crate::letting_go::{let_bridge_go, let_rest_go};
+use crate::mirroring::{behind_connect, behind_disconnect};
 use crate::replies::refuse_running;
 use crate::saving::Saving;
-use crate::views::{Views, behind_connect, behind_disconnect, prepared};
 use bridge_core::{Bridge, ChainCommand, Event, OpenFault, Turned};
 use chain_state::Chain;
 use disk_model::Disk;
@@ -36,20 +36,22 @@ use dns_message::Transport;
 use frame_loop::ReplyBuf;
 use listing_sessions::Sessions;
 use nmc_base::{Hash32, NoMemory, Steps};
+use sliced_save::Mirror;
 use std::alloc::Global;
 use std::marker::Model;
 use std::sync::ledger::Ledger;
 
-/// A bridge that lists the names of its chain besides, and saves its index between events. It keeps the rows of the names, in their order, and
-/// the whole index once more, both up to each block. A listing session is pinned to the chain that it was opened on, and a save in slices to
-/// that which it was begun on; they share with what is kept what blocks have not changed since.
+/// A bridge that lists the names of its chain besides, and saves its index between events. It keeps a mirror of the index, up to each block.
+/// A listing session is pinned to the mirror of the chain that it was opened on, and a save in slices to that which it was begun on; they
+/// share with the mirror what blocks have not changed since.
 ///
-/// Contracts see the bridge, what is kept of its chain as it is now, the listing of each session, how many rows a page has, and the save in
+/// Contracts see the bridge, the mirror of its index as it is now, the listing of each session, how many rows a page has, and the save in
 /// slices that runs.
 #[derive(Drop)]
 pub struct Lister {
     pub(crate) bridge: Bridge,
-    pub(crate) views: Views,
+    // None behind a want of memory: then no listing is opened any more, and no save in slices is begun.
+    pub(crate) mirror: Option<Mirror>,
     pub(crate) sessions: Sessions,
     pub(crate) page: u32,
     // None while no save in slices runs.
@@ -64,7 +66,7 @@ impl Model for Lister {
 
     ghost Value = { Listed };
 
-    ghost view = { λ l. listed l.bridge l.views l.sessions l.page l.saving };
+    ghost view = { λ l. listed l.bridge l.mirror l.sessions l.page l.saving };
 
     ghost invariant = { λ l. (l.page ≤ LARGEST_PAGE) × IsSavingOf l.bridge.store l.saving };
 }
@@ -77,8 +79,8 @@ pub enum ListTurned {
 }
 
 impl Lister {
-    /// Opens the files as a bridge does, and then takes the rows of all names, and the index once more: each name is looked at twice, and
-    /// each coin once. Pages have so many rows. No session is open yet, and no save runs. Want of memory may come behind the opening too.
+    /// Opens the files as a bridge does, and then takes the index once more: each name and each coin is looked at once. Pages have so many
+    /// rows. No session is open yet, and no save runs. Want of memory may come behind the opening too.
     pub fn open<D: Disk, L: Ledger>(
         alloc: Global,
         disk: &mut D,
@@ -129,10 +131,10 @@ impl Lister {
                 return Err(NoMemory);
             }
         };
-        match Views::of(alloc, bridge.chain(), steps) {
-            Ok(views) => Ok(Lister {
+        match Mirror::of(alloc, bridge.chain(), steps) {
+            Ok(mirror) => Ok(Lister {
                 bridge,
-                views,
+                mirror: Some(mirror),
                 sessions,
                 page,
                 saving: None,
@@ -144,7 +146,7 @@ impl Lister {
         }
     }
 
-    /// Connects a block, and takes what is kept along.
+    /// Connects a block, and takes the mirror along.
     fn connect<D: Disk, L: Ledger>(
         self,
         alloc: Global,
@@ -160,21 +162,21 @@ impl Lister {
     {
         let Lister {
             bridge,
-            views,
+            mirror,
             sessions,
             page,
             saving,
         } = self;
         match bridge.turn(alloc, disk, ChainCommand::Connect(bytes), reply, steps) {
             Turned::Ended => {
-                let_rest_go(views, sessions, saving);
+                let_rest_go(mirror, sessions, saving);
                 ListTurned::Ended
             }
             Turned::On(bridge) => {
-                let views = behind_connect(alloc, views, reply, bridge.chain(), steps);
+                let mirror = behind_connect(alloc, mirror, reply, bridge.chain());
                 ListTurned::On(Lister {
                     bridge,
-                    views,
+                    mirror,
                     sessions,
                     page,
                     saving,
@@ -183,7 +185,7 @@ impl Lister {
         }
     }
 
-    /// Disconnects the newest block, and takes what is kept back to where it was before it.
+    /// Disconnects the newest block, and takes the mirror back to where it was before it.
     fn disconnect<D: Disk, L: Ledger>(
         self,
         alloc: Global,
@@ -198,23 +200,21 @@ impl Lister {
     {
         let Lister {
             bridge,
-            views,
+            mirror,
             sessions,
             page,
             saving,
         } = self;
-        let before = prepared(alloc, &views.rows, bridge.chain(), hash);
         match bridge.turn(alloc, disk, ChainCommand::Disconnect(hash), reply, steps) {
             Turned::Ended => {
-                let_rows_go(before);
-                let_rest_go(views, sessions, saving);
+                let_rest_go(mirror, sessions, saving);
                 ListTurned::Ended
             }
             Turned::On(bridge) => {
-                let views = behind_disconnect(alloc, views, before, reply);
+                let mirror = behind_disconnect(alloc, mirror, reply);
                 ListTurned::On(Lister {
                     bridge,
-                    views,
+                    mirror,
                     sessions,
                     page,
                     saving,
@@ -234,19 +234,19 @@ impl Lister {
         }
         let Lister {
             bridge,
-            views,
+            mirror,
             sessions,
             page,
             saving,
         } = self;
         match bridge.save(alloc, disk, reply) {
             Turned::Ended => {
-                let_rest_go(views, sessions, saving);
+                let_rest_go(mirror, sessions, saving);
                 ListTurned::Ended
             }
             Turned::On(bridge) => ListTurned::On(Lister {
                 bridge,
-                views,
+                mirror,
                 sessions,
                 page,
                 saving,
@@ -283,7 +283,7 @@ impl Lister {
         let (profile, height) = (chain.base().profile, height_of(chain));
         lister
             .sessions
-            .open(lister.views.rows.as_ref(), profile, height, reply);
+            .open(lister.mirror.as_ref(), profile, height, reply);
         ListTurned::On(lister)
     }
 
@@ -330,8 +330,8 @@ impl Lister {
     /// takes no memory. While a save runs in slices, a whole one has code 33. Neither takes a step on the tables. A fault of the disk is code FD,
     /// as of a command.
     ///
-    /// Where memory for what is kept ran out behind a command, that stays accepted, and open sessions and a save that runs go on; then each
-    /// later opening, or each later begin, has code FE.
+    /// Where memory for the mirror ran out behind a command, that stays accepted, and open sessions and a save that runs go on; then each
+    /// later opening, and each later begin, has code FE.
     ///
     /// What a session that is closed, or a save in slices that ends, alone held is let go of behind it, at each event a few parts of it.
     pub fn turn<D: Disk, L: Ledger>(

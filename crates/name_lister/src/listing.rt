@@ -106,7 +106,7 @@ fn list_counted<S: Source, K: Sink, D: Disk, L: Ledger>(
 /// Opens the files of the disk, and then reads frames from the source, at most `limit` bytes, and answers each on the sink: those of a
 /// replay as a replay does, and those of listing sessions, whose pages have so many rows.
 ///
-/// Want of memory ends it before anything is read: also where the rows of the names find none.
+/// Want of memory ends it before anything is read: also where the mirror of the index finds none.
 pub fn list<S: Source, K: Sink, D: Disk>(
     alloc: Global,
     source: &mut S,

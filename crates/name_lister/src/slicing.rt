@@ -127,7 +127,7 @@ impl Lister {
             refuse_save(reply, SaveRefusal::CheckpointLimit);
             return ListTurned::On(self);
         }
-        match pinned_now(self.views.mirror.as_ref()) {
+        match pinned_now(self.mirror.as_ref()) {
             Ok(slices) => self.begin_draft(disk, slices, reply),
             Err(NoMemory) => {
                 lack_memory(reply);
@@ -141,12 +141,12 @@ impl Lister {
         requires on_disk { IsTrue D.tells → IsListOn self (D.seen disk.old).moments.now }
         requires none { self.saving ≡ None }
         requires few { self.bridge.store.slots.count < most_selections }
-        requires pinned { IsPinnedBy self.views.mirror slices }
+        requires pinned { IsPinnedBy self.mirror slices }
         ensures { AnswersList D.tells D.seen self disk.old Begin reply.new result disk.new }
     {
         let Lister {
             bridge,
-            views,
+            mirror,
             sessions,
             page,
             saving,
@@ -159,7 +159,7 @@ impl Lister {
                 tell_begun(reply);
                 ListTurned::On(Lister {
                     bridge,
-                    views,
+                    mirror,
                     sessions,
                     page,
                     saving: Some(Saving { draft, slices }),
@@ -170,7 +170,7 @@ impl Lister {
                 refuse_save(reply, refusal);
                 ListTurned::On(Lister {
                     bridge,
-                    views,
+                    mirror,
                     sessions,
                     page,
                     saving: None,
@@ -178,7 +178,7 @@ impl Lister {
             }
             DraftTurned::Ended => {
                 let_slices_go(slices);
-                let_rest_go(views, sessions, None);
+                let_rest_go(mirror, sessions, None);
                 tell_fault(reply);
                 ListTurned::Ended
             }
@@ -199,7 +199,7 @@ impl Lister {
     {
         let Lister {
             bridge,
-            views,
+            mirror,
             sessions,
             page,
             saving,
@@ -208,7 +208,7 @@ impl Lister {
             refuse_idle(reply);
             return ListTurned::On(Lister {
                 bridge,
-                views,
+                mirror,
                 sessions,
                 page,
                 saving: None,
@@ -218,13 +218,13 @@ impl Lister {
         match tell_slice(turned, slices, reply, leavings) {
             Some((bridge, saving)) => ListTurned::On(Lister {
                 bridge,
-                views,
+                mirror,
                 sessions,
                 page,
                 saving,
             }),
             None => {
-                let_rest_go(views, sessions, None);
+                let_rest_go(mirror, sessions, None);
                 ListTurned::Ended
             }
         }

@@ -1,7 +1,8 @@
 -- The mirror of an index: made of its parts, with its newest block and without it.
-use Rattle.std.proofs.Common.{◌≡◌, ℕ, ◌-◌, arith, List, [], ◌∷◌, ◌++◌, length, map, reverse, take, drop, Some, None, refl, sym, ap, subst, ◌∙◌, length-append}
+use Rattle.std.proofs.Common.{◌≡◌, ℕ, ◌-◌, ◌≤◌, arith, List, [], ◌∷◌, ◌++◌, length, map, reverse, take, drop, Some, None, refl, sym, ap, subst, ◌∙◌, length-append}
 use Rattle.std.proofs.lemmas.List.{reverse-append, reverse-reverse}
 use Rattle.std.specs.List.{AllByRecursion}
+use Rattle.nmc_base.specs.Heights.{highest}
 use Rattle.nmc_base.specs.declared.chain_ends.Base.{Base}
 use Rattle.nmc_base.specs.declared.hashes.OutPoint.{OutPoint}
 use Rattle.chain_names.proofs.IndexLemmas.{index_undone}
@@ -12,13 +13,14 @@ use Rattle.chain_names.specs.Coins.{Maps}
 use Rattle.chain_names.specs.Limits.{IsWithinLimits}
 use Rattle.chain_names.specs.Log.{Log}
 use Rattle.chain_names.specs.Seen.{seen_undo}
-use Rattle.chain_names.specs.State.{IsState}
+use Rattle.chain_names.specs.State.{FitsItem, IsState, IsUpTo}
 use Rattle.chain_names.specs.Tables.{coins_in, names_in}
 use Rattle.chain_names.specs.Undo.{UndoRecord}
 use Rattle.chain_names.specs.UndoOf.{AreUndos}
 use Rattle.chain_names.specs.Writable.{HasShortName}
 use Rattle.chain_names.specs.declared.coin.Coin.{Coin}
 use Rattle.chain_names.specs.declared.coin.Coin.TheVariants.{New, Named}
+use Rattle.chain_names.specs.declared.coin.Item.{Item}
 use Rattle.chain_names.specs.declared.undo.Undo.{Undo}
 use Rattle.chain_state.specs.Chain.{ArePartsOf, Indexed, IsIndexed}
 use Rattle.chain_state.specs.Standing.{StandsForChain, chain_maps}
@@ -30,6 +32,7 @@ use Rattle.name_tables.specs.Tables.{maps_by}
 use Rattle.name_tables.specs.declared.tables.Tables.{Tables}
 use Rattle.sliced_save.specs.Changes.{AreFitNames, AreShortCoins, grown_ops, refreshed_helds, refreshed_ops}
 use Rattle.sliced_save.specs.Mirror.{CoinPairs, IsMirrorOf, Mirrored, MirrorsBefore, MirrorsChain, MirrorsIndex, NamePairs, coin_at, items_at, maps_below, maps_in, undos_below}
+use Rattle.sliced_save.specs.Rows.{HasFitRow}
 use Rattle.sliced_save.specs.Steps.{IsBack, IsForth, newest_of}
 use Rattle.sliced_save.proofs.ForthLemmas.{coins_forth, names_forth}
 
@@ -47,8 +50,15 @@ short_coin c indexed point (Named name height) here =
 pub coins_short : (c : Indexed) (tables : Tables) → IsIndexed c → tables ≡ c.tables → AreShortCoins (coins_in tables.coins)
 coins_short c tables indexed is = rw is (short_coin c indexed)
 
+fit_rows : (name : List ℕ) (tip : ℕ) (items : List Item) → tip ≤ highest → AllByRecursion (FitsItem name) items → AllByRecursion (IsUpTo tip) items → AllByRecursion (HasFitRow name) items
+fit_rows name tip [] low lengths heights = tt
+fit_rows name tip (item ∷ items) low lengths heights =
+    (record { lengths = lengths.0; low = omega (arith, low, heights.0) }, fit_rows name tip items low lengths.1 heights.1)
+
 pub names_fit : (c : Indexed) (tables : Tables) → IsIndexed c → tables ≡ c.tables → AreFitNames (names_in tables.names)
-names_fit c tables indexed is = rw is (λ name. (state_of c indexed).lengths name)
+names_fit c tables indexed is =
+    let state = state_of c indexed in
+    rw is (λ name. fit_rows name c.tip.height (names_in c.tables.names name) state.tip_height (state.lengths name) (state.item_heights name))
 
 pub undos_fit : (undos : List Undo) → AllByRecursion IsWithinLimits (newest_first undos) → AllByRecursion IsWithinLimits (map seen_undo undos)
 undos_fit undos limits = subst (AllByRecursion IsWithinLimits) (oldest_first undos) (all_reversed IsWithinLimits (newest_first undos) limits)

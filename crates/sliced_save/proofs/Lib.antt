@@ -2,6 +2,7 @@ pub mod PairLemmas
 pub mod CoinLemmas
 pub mod UndoLemmas
 pub mod NameLemmas
+pub mod RowLemmas
 pub mod FillLemmas
 pub mod LoopLemmas
 pub mod ForthLemmas

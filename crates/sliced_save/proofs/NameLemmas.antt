@@ -24,9 +24,10 @@ use Rattle.image_writer.specs.Lengths.{capped}
 use Rattle.image_writer.specs.Listed.{IsShortItem}
 use Rattle.shared_chunks.specs.Pairs.{AreInOrder, value_at, with_pair, without_key}
 use Rattle.sliced_save.specs.Changes.{ItemsByName, grown, grown_name}
-use Rattle.sliced_save.specs.Kept.{AreKeptNames, IsKeptItem, IsKeptName, names_length}
+use Rattle.sliced_save.specs.Kept.{AreKeptNames, IsKeptItem, IsKeptName, IsLowItem, names_length}
 use Rattle.sliced_save.specs.Lengths.{SetsLength, UnsetsLength, items_length, name_weight}
 use Rattle.sliced_save.specs.Mirror.{NamePairs, history_pair, items_at, items_or}
+use Rattle.sliced_save.specs.Rows.{HasFitRow}
 use Rattle.sliced_save.specs.declared.most.TheConstants.{MOST}
 use Rattle.sliced_save.proofs.PairLemmas.{all_found, all_with, all_without, exact_by, found_set, found_unset, set_size, unset_size}
 use Rattle.sliced_save.proofs.UndoLemmas.{all_take, size_last}
@@ -165,13 +166,17 @@ module _ (names : NamePairs) (name : List ℕ) (items : List Item) (last before 
 
 -- ---- items that fit
 
-pub short_items : (name : List ℕ) (items : List Item) → AllByRecursion (FitsItem name) items → AllByRecursion IsShortItem items
-short_items name items fits = all-weaker (FitsItem name) IsShortItem items (λ item fit. fit.value_length) fits
+pub short_items : (name : List ℕ) (items : List Item) → AllByRecursion (HasFitRow name) items → AllByRecursion IsShortItem items
+short_items name items fits = all-weaker (HasFitRow name) IsShortItem items (λ item fit. fit.lengths.value_length) fits
 
-pub fits_short : (name : List ℕ) (items : List Item) → (length items ≡ 0 → ⊥) → AllByRecursion (FitsItem name) items → IsWritableName name
-fits_short name items some fits = name_short name items (λ e. some (ap length e)) fits
+pub low_items : (name : List ℕ) (items : List Item) → AllByRecursion (HasFitRow name) items → AllByRecursion IsLowItem items
+low_items name items fits = all-weaker (HasFitRow name) IsLowItem items (λ item fit. fit.low) fits
 
-pub kept_grown : (name : List ℕ) (here items : List Item) → (length items ≡ 0 → ⊥) → AllByRecursion (FitsItem name) items → AllByRecursion IsKeptItem (grown here items) → IsKeptName (name, grown here items)
+pub fits_short : (name : List ℕ) (items : List Item) → (length items ≡ 0 → ⊥) → AllByRecursion (HasFitRow name) items → IsWritableName name
+fits_short name items some fits =
+    name_short name items (λ e. some (ap length e)) (all-weaker (HasFitRow name) (FitsItem name) items (λ item fit. fit.lengths) fits)
+
+pub kept_grown : (name : List ℕ) (here items : List Item) → (length items ≡ 0 → ⊥) → AllByRecursion (HasFitRow name) items → AllByRecursion IsKeptItem (grown here items) → IsKeptName (name, grown here items)
 kept_grown name here items some fits kept =
     record { short = fits_short name items some fits; some = grown_some here items (λ e. some (ap length e)); items = kept }
 

@@ -5,13 +5,13 @@ use Rattle.std.specs.Str.{bytes_eq}
 use Rattle.nmc_base.specs.declared.hashes.OutPoint.{OutPoint}
 use Rattle.chain_names.specs.Points.{same_point, changed}
 use Rattle.chain_names.specs.Tables.{CoinSlots, NameSlots, coins_in, names_in}
-use Rattle.chain_names.specs.State.{FitsItem}
 use Rattle.chain_names.specs.Writable.{HasShortName}
 use Rattle.chain_names.specs.declared.coin.Coin.{Coin}
 use Rattle.chain_names.specs.declared.coin.HeldCoin.{HeldCoin}
 use Rattle.chain_names.specs.declared.coin.Item.{Item}
 use Rattle.chain_names.specs.declared.undo.UndoOp.{UndoOp}
 use Rattle.chain_names.specs.declared.undo.UndoOp.TheVariants.{New as undo_new, First as undo_first, Update as undo_update}
+use Rattle.sliced_save.specs.Rows.{HasFitRow}
 
 -- the coin of each outpoint, and the items of each name
 abbrev pub CoinsByPoint : Type 0
@@ -62,4 +62,4 @@ abbrev pub AreShortCoins : CoinsByPoint → Type 0
 AreShortCoins coins = (point : OutPoint) (coin : Coin) → coins point ≡ Some coin → HasShortName coin
 
 abbrev pub AreFitNames : ItemsByName → Type 0
-AreFitNames names = (name : List ℕ) → AllByRecursion (FitsItem name) (names name)
+AreFitNames names = (name : List ℕ) → AllByRecursion (HasFitRow name) (names name)

@@ -4,6 +4,7 @@ use Rattle.std.specs.Cmp.Lexicographic.{slice_cmp}
 use Rattle.std.specs.List.{AllByRecursion, flat_map}
 use Rattle.std.specs.Ordering.{nat_cmp}
 use Rattle.nmc_base.specs.Hash.{outpoint_cmp}
+use Rattle.nmc_base.specs.Heights.{highest}
 use Rattle.nmc_base.specs.declared.hashes.OutPoint.{OutPoint}
 use Rattle.nmc_base.specs.declared.limits.TheConstants.{LONGEST_VALUE}
 use Rattle.chain_names.specs.Limits.{IsWithinLimits}
@@ -46,8 +47,12 @@ coins_length coins = length (flat_map held_text (map held_pair coins))
 
 -- ---- names
 
+abbrev pub IsLowItem : Item → Type 0
+IsLowItem item = item.height ≤ highest
+
 pub record IsKeptItem (item : Item) : Type 0 where
   pub short : length item.value ≤ LONGEST_VALUE
+  pub low : IsLowItem item
   pub measured : IsMeasuredItem item
 
 pub record IsKeptName (pair : List ℕ × List Item) : Type 0 where

@@ -1,4 +1,5 @@
 pub mod Mirror
+pub mod Rows
 pub mod Kept
 pub mod Changes
 pub mod Sliced

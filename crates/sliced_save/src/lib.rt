@@ -11,6 +11,7 @@ mod laws;
 mod mirror;
 mod most;
 mod names;
+mod rows;
 mod slices;
 mod stage;
 mod undos;
@@ -18,5 +19,6 @@ mod waste;
 
 pub use laws::mirrors_follow;
 pub use mirror::Mirror;
+pub use rows::Rows;
 pub use slices::Slices;
 pub use waste::MirrorWaste;

@@ -1,6 +1,9 @@
 ghost use Rattle.std.specs.Prelude.{◌≡◌, ℕ, ◌+◌, ◌<◌, ◌≤◌, List, length, IfOk, OnOk};
 ghost use Rattle.std.specs.Option.{option_map};
+ghost use Rattle.nmc_base.specs.declared.chain_ends.Base.{Base};
+ghost use Rattle.chain_names.specs.Coins.{history_of};
 ghost use Rattle.chain_names.specs.Limits.{IsWithinLimits};
+ghost use Rattle.chain_names.specs.Log.{Log, log_of};
 ghost use Rattle.chain_names.specs.Seen.{seen_undo};
 ghost use Rattle.chain_names.specs.Tables.{coins_in, names_in};
 ghost use Rattle.image_grammar.specs.Text.{image_text, IsStateText};
@@ -11,7 +14,8 @@ ghost use Rattle.undo_records.specs.declared.version.Version.TheVariants.{Two};
 ghost use Rattle.chain_state.specs.Chain.{Indexed, IsIndexed};
 ghost use Rattle.sliced_save.specs.Changes.{AreShortCoins, AreFitNames};
 ghost use Rattle.sliced_save.specs.Kept.{IsKept};
-ghost use Rattle.sliced_save.specs.Mirror.{MirrorsIndex, MirrorsBefore, mirror_image};
+ghost use Rattle.sliced_save.specs.Mirror.{MirrorsIndex, MirrorsBefore, MirrorsChain, items_at, mirror_image};
+ghost use Rattle.sliced_save.specs.Rows.{AreRowsOf};
 ghost use Rattle.sliced_save.specs.Steps.{IsForth, IsBack, newest_of};
 
 use crate::back::undo_newest;
@@ -19,6 +23,7 @@ use crate::coins::MirrorCoins;
 use crate::filling::{coins_of, names_of, undos_of};
 use crate::forth::{grow_ops, refresh_helds, refresh_ops};
 use crate::names::MirrorNames;
+use crate::rows::Rows;
 use crate::slices::Slices;
 use crate::undos::MirrorUndos;
 use crate::waste::MirrorWaste;
@@ -138,6 +143,19 @@ impl Mirror {
             coins,
             names,
         })
+    }
+
+    /// The rows of its names as they are now: whatever becomes of this mirror, they stay. It takes no memory: it is refused only where a
+    /// node can count no further holder.
+    pub fn pin_rows(&self) -> Result<Rows, NoMemory>
+        ensures rows { IfOk result (AreRowsOf (items_at self.now.names)) }
+        // Of the mirror of a chain's index they are the rows of the chain's names.
+        ensures chain { IfOk result (λ rows. (base : Base) (start : Log) (blocks : List (List ℕ)) → MirrorsChain base start blocks self.now
+            → AreRowsOf (history_of (log_of start base.height blocks)) rows) }
+    {
+        self.keeps();
+        let names = self.names.pin()?;
+        Ok(Rows::of(names))
     }
 
     /// What is to be let go of where it is given up: nothing where others stand over the same parts. It takes no memory, and lets go

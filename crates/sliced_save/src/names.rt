@@ -4,14 +4,14 @@ ghost use Rattle.std.specs.Option.{option_map};
 ghost use Rattle.std.specs.Str.{bytes_eq};
 ghost use Rattle.chain_names.specs.Changes.{without_entry};
 ghost use Rattle.chain_names.specs.Points.{changed};
-ghost use Rattle.chain_names.specs.State.{FitsItem};
 ghost use Rattle.chain_names.specs.Writable.{IsWritableName};
 ghost use Rattle.image_writer.specs.Lengths.{capped};
 ghost use Rattle.image_writer.specs.Listed.{IsShortItem};
 ghost use Rattle.sliced_save.specs.Changes.{grown, grown_name};
-ghost use Rattle.sliced_save.specs.Kept.{AreKeptNames, IsKeptItem, IsKeptName, names_length};
+ghost use Rattle.sliced_save.specs.Kept.{AreKeptNames, IsKeptItem, IsKeptName, IsLowItem, names_length};
 ghost use Rattle.sliced_save.specs.Lengths.{SetsLength, UnsetsLength, items_length};
 ghost use Rattle.sliced_save.specs.Mirror.{items_at};
+ghost use Rattle.sliced_save.specs.Rows.{HasFitRow};
 ghost use Rattle.sliced_save.specs.declared.most.TheConstants.{MOST};
 
 use crate::copies::copy_item;
@@ -59,7 +59,8 @@ impl MirrorNames {
 
     /// How many names there are.
     pub(crate) fn count(&self) -> usize
-        ensures { result ≡ length self.now }
+        ensures count { result ≡ length self.now }
+        ensures kept { AreKeptNames self.now }
     {
         self.map.len()
     }
@@ -78,6 +79,7 @@ impl MirrorNames {
         ensures pair { option_map (λ p. (p.0.now, p.1.now)) result ≡ slice_get self.now i }
         ensures kept { IfSome result (λ p. IsKeptName (p.0.now, p.1.now)) }
         ensures within { IfSome result (λ _. i + 1 < 2 ^ 64) }
+        ensures all { AreKeptNames self.now }
     {
         let _count = self.map.len();
         match self.map.at(i) {
@@ -152,7 +154,7 @@ impl MirrorNames {
         name: &[u8],
         items: &[Item],
     ) -> Result<(), NoMemory>
-        requires { AllByRecursion (FitsItem name.now) items.now }
+        requires { AllByRecursion (HasFitRow name.now) items.now }
         ensures { OnOk result (items_at self.new ≡ grown_name name.now items.now (items_at self.old)) }
     {
         if items.len() == 0 {
@@ -198,6 +200,7 @@ fn push_more(
 ) -> Result<u64, NoMemory>
     requires kept { AllByRecursion IsKeptItem here.old }
     requires short { AllByRecursion IsShortItem items.now }
+    requires low { AllByRecursion IsLowItem items.now }
     ensures items { OnOk result (here.new ≡ grown here.old items.now) }
     ensures kept { OnOk result (AllByRecursion IsKeptItem here.new) }
     ensures len { IfOk result (λ len. len ≡ capped (total + items_length (drop (length here.old) items.now))) }

@@ -22,7 +22,7 @@ pub returns-in-None : goal.returns-in-None
 returns-in-None c =
     let m = c.args.mirror.now in
     let past : None ≡ slice_get m.coins c.args.from = c.in-None.ensures.pair ∙ ap (λ (z : Mirrored). slice_get z.coins c.args.from) c.mirror.view_is in
-    let count : c.count.result ≡ length m.names = c.count.ensures ∙ ap (λ (z : Mirrored). length z.names) c.mirror.view_is in
+    let count : c.count.result ≡ length m.names = c.count.ensures.count ∙ ap (λ (z : Mirrored). length z.names) c.mirror.view_is in
     writes m (InCoins c.args.from) (InNames 0) c.put_count.new.page (to_le_bytes w32 (length m.names))
     (c.put_count.ensures.text ∙ ap (λ (l : List ℕ). l ++ to_le_bytes w32 c.count.result) c.requires ∙ ap (to_le_bytes w32) count)
     (omega (arith, c.put_count.ensures.grows.some)) (no_value held_pair held_text m.coins c.args.from (to_le_bytes w32 (length m.names) ++ names_left m 0) past)

@@ -23,12 +23,12 @@ returns-in-Begun g c =
     let after = c.begin_draft.new.disk in
     let inside = c.self.inside in
     let slices = c.args.slices in
-    let old = listed inside.bridge inside.views inside.sessions inside.page inside.saving in
+    let old = listed inside.bridge inside.mirror inside.sessions inside.page inside.saving in
     let none : inside.saving ≡ None = ap (λ (o : Listed). o.saving) c.self.view_is ∙ c.requires.none in
-    let pinned : IsPinnedBy inside.views.mirror slices = subst (λ (o : Listed). IsPinnedBy o.views.mirror slices) (sym c.self.view_is) c.requires.pinned in
+    let pinned : IsPinnedBy inside.mirror slices = subst (λ (o : Listed). IsPinnedBy o.mirror slices) (sym c.self.view_is) c.requires.pinned in
     let indexed : IsIndexed inside.bridge.store.index = subst IsIndexed c.chain.ensures c.parts-parts.ensures.sound in
-    let size : c.left.result ≡ length slices.text = c.left.ensures.left ∙ pinned_size inside.views.mirror slices pinned in
-    let new = listed c.in-Begun.bridge inside.views inside.sessions inside.page (Some (record { draft = c.in-Begun.draft; slices = slices })) in
+    let size : c.left.result ≡ length slices.text = c.left.ensures.left ∙ pinned_size inside.mirror slices pinned in
+    let new = listed c.in-Begun.bridge inside.mirror inside.sessions inside.page (Some (record { draft = c.in-Begun.draft; slices = slices })) in
     subst (λ (r : Reply). AnswersList tells seen c.args.self before Begin r (On new) after) (sym c.tell_begun.ensures)
     (subst (λ (o : Listed). AnswersList tells seen o before Begin begun_reply (On new) after) c.self.view_is
     (draft_begun tells seen old before after none indexed slices pinned c.left.result size c.in-Begun.bridge c.in-Begun.draft c.in-Begun.ensures.answer c.in-Begun.ensures.leaves c.in-Begun.ensures.answers))
@@ -41,14 +41,14 @@ returns-in-Refused g c =
     let after = c.begin_draft.new.disk in
     let inside = c.self.inside in
     let slices = c.args.slices in
-    let old = listed inside.bridge inside.views inside.sessions inside.page inside.saving in
+    let old = listed inside.bridge inside.mirror inside.sessions inside.page inside.saving in
     let none : inside.saving ≡ None = ap (λ (o : Listed). o.saving) c.self.view_is ∙ c.requires.none in
-    let pinned : IsPinnedBy inside.views.mirror slices = subst (λ (o : Listed). IsPinnedBy o.views.mirror slices) (sym c.self.view_is) c.requires.pinned in
+    let pinned : IsPinnedBy inside.mirror slices = subst (λ (o : Listed). IsPinnedBy o.mirror slices) (sym c.self.view_is) c.requires.pinned in
     let indexed : IsIndexed inside.bridge.store.index = subst IsIndexed c.chain.ensures c.parts-parts.ensures.sound in
-    let size : c.left.result ≡ length slices.text = c.left.ensures.left ∙ pinned_size inside.views.mirror slices pinned in
+    let size : c.left.result ≡ length slices.text = c.left.ensures.left ∙ pinned_size inside.mirror slices pinned in
     let few : inside.bridge.store.slots.count < most_selections = subst (λ (o : Listed). o.bridge.store.slots.count < most_selections) (sym c.self.view_is) c.requires.few in
     let on : IsTrue tells → IsListOn old (seen before).moments.now = subst (λ (o : Listed). IsTrue tells → IsListOn o (seen before).moments.now) (sym c.self.view_is) c.requires.on_disk in
-    let new = listed c.in-Refused.bridge inside.views inside.sessions inside.page None in
+    let new = listed c.in-Refused.bridge inside.mirror inside.sessions inside.page None in
     subst (λ (r : Reply). AnswersList tells seen c.args.self before Begin r (On new) after) (sym c.refuse_save.ensures)
     (subst (λ (o : Listed). AnswersList tells seen o before Begin (save_refusal_reply (save_refusal_of c.in-Refused.refusal)) (On new) after) c.self.view_is
     (draft_refused tells seen old before after none indexed slices pinned c.left.result size on c.in-Refused.bridge c.in-Refused.ensures.answers c.in-Refused.ensures.undone c.in-Refused.refusal few c.in-Refused.ensures.answer))
@@ -61,11 +61,11 @@ returns-in-Ended g c =
     let after = c.begin_draft.new.disk in
     let inside = c.self.inside in
     let slices = c.args.slices in
-    let old = listed inside.bridge inside.views inside.sessions inside.page inside.saving in
+    let old = listed inside.bridge inside.mirror inside.sessions inside.page inside.saving in
     let none : inside.saving ≡ None = ap (λ (o : Listed). o.saving) c.self.view_is ∙ c.requires.none in
-    let pinned : IsPinnedBy inside.views.mirror slices = subst (λ (o : Listed). IsPinnedBy o.views.mirror slices) (sym c.self.view_is) c.requires.pinned in
+    let pinned : IsPinnedBy inside.mirror slices = subst (λ (o : Listed). IsPinnedBy o.mirror slices) (sym c.self.view_is) c.requires.pinned in
     let indexed : IsIndexed inside.bridge.store.index = subst IsIndexed c.chain.ensures c.parts-parts.ensures.sound in
-    let size : c.left.result ≡ length slices.text = c.left.ensures.left ∙ pinned_size inside.views.mirror slices pinned in
+    let size : c.left.result ≡ length slices.text = c.left.ensures.left ∙ pinned_size inside.mirror slices pinned in
     let few : inside.bridge.store.slots.count < most_selections = subst (λ (o : Listed). o.bridge.store.slots.count < most_selections) (sym c.self.view_is) c.requires.few in
     subst (λ (r : Reply). AnswersList tells seen c.args.self before Begin r Ended after) (sym c.tell_fault.ensures)
     (subst (λ (o : Listed). AnswersList tells seen o before Begin fault_reply Ended after) c.self.view_is

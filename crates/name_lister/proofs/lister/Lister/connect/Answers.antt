@@ -1,17 +1,16 @@
-use Rattle.std.proofs.Common.{◌≡◌, ◌≤◌, ◌+◌, length, refl, sym, subst, arith}
+use Rattle.std.proofs.Common.{◌≡◌, refl, sym, subst}
 use Rattle.std.specs.Prelude.{IsTrue}
 use Rattle.chain_state.specs.Chain.{Indexed}
 use Rattle.chain_commands.specs.Event.{Connect, Do}
-use Rattle.kept_rows.specs.Rows.{newest_ops}
+use Rattle.index_commands.specs.Costs.{IsCheap}
 use Rattle.name_lister.specs.Answers.{AnswersList}
-use Rattle.name_lister.specs.Costs.{IsCheapListed}
 use Rattle.name_lister.specs.Event.{Plain}
-use Rattle.name_lister.specs.Kept.{AreViewsBefore, AreViewsNow}
+use Rattle.name_lister.specs.Kept.{IsMirrorBefore, IsMirrorNow}
 use Rattle.name_lister.specs.Lister.{Listed, listed, IsListOn}
 use Rattle.name_lister.specs.declared.lister.ListTurned.TheVariants.{On, Ended}
 use Rattle.name_lister.proofs.SaverLemmas.{asked_command}
 use Rattle.name_lister.proofs.StayLemmas.{stays_of, stays_on}
-use Rattle.name_lister.proofs.TurnLemmas.{plain_on, plain_ended, connected_views}
+use Rattle.name_lister.proofs.TurnLemmas.{plain_on, plain_ended, connected_mirror}
 use Rattle.name_lister.proofs.lister.Lister.connect.Goals as goal
 
 pub returns-in-On-clause-answers : goal.returns-in-On-clause-answers
@@ -21,15 +20,15 @@ returns-in-On-clause-answers g c =
     let bytes = c.args.bytes.now in
     let reply = c.turn.new.reply in
     let inside = c.self.inside in
-    let views = c.behind_connect-views.result in
-    let old = listed inside.bridge inside.views inside.sessions inside.page inside.saving in
-    let new = listed c.in-On.bridge views inside.sessions inside.page inside.saving in
+    let mirror = c.behind_connect-mirror.result in
+    let old = listed inside.bridge inside.mirror inside.sessions inside.page inside.saving in
+    let new = listed c.in-On.bridge mirror inside.sessions inside.page inside.saving in
     let on : IsTrue tells → IsListOn old (seen c.args.disk.now).moments.now = subst (λ (o : Listed). IsTrue tells → IsListOn o (seen c.args.disk.now).moments.now) (sym c.self.view_is) c.requires.on_disk in
     subst (λ (o : Listed). AnswersList tells seen o c.args.disk.now (Plain (Do (Connect bytes))) reply (On new) c.turn.new.disk) c.self.view_is
     (plain_on tells seen old c.args.disk.now c.turn.new.disk (Do (Connect bytes)) reply new (asked_command inside.saving (Connect bytes)) c.in-On.ensures.answers
-    (connected_views old new reply bytes
-    (subst (λ (i : Indexed). reply.code ≡ 0 → AreViewsBefore i inside.views → AreViewsNow i views) c.chain.ensures c.behind_connect-views.ensures.done)
-    c.behind_connect-views.ensures.same)
+    (connected_mirror old new reply bytes
+    (subst (λ (i : Indexed). reply.code ≡ 0 → IsMirrorBefore i inside.mirror → IsMirrorNow i mirror) c.chain.ensures c.behind_connect-mirror.ensures.done)
+    c.behind_connect-mirror.ensures.same)
     (record {
       held = refl;
       page = refl;
@@ -39,10 +38,8 @@ returns-in-On-clause-answers g c =
 
 pub returns-in-On-clause-cost : goal.returns-in-On-clause-cost
 returns-in-On-clause-cost g c = λ is_zero.
-    let few : c.behind_connect-views.new.steps ≤ c.turn.new.steps + length (newest_ops c.in-On.bridge.store.index.undos) =
-    subst (λ (i : Indexed). c.behind_connect-views.new.steps ≤ c.turn.new.steps + length (newest_ops i.undos)) c.chain.ensures c.behind_connect-views.ensures.cost in
-    subst (λ (o : Listed). IsCheapListed o.bridge.store.index (Connect c.args.bytes.now) c.in-On.bridge.store.index c.args.steps.now c.behind_connect-views.new.steps) c.self.view_is
-    (record { mid = c.turn.new.steps; cheap = c.in-On.ensures.cost is_zero; few_more = omega (arith, few) })
+    subst (λ (o : Listed). IsCheap o.bridge.store.index (Connect c.args.bytes.now) c.in-On.bridge.store.index c.args.steps.now c.turn.new.steps) c.self.view_is
+    (c.in-On.ensures.cost is_zero)
 
 pub invariant_of-result : goal.invariant_of-result
 invariant_of-result g c = (
@@ -53,6 +50,6 @@ invariant_of-result g c = (
 pub returns-in-Ended-clause-answers : goal.returns-in-Ended-clause-answers
 returns-in-Ended-clause-answers g c =
     let inside = c.self.inside in
-    let old = listed inside.bridge inside.views inside.sessions inside.page inside.saving in
+    let old = listed inside.bridge inside.mirror inside.sessions inside.page inside.saving in
     subst (λ (o : Listed). AnswersList g.D.Disk.tells g.D.Disk.seen o c.args.disk.now (Plain (Do (Connect c.args.bytes.now))) c.turn.new.reply Ended c.turn.new.disk) c.self.view_is
     (plain_ended g.D.Disk.tells g.D.Disk.seen old c.args.disk.now c.turn.new.disk (Do (Connect c.args.bytes.now)) c.turn.new.reply (asked_command inside.saving (Connect c.args.bytes.now)) c.in-Ended.ensures.answers)

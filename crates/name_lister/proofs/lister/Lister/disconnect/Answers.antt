@@ -1,17 +1,14 @@
-use Rattle.std.proofs.Common.{refl, sym, subst, arith}
+use Rattle.std.proofs.Common.{refl, sym, subst}
 use Rattle.std.specs.Prelude.{IsTrue}
-use Rattle.chain_state.specs.Chain.{Indexed}
 use Rattle.chain_commands.specs.Event.{Disconnect, Do}
-use Rattle.kept_rows.specs.Rows.{names_before, names_now}
+use Rattle.index_commands.specs.Costs.{IsCheap}
 use Rattle.name_lister.specs.Answers.{AnswersList}
-use Rattle.name_lister.specs.Costs.{IsCheapListed}
 use Rattle.name_lister.specs.Event.{Plain}
-use Rattle.name_lister.specs.Kept.{AreRowsBy}
 use Rattle.name_lister.specs.Lister.{Listed, listed, IsListOn}
 use Rattle.name_lister.specs.declared.lister.ListTurned.TheVariants.{On, Ended}
 use Rattle.name_lister.proofs.SaverLemmas.{asked_command}
 use Rattle.name_lister.proofs.StayLemmas.{stays_of, stays_on}
-use Rattle.name_lister.proofs.TurnLemmas.{plain_on, plain_ended, disconnected_views}
+use Rattle.name_lister.proofs.TurnLemmas.{plain_on, plain_ended, disconnected_mirror}
 use Rattle.name_lister.proofs.lister.Lister.disconnect.Goals as goal
 
 pub returns-in-On-clause-answers : goal.returns-in-On-clause-answers
@@ -21,18 +18,16 @@ returns-in-On-clause-answers g c =
     let hash = c.args.hash.0 in
     let reply = c.turn.new.reply in
     let inside = c.self.inside in
-    let views = c.behind_disconnect-views.result in
+    let mirror = c.behind_disconnect-mirror.result in
     let index = inside.bridge.store.index in
-    let old = listed inside.bridge inside.views inside.sessions inside.page inside.saving in
-    let new = listed c.in-On.bridge views inside.sessions inside.page inside.saving in
+    let old = listed inside.bridge inside.mirror inside.sessions inside.page inside.saving in
+    let new = listed c.in-On.bridge mirror inside.sessions inside.page inside.saving in
     let on : IsTrue tells → IsListOn old (seen c.args.disk.now).moments.now = subst (λ (o : Listed). IsTrue tells → IsListOn o (seen c.args.disk.now).moments.now) (sym c.self.view_is) c.requires.on_disk in
-    let prepared : AreRowsBy (names_now index) inside.views.rows → AreRowsBy (names_before index) c.prepared-before.result =
-    subst (λ (i : Indexed). AreRowsBy (names_now i) inside.views.rows → AreRowsBy (names_before i) c.prepared-before.result) c.chain.ensures c.prepared-before.ensures in
     subst (λ (o : Listed). AnswersList tells seen o c.args.disk.now (Plain (Do (Disconnect hash))) reply (On new) c.turn.new.disk) c.self.view_is
     (plain_on tells seen old c.args.disk.now c.turn.new.disk (Do (Disconnect hash)) reply new (asked_command inside.saving (Disconnect hash)) c.in-On.ensures.answers
-    (disconnected_views old new reply hash
-    (λ is_zero are. c.behind_disconnect-views.ensures.done is_zero index (prepared are.rows) are)
-    c.behind_disconnect-views.ensures.same)
+    (disconnected_mirror old new reply hash
+    (λ is_zero is. c.behind_disconnect-mirror.ensures.done is_zero index is)
+    c.behind_disconnect-mirror.ensures.same)
     (record {
       held = refl;
       page = refl;
@@ -42,8 +37,8 @@ returns-in-On-clause-answers g c =
 
 pub returns-in-On-clause-cost : goal.returns-in-On-clause-cost
 returns-in-On-clause-cost g c = λ is_zero.
-    subst (λ (o : Listed). IsCheapListed o.bridge.store.index (Disconnect c.args.hash.0) c.in-On.bridge.store.index c.args.steps.now c.turn.new.steps) c.self.view_is
-    (record { mid = c.turn.new.steps; cheap = c.in-On.ensures.cost is_zero; few_more = omega arith })
+    subst (λ (o : Listed). IsCheap o.bridge.store.index (Disconnect c.args.hash.0) c.in-On.bridge.store.index c.args.steps.now c.turn.new.steps) c.self.view_is
+    (c.in-On.ensures.cost is_zero)
 
 pub invariant_of-result : goal.invariant_of-result
 invariant_of-result g c = (
@@ -54,6 +49,6 @@ invariant_of-result g c = (
 pub returns-in-Ended-clause-answers : goal.returns-in-Ended-clause-answers
 returns-in-Ended-clause-answers g c =
     let inside = c.self.inside in
-    let old = listed inside.bridge inside.views inside.sessions inside.page inside.saving in
+    let old = listed inside.bridge inside.mirror inside.sessions inside.page inside.saving in
     subst (λ (o : Listed). AnswersList g.D.Disk.tells g.D.Disk.seen o c.args.disk.now (Plain (Do (Disconnect c.args.hash.0))) c.turn.new.reply Ended c.turn.new.disk) c.self.view_is
     (plain_ended g.D.Disk.tells g.D.Disk.seen old c.args.disk.now c.turn.new.disk (Do (Disconnect c.args.hash.0)) c.turn.new.reply (asked_command inside.saving (Disconnect c.args.hash.0)) c.in-Ended.ensures.answers)

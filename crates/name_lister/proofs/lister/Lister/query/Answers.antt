@@ -11,7 +11,7 @@ use Rattle.name_lister.specs.Lister.{Listed, listed, IsListOn}
 use Rattle.name_lister.specs.Saving.{IsSavingOn}
 use Rattle.name_lister.specs.declared.lister.ListTurned.TheVariants.{On}
 use Rattle.name_lister.proofs.SaverLemmas.{asked_message}
-use Rattle.name_lister.proofs.TurnLemmas.{plain_on, stay_views}
+use Rattle.name_lister.proofs.TurnLemmas.{plain_on, stay_mirror}
 use Rattle.name_lister.proofs.lister.Lister.query.Goals as goal
 
 pub returns : goal.returns
@@ -22,11 +22,11 @@ returns g c =
     let carrier = carrier_of c.args.transport in
     let message = c.args.message.now in
     let reply = c.query.new.reply in
-    let old = listed c.lister.inside.bridge c.lister.inside.views c.lister.inside.sessions c.lister.inside.page c.lister.inside.saving in
-    let new = listed c.query.new.self c.lister.inside.views c.lister.inside.sessions c.lister.inside.page c.lister.inside.saving in
+    let old = listed c.lister.inside.bridge c.lister.inside.mirror c.lister.inside.sessions c.lister.inside.page c.lister.inside.saving in
+    let new = listed c.query.new.self c.lister.inside.mirror c.lister.inside.sessions c.lister.inside.page c.lister.inside.saving in
     let on : IsTrue tells → IsListOn old (seen disk).moments.now = subst (λ (o : Listed). IsTrue tells → IsListOn o (seen disk).moments.now) (sym c.lister.view_is) c.requires.on_disk in
     subst (λ (o : Listed). AnswersList tells seen o disk (Plain (Ask carrier message)) reply (On new) disk) c.lister.view_is
     (plain_on tells seen old disk disk (Ask carrier message) reply new (asked_message old.saving carrier message)
     (asked_answers tells seen disk old.bridge new.bridge reply carrier message (λ told. (on told).store) c.query.ensures)
-    (stay_views old new reply (Ask carrier message) (λ run next step. ap chain_of step.unchanged) refl)
+    (stay_mirror old new reply (Ask carrier message) (λ run next step. ap chain_of step.unchanged) refl)
     (record { held = refl; page = refl; saving = refl; still = λ told. subst (λ (x : Stored). IsSavingOn x old.saving (seen disk).moments.now) (sym c.query.ensures.same_store) (on told).saving }))

@@ -10,7 +10,7 @@ use Rattle.name_lister.specs.Lister.{Listed, listed}
 use Rattle.name_lister.specs.declared.lister.ListTurned.TheVariants.{On, Ended}
 use Rattle.name_lister.proofs.BeginLemmas.{save_aside}
 use Rattle.name_lister.proofs.SaverLemmas.{asked_save, none_on}
-use Rattle.name_lister.proofs.TurnLemmas.{plain_on, plain_ended, stay_views}
+use Rattle.name_lister.proofs.TurnLemmas.{plain_on, plain_ended, stay_mirror}
 use Rattle.name_lister.proofs.lister.Lister.save.Goals as goal
 
 pub returns-in-On : goal.returns-in-On
@@ -20,17 +20,17 @@ returns-in-On g c =
     let reply = c.save.new.reply in
     let inside = c.self.inside in
     let none : IsFalse (is_some inside.saving) = sym c.is_some.ensures ∙ c.if-is_some.false in
-    let old = listed inside.bridge inside.views inside.sessions inside.page inside.saving in
-    let new = listed c.in-On.bridge inside.views inside.sessions inside.page inside.saving in
+    let old = listed inside.bridge inside.mirror inside.sessions inside.page inside.saving in
+    let new = listed c.in-On.bridge inside.mirror inside.sessions inside.page inside.saving in
     subst (λ (o : Listed). AnswersList tells seen o c.args.disk.now (Plain Save) reply (On new) c.save.new.disk) c.self.view_is
     (plain_on tells seen old c.args.disk.now c.save.new.disk Save reply new (asked_save inside.saving none) c.in-On.ensures
-    (stay_views old new reply Save (λ run next step. save_leaves_chain run next reply step) refl)
+    (stay_mirror old new reply Save (λ run next step. save_leaves_chain run next reply step) refl)
     (record { held = refl; page = refl; saving = refl; still = λ told. none_on inside.saving none c.in-On.bridge.store (seen c.save.new.disk).moments.now }))
 
 pub returns-in-Ended : goal.returns-in-Ended
 returns-in-Ended g c =
     let inside = c.self.inside in
-    let old = listed inside.bridge inside.views inside.sessions inside.page inside.saving in
+    let old = listed inside.bridge inside.mirror inside.sessions inside.page inside.saving in
     subst (λ (o : Listed). AnswersList g.D.Disk.tells g.D.Disk.seen o c.args.disk.now (Plain Save) c.save.new.reply Ended c.save.new.disk) c.self.view_is
     (plain_ended g.D.Disk.tells g.D.Disk.seen old c.args.disk.now c.save.new.disk Save c.save.new.reply (asked_save inside.saving (sym c.is_some.ensures ∙ c.if-is_some.false)) c.in-Ended.ensures)
 

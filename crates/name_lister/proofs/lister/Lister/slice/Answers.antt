@@ -19,8 +19,8 @@ returns-in_default-clause-answers g c =
     let seen = g.D.Disk.seen in
     let disk = c.args.disk.now in
     let inside = c.self.inside in
-    let old = listed inside.bridge inside.views inside.sessions inside.page None in
-    let is : old ≡ c.args.self = ap (λ (s : Option Saving). listed inside.bridge inside.views inside.sessions inside.page s) (sym c.in_default.is) ∙ c.self.view_is in
+    let old = listed inside.bridge inside.mirror inside.sessions inside.page None in
+    let is : old ≡ c.args.self = ap (λ (s : Option Saving). listed inside.bridge inside.mirror inside.sessions inside.page s) (sym c.in_default.is) ∙ c.self.view_is in
     let on : IsTrue tells → IsListOn old (seen disk).moments.now = subst (λ (o : Listed). IsTrue tells → IsListOn o (seen disk).moments.now) (sym is) c.requires.on_disk in
     subst (λ (r : Reply). AnswersList tells seen c.args.self disk (Slice c.args.asked) r (On old) disk) (sym c.refuse_idle.ensures)
     (subst (λ (o : Listed). AnswersList tells seen o disk (Slice c.args.asked) no_save_reply (On old) disk) is
@@ -36,7 +36,7 @@ returns-in-None-clause-answers g c =
     let saving = c.in-Some.saving in
     let turned = c.write_slice-turned.result.0 in
     let rest = c.write_slice-turned.result.1 in
-    let old = listed inside.bridge inside.views inside.sessions inside.page inside.saving in
+    let old = listed inside.bridge inside.mirror inside.sessions inside.page inside.saving in
     let writes = subst (λ (most : ℕ). WritesSlice tells seen inside.bridge saving most before after turned rest) c.slice_size.ensures c.write_slice-turned.ensures in
     let on : IsTrue tells → IsListOn old (seen before).moments.now = subst (λ (o : Listed). IsTrue tells → IsListOn o (seen before).moments.now) (sym c.self.view_is) c.requires.on_disk in
     let of : IsSavingOf inside.bridge.store (Some saving) = subst (IsSavingOf inside.bridge.store) c.in-Some.is c.self.invariant.1 in
@@ -55,9 +55,9 @@ returns-in-Some-tell_slice-clause-answers g c =
     let saving = c.in-Some.saving in
     let turned = c.write_slice-turned.result.0 in
     let rest = c.write_slice-turned.result.1 in
-    let old = listed inside.bridge inside.views inside.sessions inside.page inside.saving in
+    let old = listed inside.bridge inside.mirror inside.sessions inside.page inside.saving in
     let writes = subst (λ (most : ℕ). WritesSlice tells seen inside.bridge saving most before after turned rest) c.slice_size.ensures c.write_slice-turned.ensures in
-    let new = listed c.in-Some-tell_slice.bridge inside.views inside.sessions inside.page c.in-Some-tell_slice.saving in
+    let new = listed c.in-Some-tell_slice.bridge inside.mirror inside.sessions inside.page c.in-Some-tell_slice.saving in
     let on : IsTrue tells → IsListOn old (seen before).moments.now = subst (λ (o : Listed). IsTrue tells → IsListOn o (seen before).moments.now) (sym c.self.view_is) c.requires.on_disk in
     let of : IsSavingOf inside.bridge.store (Some saving) = subst (IsSavingOf inside.bridge.store) c.in-Some.is c.self.invariant.1 in
     subst (λ (o : Listed). AnswersList tells seen o before (Slice c.args.asked) c.tell_slice.new.reply (On new) after) c.self.view_is
@@ -75,6 +75,6 @@ invariant_of-result-in-Some-tell_slice g c =
     let saving = c.in-Some.saving in
     let turned = c.write_slice-turned.result.0 in
     let rest = c.write_slice-turned.result.1 in
-    let old = listed inside.bridge inside.views inside.sessions inside.page inside.saving in
+    let old = listed inside.bridge inside.mirror inside.sessions inside.page inside.saving in
     let writes = subst (λ (most : ℕ). WritesSlice tells seen inside.bridge saving most before after turned rest) c.slice_size.ensures c.write_slice-turned.ensures in
     (c.self.invariant.0, subst KeepsSaving (sym c.tell_slice.ensures.left ∙ c.in-Some-tell_slice.is) (slice_keeps tells seen old before after saving (slice_size c.args.asked) rest turned writes))

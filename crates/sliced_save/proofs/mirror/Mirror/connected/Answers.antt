@@ -1,11 +1,15 @@
 use Rattle.chain_names.specs.Seen.{seen_undo}
 use Rattle.name_tables.specs.Parts.{tables_of}
-use Rattle.sliced_save.proofs.IndexMirror.{coins_short, index_joined}
+use Rattle.sliced_save.proofs.IndexMirror.{coins_short, index_joined, names_fit}
 use Rattle.sliced_save.proofs.mirror.Mirror.connected.Goals as goal
 
 pub bring_in-requires-clause-coins : goal.bring_in-requires-clause-coins
 bring_in-requires-clause-coins c =
     coins_short c.args.chain.now (tables_of c.parts-parts.result.now) c.parts-parts.ensures.sound c.parts-parts.ensures.parts.tables
+
+pub bring_in-requires-clause-names : goal.bring_in-requires-clause-names
+bring_in-requires-clause-names c =
+    names_fit c.args.chain.now (tables_of c.parts-parts.result.now) c.parts-parts.ensures.sound c.parts-parts.ensures.parts.tables
 
 pub returns-in_ok-bring_in-in-Some : goal.returns-in_ok-bring_in-in-Some
 returns-in_ok-bring_in-in-Some c =

@@ -4,7 +4,7 @@ use Rattle.chain_names.specs.Limits.{IsWithinLimits}
 use Rattle.chain_names.specs.Seen.{seen_undo}
 use Rattle.chain_names.specs.declared.undo.Undo.{Undo}
 use Rattle.name_tables.specs.Parts.{tables_of}
-use Rattle.sliced_save.proofs.IndexMirror.{coins_short, undos_fit}
+use Rattle.sliced_save.proofs.IndexMirror.{coins_short, names_fit, undos_fit}
 use Rattle.sliced_save.proofs.mirror.Mirror.of.Goals as goal
 
 pub undos_of-requires : goal.undos_of-requires
@@ -14,3 +14,7 @@ undos_of-requires g c =
 pub coins_of-requires-clause-short : goal.coins_of-requires-clause-short
 coins_of-requires-clause-short g c =
     coins_short c.args.chain.now (tables_of c.parts-parts.result.now) c.parts-parts.ensures.sound c.parts-parts.ensures.parts.tables
+
+pub names_of-requires : goal.names_of-requires
+names_of-requires g c =
+    names_fit c.args.chain.now (tables_of c.parts-parts.result.now) c.parts-parts.ensures.sound c.parts-parts.ensures.parts.tables

@@ -1,5 +1,5 @@
 use Rattle.sliced_save.specs.Mirror.{items_at}
-use Rattle.sliced_save.proofs.NameLemmas.{fits_short, kept_grown, none_grown, none_of_none, short_items}
+use Rattle.sliced_save.proofs.NameLemmas.{fits_short, kept_grown, low_items, none_grown, none_of_none, short_items}
 use Rattle.sliced_save.proofs.names.MirrorNames.grow.Goals as goal
 
 pub returns-then-items-eq0 : goal.returns-then-items-eq0
@@ -10,6 +10,9 @@ items_of-requires c = rw c.in_ok-key.ensures.bytes (fits_short c.args.name.now c
 
 pub push_more-requires-clause-short : goal.push_more-requires-clause-short
 push_more-requires-clause-short c = short_items c.args.name.now c.args.items.now c.requires
+
+pub push_more-requires-clause-low : goal.push_more-requires-clause-low
+push_more-requires-clause-low c = low_items c.args.name.now c.args.items.now c.requires
 
 pub set-requires-clause-kept : goal.set-requires-clause-kept
 set-requires-clause-kept c =

@@ -1,3 +1,0 @@
-pub mod IndexRows
-pub mod RowLemmas
-pub mod StepLemmas
