@@ -29,16 +29,16 @@ pub struct Held {
 /// The one place where a chain is let go.
 pub fn let_go(_: Held) {}
 
-fn number_of(refusal: &CommandRefusal) -> Answer {
+fn answer_to(refusal: &CommandRefusal) -> Answer {
     match refusal {
-        CommandRefusal::Connect(refusal) => number_of_connect(refusal),
+        CommandRefusal::Connect(refusal) => answer_to_block(refusal),
         CommandRefusal::Disconnect(BackRefusal::NotTip { .. }) => (6, 0),
         CommandRefusal::Disconnect(BackRefusal::AtBase) => (7, 0),
         CommandRefusal::Disconnect(BackRefusal::JournalFull) => (5, 0),
     }
 }
 
-fn number_of_connect(refusal: &Refusal) -> Answer {
+fn answer_to_block(refusal: &Refusal) -> Answer {
     match refusal {
         Refusal::BadBlock { at } => (1, *at),
         Refusal::NotOnTip { .. } => (2, 0),
@@ -53,7 +53,7 @@ fn number_of_connect(refusal: &Refusal) -> Answer {
 fn settled<L: Ledger>(outcome: CommandOutcome, steps: &mut Steps<L>) -> (Chain, Answer) {
     match outcome {
         CommandOutcome::Staged(staged) => (staged.commit(steps), (0, 0)),
-        CommandOutcome::Refused(chain, refusal) => (chain, number_of(&refusal)),
+        CommandOutcome::Refused(chain, refusal) => (chain, answer_to(&refusal)),
         CommandOutcome::NoMemory(chain) => (chain, NO_MEMORY),
     }
 }
