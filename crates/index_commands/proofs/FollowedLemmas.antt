@@ -1,6 +1,6 @@
 -- All commands behind a gate.
-use Rattle.std.proofs.Common.{◌≡◌, ℕ, ◌+◌, ◌<◌, Bool, List, length, take, Ok, Err, sym, ap, subst, arith}
-use Rattle.std.specs.Prelude.{IsTrue, Result}
+use Rattle.std.proofs.Common.{◌≡◌, ℕ, ◌+◌, ◌<◌, Bool, List, length, take, Ok, Err, sym, subst, arith}
+use Rattle.std.specs.Prelude.{IsTrue}
 use Rattle.gate_journal.specs.Stand.{Stand}
 use Rattle.gate_journal.specs.declared.faults.JournalFault.{JournalFault}
 use Rattle.gate_journal.specs.declared.faults.JournalFault.TheVariants as journal

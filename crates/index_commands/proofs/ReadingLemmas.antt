@@ -1,5 +1,5 @@
 -- Following the records of an area one by one.
-use Rattle.std.proofs.Common.{◌≡◌, inl, inr, ℕ, ◌+◌, ◌-◌, ◌≤◌, Bool, true, false, List, [], ◌∷◌, length, Ok, Err, refl, sym, ap, subst, arith}
+use Rattle.std.proofs.Common.{◌≡◌, inl, inr, ℕ, ◌+◌, ◌-◌, ◌≤◌, Bool, true, false, List, [], ◌∷◌, length, Ok, Err, sym, ap, subst, arith}
 use Rattle.std.specs.Prelude.{IsTrue, not, IsErrOf}
 use Rattle.std.proofs.Common.{rules}
 use Rattle.disk_model.specs.Moments.{Files, EachMoment}

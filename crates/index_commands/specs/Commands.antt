@@ -1,6 +1,6 @@
 -- The commands of an area: behind its front the records, each that of a command that the index takes at its turn. Lists of commands
 -- have the newest first, as those of a run state.
-use Rattle.std.specs.Prelude.{ℕ, ◌<◌, List, [], ◌++◌, length}
+use Rattle.std.specs.Prelude.{ℕ, ◌<◌, List, ◌++◌, length}
 use Rattle.gate_journal.specs.Gate.{IsRecordAt, IsClosed}
 use Rattle.gate_journal.specs.Records.{HasRecordsTo, records_text}
 use Rattle.chain_state.specs.Chain.{Indexed}

@@ -1,4 +1,4 @@
-use Rattle.std.proofs.Common.{rules, ◌≡◌, ℕ, ◌∙◌, ◌≤◌, List, Ok, Err, sym, ap, subst, refl}
+use Rattle.std.proofs.Common.{rules, ℕ, ◌∙◌, ◌≤◌, Ok, Err, sym, ap, subst}
 use Rattle.std.specs.Prelude.{IsTrue}
 use Rattle.disk_model.specs.DiskSeen.{bytes_in}
 use Rattle.gate_journal.proofs.ReadLemmas.{unchanged_then}

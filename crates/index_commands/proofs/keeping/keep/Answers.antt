@@ -1,7 +1,5 @@
-use Rattle.std.proofs.Common.{List, ℕ, ◌∷◌, subst}
-use Rattle.std.proofs.Common.{ap, ◌∙◌}
+use Rattle.std.proofs.Common.{List, ℕ, subst}
 use Rattle.index_commands.specs.Keeping.{Keeps}
-use Rattle.index_commands.specs.Records.{record_of}
 use Rattle.index_commands.specs.Views.{command_of}
 use Rattle.index_commands.proofs.SizeLemmas.{record_parts}
 use Rattle.index_commands.proofs.keeping.keep.Goals as goal

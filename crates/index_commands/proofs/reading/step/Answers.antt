@@ -1,4 +1,4 @@
-use Rattle.std.proofs.Common.{List, ℕ, Ok, Err, sym, subst, arith}
+use Rattle.std.proofs.Common.{List, ℕ, Ok, Err, subst, arith}
 use Rattle.disk_model.specs.DiskSeen.{bytes_in}
 use Rattle.index_commands.specs.Following.{FollowsRecord}
 use Rattle.index_commands.specs.declared.following.Unfollowed.{Unfollowed}
