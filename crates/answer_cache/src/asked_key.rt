@@ -1,3 +1,5 @@
+//! What is asked, as a key that an answer can be looked for by without a copy.
+
 ghost use Rattle.std.specs.Prelude.{◌≡◌, ◌++◌, ◌∷◌, [], if◌then◌else◌};
 ghost use Rattle.std.specs.Cmp.{on_per, on_equiv};
 ghost use Rattle.answer_cache.specs.Keys.{key_of, key_number, same_key, key_writes};

@@ -1,3 +1,5 @@
+//! What an answer is kept under.
+
 ghost use Rattle.std.specs.Prelude.{◌≡◌, OnOk};
 ghost use Rattle.answer_cache.specs.Keys.{key_of, same_key, key_writes};
 ghost use Rattle.answer_cache.specs.KeyLaws.{same_key-equivalence, same_key-partial_equivalence, same_writes};

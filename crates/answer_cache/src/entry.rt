@@ -1,3 +1,5 @@
+//! An answer that is kept, with its key.
+
 ghost use Rattle.std.specs.Prelude.{◌≡◌, ◌++◌, OnOk};
 ghost use Rattle.answer_cache.specs.Keys.{key_of};
 

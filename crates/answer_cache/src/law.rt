@@ -1,3 +1,5 @@
+//! Laws of the cache. Each is the contract of a function that does nothing.
+
 ghost use Rattle.std.specs.Prelude.{◌≡◌, ℕ, List, [], Some, None};
 ghost use Rattle.std.specs.Bool.{Decides};
 ghost use Rattle.answer_cache.specs.Keys.{same_key};

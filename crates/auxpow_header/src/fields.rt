@@ -1,3 +1,5 @@
+//! The fields of the 80 bytes of a header.
+
 ghost use Rattle.std.specs.Prelude.{◌≡◌};
 ghost use Rattle.block_grammar.specs.Reading.{fields_from};
 ghost use Rattle.wire_read.specs.Seen.{seen};

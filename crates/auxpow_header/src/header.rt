@@ -1,3 +1,5 @@
+//! A header with its merge-mining part, read in place.
+
 ghost use Rattle.std.specs.Prelude.{◌≡◌, ℕ, ◌↔◌, Ok, IsTrue};
 ghost use Rattle.block_grammar.specs.PureHeader.{IsMerged};
 ghost use Rattle.block_grammar.specs.Header.{header_hash, header_text, FitsHeader};

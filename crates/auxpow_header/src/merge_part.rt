@@ -1,3 +1,5 @@
+//! Where the merge-mining part of a header ends.
+
 ghost use Rattle.std.specs.Prelude.{◌≡◌};
 ghost use Rattle.block_grammar.specs.Combinators.{many_from};
 ghost use Rattle.block_grammar.specs.Reading.{transaction_from, piece_from, branch_from, merge_part_from, merged_from};

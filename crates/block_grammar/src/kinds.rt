@@ -1,3 +1,5 @@
+//! The kinds of faults that bytes may have which are no block.
+
 /// Why bytes are no transaction, or no header with its merge-mining part.
 #[derive(Clone, Copy, PartialEq, Eq, Debug)]
 pub enum TxKind {

@@ -1,3 +1,5 @@
+//! The name operation that a made block carries.
+
 use nmc_base::{Hash20, OutPoint};
 
 /// The greatest length of what a push holds behind a number of two bytes (Bitcoin's OP_PUSHDATA2).

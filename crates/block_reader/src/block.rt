@@ -1,3 +1,5 @@
+//! A block, read in place.
+
 ghost use Rattle.std.specs.Prelude.{◌≡◌, ◌≤◌, ◌<◌, ◌+◌, ◌^◌, length, Ok};
 ghost use Rattle.block_grammar.specs.Block as full;
 ghost use Rattle.block_grammar.specs.Block.{count_outputs};

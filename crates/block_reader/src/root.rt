@@ -1,3 +1,5 @@
+//! The Merkle root of a block, and the ids of its transactions.
+
 ghost use Rattle.std.specs.Prelude.{◌≡◌, ◌≤◌, ◌++◌, ◌∷◌, [], map, length, drop, IfOk};
 ghost use Rattle.block_grammar.specs.Transaction.{txid_of};
 ghost use Rattle.block_grammar.specs.Merkle.{paired_row, merkle_root_of, block_root};

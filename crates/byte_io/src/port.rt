@@ -1,3 +1,5 @@
+//! What datagrams, streams and a feed come from, and where their replies go.
+
 ghost use Rattle.std.specs.Prelude.{◌≡◌, [], ◌∷◌, length};
 ghost use Rattle.byte_io.specs.declared.port.TheConstants.{POLL_ROOM};
 ghost use Rattle.byte_io.specs.Port.{

@@ -1,3 +1,5 @@
+//! What a port sent, told in the order in which it went.
+
 /// What a port in memory sent, or that it dropped a connection.
 #[derive(Clone, Copy, PartialEq, Eq, Debug)]
 pub enum Sent<'a> {

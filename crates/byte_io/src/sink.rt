@@ -1,3 +1,5 @@
+//! What takes bytes.
+
 ghost use Rattle.byte_io.specs.Sink.{SinkSeen, Writes};
 
 use crate::errors::Failed;

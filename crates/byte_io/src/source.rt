@@ -1,3 +1,5 @@
+//! What bytes are read from.
+
 ghost use Rattle.byte_io.specs.Source.{SourceSeen, Reads};
 
 use crate::errors::Failed;

@@ -1,3 +1,5 @@
+//! Coins of name outputs, and values of names.
+
 use nmc_base::{Bytes, CompactBytes, Hash20, OutPoint};
 
 /// The coin of a name output: what the output holds, and the height of its block.

@@ -1,3 +1,5 @@
+//! What undoes a name operation, as records keep it in little memory.
+
 ghost use Rattle.std.specs.Prelude.{◌≡◌};
 ghost use Rattle.chain_names.specs.declared.undo.UndoOp.{UndoOp};
 ghost use Rattle.chain_names.specs.declared.undo.UndoOp.TheVariants.{New as undo_new, First as undo_first, Update as undo_update};

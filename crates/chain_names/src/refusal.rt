@@ -1,3 +1,5 @@
+//! Why the rules on names refuse a transaction.
+
 ghost use Rattle.std.specs.Prelude.{◌≡◌};
 ghost use Rattle.chain_names.specs.Refusals.{number_of};
 

@@ -1,3 +1,5 @@
+//! What undoes a block.
+
 use crate::coin::{Coin, HeldCoin, Item};
 use crate::kept_op::KeptOp;
 use nmc_base::{Boxed, CompactBytes, Hash32, OutPoint, RoomyList};

@@ -1,3 +1,5 @@
+//! Takes the newest block off, in two steps of which the second can't fail.
+
 ghost use Rattle.std.specs.Prelude.{◌≡◌, ◌+◌, ◌*◌, ◌≤◌, ◌≢◌, []};
 ghost use Rattle.chain_state.specs.StageBack.{StagesBack, IsBackCheap, IsDisconnected, back_commit_steps, newest_work};
 ghost use Rattle.chain_state.specs.Chain.{SameIndex};

@@ -1,3 +1,5 @@
+//! What the transactions of a block do to names, one after the other.
+
 ghost use Rattle.std.specs.Prelude.{◌≡◌, ◌+◌, ◌*◌, ◌<◌, ◌≤◌, ◌^◌, [], length, map, drop};
 ghost use Rattle.block_grammar.specs.Transaction.{txid_of};
 ghost use Rattle.block_reader.specs.Rows.{seen_row};

@@ -1,3 +1,5 @@
+//! The index of a chain.
+
 ghost use Rattle.std.specs.Prelude.{◌≡◌, ◌+◌, ◌≤◌, IfOk};
 ghost use Rattle.nmc_base.specs.declared.limits.TheConstants.{HIGHEST_HEIGHT};
 ghost use Rattle.name_tables.specs.Tables.{AreFilled};

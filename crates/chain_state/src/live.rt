@@ -1,3 +1,5 @@
+//! The value of a name that is served.
+
 ghost use Rattle.std.specs.Prelude.{◌≡◌, ◌<◌};
 ghost use Rattle.std.specs.Option.{option_copied};
 ghost use Rattle.chain_names.specs.Coins.{entry_of};

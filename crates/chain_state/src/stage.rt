@@ -1,3 +1,5 @@
+//! Stages a block: all that may be refused, and all memory that it takes.
+
 ghost use Rattle.std.specs.Prelude.{◌≡◌, ◌<◌, map, IfOk, IfErr, IsOk};
 ghost use Rattle.nmc_base.specs.declared.limits.TheConstants.{HIGHEST_HEIGHT};
 ghost use Rattle.block_grammar.specs.Merkle.{block_root};

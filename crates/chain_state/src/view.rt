@@ -1,3 +1,5 @@
+//! The tables as the rules on names look at them.
+
 ghost use Rattle.std.specs.Prelude.{◌≡◌, ◌≤◌, List, ℕ, Some};
 ghost use Rattle.chain_names.specs.declared.coin.Item.{Item};
 ghost use Rattle.chain_names.specs.Coins.{entry_of};

@@ -1,3 +1,5 @@
+//! Work that was done for a whole block, to be committed or abandoned.
+
 ghost use Rattle.std.specs.Prelude.{◌≡◌, ◌+◌, ◌*◌, ◌<◌, ◌≤◌, suc, length, IfSome, IfNone, IfOk, IfErr};
 ghost use Rattle.nmc_base.specs.Expiry.{expiry_depth};
 ghost use Rattle.nmc_base.specs.Heights.{highest};

@@ -1,3 +1,5 @@
+//! Work on the tables for one block, which can be undone.
+
 ghost use Rattle.std.specs.Prelude.{◌≡◌, ◌+◌, ◌*◌, ◌≤◌, ◌∷◌, [], length, None, Some, IfOk, OnOk, OnErr};
 ghost use Rattle.chain_names.specs.declared.undo.UndoOp.TheVariants.{New as undo_new};
 ghost use Rattle.chain_names.specs.declared.coin.Coin.{Coin};

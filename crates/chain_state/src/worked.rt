@@ -1,3 +1,5 @@
+//! A block's work from its first transaction to the coins that expire.
+
 ghost use Rattle.std.specs.Prelude.{◌≡◌, ◌+◌, ◌<◌, ◌^◌, [], length, map};
 ghost use Rattle.block_grammar.specs.Block.{count_outputs};
 ghost use Rattle.block_grammar.specs.Transaction.{txid_of};

@@ -1,3 +1,5 @@
+//! The trait of a disk with three files, which may crash at any moment.
+
 ghost use Rattle.std.specs.Prelude.{◌<◌, ◌≤◌, ℕ, Bool, length, IsTrue};
 ghost use Rattle.disk_model.specs.FileState.{IsFileImage};
 ghost use Rattle.disk_model.specs.DiskSeen.{DiskSeen, file_in, bytes_in, Measures, ReadsAt, WritesAt, CutsTo, Syncs};

@@ -1,3 +1,5 @@
+//! Laws of crashes. Each is the contract of a function that does nothing.
+
 ghost use Rattle.std.specs.Prelude.{◌≡◌, ◌⊎◌, ℕ, ◌≤◌, List, IsTrue};
 ghost use Rattle.disk_model.specs.FileState.{IsFileImage, IsSettled};
 ghost use Rattle.disk_model.specs.Moments.{Files, Moments, EachMoment, IsImage, LeftSince, clock};

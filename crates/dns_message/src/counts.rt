@@ -1,3 +1,5 @@
+//! The sections of a reply, and how many records stand in each.
+
 ghost use Rattle.std.specs.Prelude.{◌≡◌, ◌+◌, ◌<◌};
 ghost use Rattle.dns_message.specs.Edns.{additionals_of_reply};
 ghost use Rattle.dns_message.specs.Replies.{header_by};

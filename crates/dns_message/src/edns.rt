@@ -1,3 +1,5 @@
+//! The OPT record of a query, and that of its reply.
+
 ghost use Rattle.std.specs.Prelude.{◌≡◌, ◌+◌, ◌≤◌, ◌&&◌, ◌++◌, [], length, take};
 ghost use Rattle.dns_message.specs.Edns.{opt_text, edns_of_reply, opt_of_reply, opt_size_of_reply, additionals_of_reply};
 ghost use Rattle.dns_message.specs.Reading.{begins_opt, has_additional, opt_at, additional_at};

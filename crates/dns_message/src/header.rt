@@ -1,3 +1,5 @@
+//! The header of a message.
+
 ghost use Rattle.std.specs.Prelude.{◌≡◌, ◌==◌, ◌≤◌, ◌+◌, ◌++◌, length, drop};
 ghost use Rattle.dns_message.specs.Header.{header_text, flags_of_reply, qr_of, opcode_of};
 ghost use Rattle.dns_message.specs.Reading.{word_at, header_at};

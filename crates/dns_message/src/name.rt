@@ -1,3 +1,5 @@
+//! How long a name on the wire is.
+
 ghost use Rattle.std.specs.Prelude.{◌≡◌, ◌↔◌, ◌≤◌, IsTrue};
 ghost use Rattle.domain_text.specs.Reading.{name_length};
 ghost use Rattle.domain_text.specs.declared.limits.TheConstants.{LONGEST_LABEL};

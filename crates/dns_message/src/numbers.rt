@@ -1,3 +1,5 @@
+//! Numbers of the message format.
+
 /// The bytes of a header (RFC 1035, 4.1.1).
 pub const HEADER_SIZE: usize = 12;
 

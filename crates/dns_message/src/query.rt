@@ -1,3 +1,5 @@
+//! Reads a query.
+
 ghost use Rattle.std.specs.Prelude.{◌≡◌, ◌↔◌, option_map};
 ghost use Rattle.dns_message.specs.Query.{Reading, ReadsAs, IsQuery, IfQuery, IsByVersion, query_of, asked_of};
 ghost use Rattle.dns_message.specs.Reading.{query_at, with_additional, reading_behind, reading_of};

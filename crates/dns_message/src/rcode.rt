@@ -1,3 +1,5 @@
+//! The response codes.
+
 /// No error (RFC 1035, 4.1.1).
 pub const NOERROR: u8 = 0;
 

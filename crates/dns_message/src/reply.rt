@@ -1,3 +1,5 @@
+//! A reply that is being written.
+
 ghost use Rattle.std.specs.Prelude.{◌≡◌, ◌+◌, ◌≤◌, ◌++◌, length, take, drop};
 ghost use Rattle.domain_text.specs.Names.{IsName};
 ghost use Rattle.dns_message.specs.Edns.{opt_of_reply, opt_size_of_reply};

@@ -1,3 +1,5 @@
+//! What carries a message, and how long its reply may be.
+
 ghost use Rattle.std.specs.Prelude.{◌≡◌, ◌≤◌};
 ghost use Rattle.dns_message.specs.Limits.{limit_of, most_of, udp_limit};
 ghost use Rattle.dns_message.specs.Query.{query_of};

@@ -1,3 +1,5 @@
+//! Puts pieces into a buffer.
+
 ghost use Rattle.std.specs.Prelude.{◌≡◌, ◌+◌, ◌≤◌, ◌++◌, length, take, drop};
 ghost use Rattle.domain_text.specs.Names.{lower};
 

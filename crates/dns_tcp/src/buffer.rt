@@ -1,3 +1,5 @@
+//! The bytes of one client that are no whole message yet.
+
 ghost use Rattle.std.specs.Prelude.{◌≡◌, ◌≤◌, ◌+◌, ◌-◌, ◌++◌, [], length, drop, vec_capacity, IfOk};
 ghost use Rattle.dns_tcp.specs.Buffer.{Steps};
 ghost use Rattle.dns_tcp.specs.declared.buffer.TheConstants.{CAPACITY};

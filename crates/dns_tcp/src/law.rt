@@ -1,3 +1,5 @@
+//! Laws of streams. Each is the contract of a function that does nothing.
+
 ghost use Rattle.std.specs.Prelude.{◌≡◌, ℕ, ◌<◌, ◌≤◌, List, [], ◌∷◌, ◌++◌, length, Some, None};
 ghost use Rattle.dns_tcp.specs.Messages.{IsMessage, message_text, Messages, IsPartialMessage, BeginsWith, AreBytes, HasSplitting};
 ghost use Rattle.dns_tcp.specs.Streams.{Stream, left_of, with_left, without, MayHold, AreStreams};

@@ -1,3 +1,5 @@
+//! The length of the message with which bytes begin.
+
 ghost use Rattle.std.specs.Prelude.{◌≡◌};
 ghost use Rattle.dns_tcp.specs.Messages.{IsFront};
 

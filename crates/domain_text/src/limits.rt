@@ -1,3 +1,5 @@
+//! How long labels and names may be.
+
 /// No label has more bytes (RFC 1035, 2.3.4).
 pub const LONGEST_LABEL: usize = 63;
 

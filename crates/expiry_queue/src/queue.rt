@@ -1,3 +1,5 @@
+//! The outpoints of named coins, by the height of their blocks.
+
 ghost use Rattle.std.specs.Prelude.{◌≡◌, ◌+◌, [], true, false, None, length, nat_eq, slice_get, IfOk, OnOk, OnErr};
 ghost use Rattle.std.specs.List.{IsDistinct};
 ghost use Rattle.std.specs.Map.{lookup};

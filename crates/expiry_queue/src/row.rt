@@ -1,3 +1,5 @@
+//! The outpoints of one height.
+
 ghost use Rattle.std.specs.Prelude.{◌≡◌, [], true, false, Some, length, slice_get, OnOk, OnErr};
 ghost use Rattle.std.specs.List.{IsDistinct};
 ghost use Rattle.std.specs.Map.{keys_of, lookup};

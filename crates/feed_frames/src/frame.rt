@@ -1,3 +1,5 @@
+//! A whole frame, where it lies.
+
 /// A whole frame: its kind byte, and its payload, which lies where it was fed.
 #[derive(Clone, Copy, Debug)]
 pub struct Frame<'a> {

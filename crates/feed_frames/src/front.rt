@@ -1,3 +1,5 @@
+//! What stands at the front of a stream of frames.
+
 ghost use Rattle.std.specs.Prelude.{◌≡◌, ◌↔◌, IsTrue};
 ghost use Rattle.std.specs.List.{list_any};
 ghost use Rattle.feed_frames.specs.Kinds.{IsKind, IsLength, is_of_kind, allows};

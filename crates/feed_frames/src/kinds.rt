@@ -1,3 +1,5 @@
+//! The table of the kinds of frames.
+
 use nmc_base::LONGEST_BLOCK;
 
 /// A kind of frame, and the least and the greatest length of its payload.

@@ -1,3 +1,5 @@
+//! Laws of the splitting into frames. Each is the contract of a function that does nothing.
+
 ghost use Rattle.std.specs.Prelude.{◌≡◌, ℕ, List, [], ◌∷◌, ◌++◌, length, map};
 ghost use Rattle.feed_frames.specs.Frames.{Frame, frames_text, Splits, IsRest, IsBadFrame, IsPartialFrame};
 ghost use Rattle.feed_frames.specs.Feed.{Feed};

@@ -1,3 +1,5 @@
+//! A reader of frames that is fed in any pieces.
+
 ghost use Rattle.std.specs.Prelude.{◌≡◌, ◌<◌, ◌≤◌, ◌+◌, ◌-◌, ◌^◌, [], length, take, drop, Some, None, IfOk, IfSome};
 ghost use Rattle.std.specs.Borrow.{sem};
 ghost use Rattle.feed_frames.specs.Frames.{IsPartialFrame};

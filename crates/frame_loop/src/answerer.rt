@@ -1,3 +1,5 @@
+//! What answers frames, one at a time.
+
 ghost use Rattle.std.specs.Prelude.{ℕ, List};
 ghost use Rattle.feed_frames.specs.Frames.{Frame as Framed};
 ghost use Rattle.feed_frames.specs.Replies.{Reply};

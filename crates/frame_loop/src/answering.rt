@@ -1,3 +1,5 @@
+//! Answers the whole frames that are there.
+
 ghost use Rattle.std.specs.Prelude.{◌≡◌};
 ghost use Rattle.frame_loop.specs.Answering.{AnswersNext, AnswersAll, desk};
 

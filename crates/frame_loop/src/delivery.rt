@@ -1,3 +1,5 @@
+//! Gives a whole text to a sink.
+
 ghost use Rattle.frame_loop.specs.Delivery.{Delivers, TookUpTo};
 
 use byte_io::Sink;

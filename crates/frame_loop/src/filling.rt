@@ -1,3 +1,5 @@
+//! Room for what a read gives, and reading into it.
+
 ghost use Rattle.std.specs.Prelude.{◌≡◌, ◌≤◌, ◌<◌, ◌+◌, ◌^◌, length, IfOk};
 ghost use Rattle.feed_frames.specs.declared.reader.TheConstants.{PIECE};
 ghost use Rattle.feed_frames.specs.Frames.{IsPartialFrame};

@@ -1,3 +1,5 @@
+//! Reads frames from a source and answers each on a sink, to the end.
+
 ghost use Rattle.std.specs.Prelude.{◌<◌, ◌^◌};
 ghost use Rattle.frame_loop.specs.Transcript.{Follows, streams};
 

@@ -1,3 +1,5 @@
+//! Laws of a run over a stream. Each is the contract of a function that does nothing.
+
 ghost use Rattle.frame_loop.specs.Transcript.{Streams, Transcript};
 ghost use Rattle.frame_loop.specs.Determined.{IsDetermined, IsComplete};
 ghost use Rattle.frame_loop.specs.declared.answerer.TheConstants.{QUERY, STREAM_QUERY};

@@ -1,3 +1,5 @@
+//! Where the replies to frames go.
+
 ghost use Rattle.std.specs.Prelude.{◌≡◌};
 ghost use Rattle.feed_frames.specs.Replies.{Reply, reply_text};
 ghost use Rattle.frame_loop.specs.Answering.{GivesOne};

@@ -1,3 +1,5 @@
+//! The reply to one frame, as text.
+
 ghost use Rattle.std.specs.Prelude.{◌≡◌, ◌≤◌, ◌+◌, ◌++◌, ◌<◌, ◌^◌, length, vec_capacity, [], IfOk};
 ghost use Rattle.feed_frames.specs.Replies.{reply_text};
 ghost use Rattle.frame_loop.specs.declared.reply.TheConstants.{LONGEST_REPLY};

@@ -1,3 +1,5 @@
+//! Why a journal isn't opened, read or appended to.
+
 use disk_model::Failed;
 use nmc_base::NoMemory as NoBytes;
 

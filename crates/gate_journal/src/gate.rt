@@ -1,3 +1,5 @@
+//! Opens the gate behind which a record counts.
+
 // Gates, and their opening.
 ghost use Rattle.std.specs.Prelude.{◌≡◌, ◌<◌, ◌∷◌, [], length, IsTrue, OnOk};
 ghost use Rattle.disk_model.specs.FileState.{IsSettled, put};

@@ -1,3 +1,5 @@
+//! A journal in a file: makes it, appends to it, opens it and reads its records.
+
 ghost use Rattle.std.specs.Prelude.{◌≡◌, ◌+◌, ◌^◌, ◌<◌, ◌≤◌, true, length, IsTrue, IsErrOf};
 ghost use Rattle.disk_model.specs.FileState.{IsSettled};
 ghost use Rattle.disk_model.specs.DiskSeen.{file_in, bytes_in};

@@ -1,3 +1,5 @@
+//! Laws of journals. Each is the contract of a function that does nothing.
+
 ghost use Rattle.std.specs.Prelude.{◌≡◌, ◌⊎◌, ◌+◌, ◌<◌, ◌^◌, ◌∷◌, ◌++◌, [], ℕ, List, length, take, All};
 ghost use Rattle.disk_model.specs.FileState.{FileState, IsSettled};
 ghost use Rattle.gate_journal.specs.Stand.{Stand, IsAtGate, text_before};

@@ -1,3 +1,5 @@
+//! Reads what stands behind a gate.
+
 // Reading the start of a record: its gate and its length.
 ghost use Rattle.std.specs.Prelude.{◌≡◌, ◌<◌, ◌+◌, ◌^◌, length, IsTrue, IfOk, IfSome};
 ghost use Rattle.std.specs.Int.{w32, from_le_bytes, to_le_bytes};

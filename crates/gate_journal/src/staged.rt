@@ -1,3 +1,5 @@
+//! Writes a record behind a gate that is still closed.
+
 // The writes of an append behind the closed gate.
 ghost use Rattle.std.specs.Prelude.{◌≡◌, ◌<◌, ◌≤◌, ◌+◌, ◌^◌, ◌∷◌, ◌++◌, [], length, take, IsTrue, OnOk};
 ghost use Rattle.std.specs.Int.{w32, to_le_bytes};

@@ -1,3 +1,5 @@
+//! The compression of RIPEMD-160.
+
 // The compression of a block of 64 bytes: two lines of 80 steps.
 
 ghost use Rattle.std.specs.Prelude.{◌≡◌, ◌+◌, ◌<◌, ◌≤◌, length};

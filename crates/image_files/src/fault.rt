@@ -1,3 +1,5 @@
+//! Why no index is read from an area.
+
 ghost use Rattle.std.specs.Prelude.{◌≡◌};
 ghost use Rattle.image_files.specs.Faults as faults;
 ghost use Rattle.image_files.specs.Faults.{HasPlace};

@@ -1,3 +1,5 @@
+//! Laws of saves and of damage. Each is the contract of a function that does nothing.
+
 ghost use Rattle.std.specs.Prelude.{◌⊎◌, ◌≡◌, ◌+◌, ◌≤◌, ◌^◌, ℕ, List, length, reverse};
 ghost use Rattle.disk_model.specs.FileState.{IsFileImage};
 ghost use Rattle.disk_model.specs.Moments.{Files};

@@ -1,3 +1,5 @@
+//! A law: each reading of an image comes to an end.
+
 ghost use Rattle.std.specs.Prelude.{◌≡◌, ◌≢◌, ℕ, ◌<◌, List, Ok};
 ghost use Rattle.image_grammar.specs.Stages.{Standing, in_names, step_from};
 ghost use Rattle.image_grammar.specs.Work.{work_left};

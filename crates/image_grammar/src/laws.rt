@@ -1,3 +1,5 @@
+//! Laws of the text of an image. Each is the contract of a function that does nothing.
+
 ghost use Rattle.std.specs.Prelude.{◌≡◌, ℕ, ◌<◌, ◌≤◌, ◌^◌, List, [], ◌∷◌, ◌++◌, length, replicate, reverse, slice_index, Ok, Err};
 ghost use Rattle.undo_records.specs.declared.fault.FaultKind.TheVariants.{Cut, BadTag};
 ghost use Rattle.sound_states.specs.Walk.{HasFewCoins};

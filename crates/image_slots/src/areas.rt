@@ -1,3 +1,5 @@
+//! Which area counts behind so many selections, and which is drafted.
+
 // The files: that of the selections, and the two areas.
 ghost use Rattle.std.specs.Prelude.{◌≡◌};
 ghost use Rattle.image_slots.specs.Selections.{selected_by, drafted_by};

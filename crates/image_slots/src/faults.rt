@@ -1,3 +1,5 @@
+//! Why slots aren't opened, and why an image isn't drafted or selected.
+
 use disk_model::Failed;
 use gate_journal::JournalFault;
 

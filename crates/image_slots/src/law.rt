@@ -1,3 +1,5 @@
+//! Laws of selections. Each is the contract of a function that does nothing.
+
 ghost use Rattle.std.specs.Prelude.{◌≡◌, ◌≢◌, ◌⊎◌, ◌+◌, ◌≤◌, ◌∷◌, ◌++◌, [], ℕ, List, length, take};
 ghost use Rattle.disk_model.specs.Moments.{Files};
 ghost use Rattle.disk_model.specs.Changes.{LeavesOthers};

@@ -1,3 +1,5 @@
+//! How many selections there may be, and how long an image may get.
+
 ghost use Rattle.std.specs.Prelude.{◌≢◌, ◌≤◌, IfErr, MatchResult};
 ghost use Rattle.image_slots.specs.Answers.{HasRoom, RefusalAnswer};
 

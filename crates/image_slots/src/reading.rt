@@ -1,3 +1,5 @@
+//! Counts the selections of file 0.
+
 // Reading the selections, one after the other.
 ghost use Rattle.std.specs.Prelude.{◌≡◌, ◌↔◌, ◌+◌, ◌≤◌, take, IsTrue, OnOk, OnErr, IfOk, MatchResult};
 ghost use Rattle.disk_model.specs.Moments.{EachMoment};

@@ -1,3 +1,5 @@
+//! Appends a selection.
+
 // Making a selection: its record is appended to file 0.
 ghost use Rattle.std.specs.Prelude.{◌≡◌, ◌+◌, ◌*◌, ◌<◌, ◌≤◌, List, ℕ, IsTrue};
 ghost use Rattle.disk_model.specs.DiskSeen.{file_in};

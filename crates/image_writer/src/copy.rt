@@ -1,3 +1,5 @@
+//! Copies bytes into a buffer, as many as have room.
+
 ghost use Rattle.std.specs.Prelude.{◌≡◌, ◌+◌, ◌-◌, ◌++◌, ◌≤◌, drop, length, min, take};
 
 /// Copies bytes into the buffer, from a place on, as many as there are or as have room there. Answers how many.

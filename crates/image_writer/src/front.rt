@@ -1,3 +1,5 @@
+//! The first bytes of a key, by which keys are put in order.
+
 ghost use Rattle.std.specs.Prelude.{◌≡◌};
 ghost use Rattle.image_writer.specs.Front.{padded};
 

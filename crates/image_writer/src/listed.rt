@@ -1,3 +1,5 @@
+//! Coins and names in the order in which an image lists them.
+
 use crate::places::FilledCoins;
 use name_table::Table;
 

@@ -1,3 +1,5 @@
+//! Room for the bytes of one value of an image.
+
 ghost use Rattle.std.specs.Prelude.{◌≡◌, ◌+◌, ◌++◌, ◌≤◌, [], length};
 ghost use Rattle.image_writer.specs.declared.page.TheConstants.{PAGE};
 

@@ -1,3 +1,5 @@
+//! Writes an image value by value.
+
 ghost use Rattle.std.specs.Prelude.{◌≡◌, []};
 ghost use Rattle.std.specs.List.{AllByRecursion};
 ghost use Rattle.chain_names.specs.Limits.{IsWithinLimitsOp, HoldsName};

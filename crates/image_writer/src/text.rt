@@ -1,3 +1,5 @@
+//! The text of an image, given out in pieces.
+
 ghost use Rattle.std.specs.Prelude.{◌≡◌, ℕ, ◌+◌, ◌-◌, ◌++◌, ◌≤◌, drop, length, min, take, IfOk};
 ghost use Rattle.name_tables.specs.Parts.{newest_first, tables_of};
 ghost use Rattle.name_tables.specs.Tables.{maps_by, AreFilled};

@@ -1,3 +1,5 @@
+//! A listing that is paged through.
+
 ghost use Rattle.std.specs.Prelude.{◌≡◌, ◌+◌, ◌*◌, ◌<◌, ◌≤◌, ◌++◌, Some, length, not, slice_get, take, vec_capacity, vec_len};
 ghost use Rattle.std.specs.List.{flat_map};
 ghost use Rattle.listing_sessions.specs.Listing.{row_text};

@@ -1,3 +1,5 @@
+//! The text of a page.
+
 ghost use Rattle.std.specs.Prelude.{◌≡◌, ◌+◌, ◌≤◌, ◌∷◌, ◌++◌, length, vec_capacity, vec_len};
 ghost use Rattle.std.specs.Int.{w32, to_le_bytes};
 ghost use Rattle.listing_sessions.specs.Listing.{flag, row_text};

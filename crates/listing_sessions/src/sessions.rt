@@ -1,3 +1,5 @@
+//! The sessions that are open.
+
 ghost use Rattle.std.specs.Prelude.{◌≡◌, ◌≤◌, ◌<◌, IfOk, IsTrue, MatchBool, Some, None, length, slice_get, slice_set, vec_capacity, vec_len};
 ghost use Rattle.std.specs.Option.{option_map};
 ghost use Rattle.nmc_base.specs.Heights.{highest};

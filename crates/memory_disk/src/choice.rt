@@ -1,3 +1,5 @@
+//! What a crash leaves of what isn't settled.
+
 /// What a crash leaves of the bytes that are not settled, and of a length that is not.
 #[derive(Clone, Copy, Debug, PartialEq, Eq)]
 pub enum Choice {

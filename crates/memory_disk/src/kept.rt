@@ -1,3 +1,5 @@
+//! A call to a file, kept with what it did.
+
 // The calls that a disk in memory keeps.
 
 /// A call to one of the files.

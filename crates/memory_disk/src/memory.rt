@@ -1,3 +1,5 @@
+//! The disk in memory.
+
 ghost use Rattle.std.specs.Prelude.{◌≡◌, ◌⊎◌, ◌<◌, ◌≤◌, ◌∷◌, ◌&&◌, true, false, [], ℕ, nat_lt, length, map, slice_index_or, OnErr, IfOk};
 ghost use Rattle.fault_counts.specs.Counts.{after_refusal, faults_of};
 ghost use Rattle.fault_counts.specs.Faults.{NeverFell, Rose};

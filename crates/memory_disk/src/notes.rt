@@ -1,3 +1,5 @@
+//! Notes each call as it is made.
+
 // How a disk in memory counts a call and keeps it.
 ghost use Rattle.std.specs.Prelude.{◌≡◌, ◌<◌, ◌∷◌, ◌++◌, [], false, vec_len, vec_capacity, IsTrue, IsFalse};
 ghost use Rattle.fault_counts.specs.Counts.{faults_of, is_next_listed, after_call};

@@ -1,3 +1,5 @@
+//! Puts bytes into a file.
+
 // Bytes put over those of a file.
 ghost use Rattle.std.specs.Prelude.{◌≡◌, IfOk, OnOk, OnErr};
 ghost use Rattle.disk_model.specs.FileState.{put};

@@ -1,3 +1,5 @@
+//! A file after some of the calls that were kept, and what a crash then leaves of it.
+
 // A file built again from the calls that a disk in memory keeps.
 ghost use Rattle.std.specs.Prelude.{◌≡◌, ◌<◌, ◌+◌, ◌&&◌, ◌||◌, ℕ, List, false, true, length, replicate, slice_index, slice_index_or, nat_lt, nat_le, max, if◌then◌else◌, IfOk, OnOk};
 ghost use Rattle.disk_model.specs.FileState.{FileState, synced_file};

@@ -1,3 +1,5 @@
+//! Which bytes of a file calls have touched.
+
 // What calls that failed touched of a file, where no list has room for them: no memory is taken for that.
 ghost use Rattle.std.specs.Prelude.{◌≡◌, ℕ, List, [], length, IfOk};
 ghost use Rattle.disk_model.specs.FileState.{FileState, synced_file};

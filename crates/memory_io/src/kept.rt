@@ -1,3 +1,5 @@
+//! What a port in memory keeps of polls and calls.
+
 // What a port in memory keeps: the polls to come, and a note of each call.
 ghost use Rattle.std.specs.Prelude.{◌≡◌, length, IfOk};
 ghost use Rattle.std.specs.Option.{option_map};

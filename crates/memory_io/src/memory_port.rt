@@ -1,3 +1,5 @@
+//! A port in memory, whose listed calls fail.
+
 ghost use Rattle.std.specs.Prelude.{◌≡◌, ◌∷◌, ◌++◌, [], drop, length, slice_get, Some, IfOk, OnOk, OnErr, is_err, is_ok, if◌then◌else◌};
 ghost use Rattle.std.specs.Option.{option_map};
 ghost use Rattle.fault_counts.specs.Counts.{after_call, after_refusal, faults_of, is_next_listed};

@@ -1,3 +1,5 @@
+//! A sink in memory, whose listed writes fail.
+
 ghost use Rattle.std.specs.Prelude.{◌≡◌, ◌||◌, if◌then◌else◌, [], length, IfOk, IsErr, IsTrue, is_ok};
 ghost use Rattle.fault_counts.specs.Counts.{
   after_call,

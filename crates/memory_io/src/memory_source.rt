@@ -1,3 +1,5 @@
+//! A source in memory, whose listed reads fail.
+
 ghost use Rattle.std.specs.Prelude.{◌≡◌, ◌++◌, length, min, take, drop, IfOk, MatchResult, is_err};
 ghost use Rattle.byte_io.specs.Source.{Reads};
 ghost use Rattle.memory_io.specs.MemorySource.{memory_seen};

@@ -1,3 +1,5 @@
+//! The bytes that a poll brings.
+
 ghost use Rattle.std.specs.Prelude.{◌≡◌, ◌≤◌, length, take, IfOk};
 ghost use Rattle.byte_io.specs.declared.port.TheConstants.{POLL_ROOM};
 

@@ -1,3 +1,5 @@
+//! The notes of a port's calls.
+
 ghost use Rattle.std.specs.Prelude.{◌≡◌, [], true, slice_get};
 ghost use Rattle.std.specs.Option.{option_map};
 ghost use Rattle.memory_io.specs.Kept.{outgoing, seen_note, seen_send, sent_note};

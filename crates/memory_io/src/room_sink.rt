@@ -1,3 +1,5 @@
+//! A sink with a fixed room, which never fails.
+
 ghost use Rattle.std.specs.Prelude.{◌≡◌, ◌-◌, ◌≤◌, length, min, IfOk, IsOk};
 ghost use Rattle.byte_io.specs.Sink.{Writes};
 ghost use Rattle.memory_io.specs.RoomSink.{empty_room, room_seen};

@@ -1,3 +1,5 @@
+//! A source over a slice, which never fails.
+
 ghost use Rattle.std.specs.Prelude.{◌≡◌, ◌++◌, length, min, take, drop, IfOk, IsOk};
 ghost use Rattle.byte_io.specs.Source.{Reads};
 ghost use Rattle.memory_io.specs.MemorySource.{steady_seen};

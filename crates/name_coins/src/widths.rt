@@ -1,3 +1,5 @@
+//! That coins are as wide as their fields.
+
 ghost use Rattle.chain_names.specs.declared.coin.Coin.TheVariants.{New};
 ghost use Rattle.chain_names.specs.Measured.{IsMeasuredCoin};
 

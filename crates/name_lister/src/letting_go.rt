@@ -26,11 +26,7 @@ pub(crate) fn let_saving_go(saving: Option<Saving>) {
 }
 
 /// What a lister keeps beside its bridge.
-pub(crate) fn let_rest_go(
-    mirror: Option<Mirror>,
-    _sessions: Sessions,
-    saving: Option<Saving>,
-) {
+pub(crate) fn let_rest_go(mirror: Option<Mirror>, _sessions: Sessions, saving: Option<Saving>) {
     let_mirror_go(mirror);
     let_saving_go(saving);
 }

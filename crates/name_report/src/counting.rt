@@ -1,3 +1,5 @@
+//! Counts the names of a chain.
+
 ghost use Rattle.std.specs.Prelude.{◌≡◌, IfOk};
 ghost use Rattle.std.specs.List.{count_by};
 ghost use Rattle.name_report.specs.Counts.{AreCounts};

@@ -1,3 +1,5 @@
+//! Laws of reports. Each is the contract of a function that does nothing.
+
 ghost use Rattle.std.specs.Prelude.{◌≡◌, List, ℕ};
 ghost use Rattle.name_report.specs.Counts.{AreCounts};
 ghost use Rattle.name_report.specs.Report.{AreNamesOf, IsReport};

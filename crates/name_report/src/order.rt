@@ -1,3 +1,5 @@
+//! The names in the order of their bytes.
+
 ghost use Rattle.std.specs.Prelude.{◌≡◌, ◌<◌, IfOk};
 ghost use Rattle.std.specs.Map.{keys_of};
 ghost use Rattle.name_report.specs.Order.{Orders, bytes_of};

@@ -1,3 +1,5 @@
+//! Bytes that wait for a sink.
+
 ghost use Rattle.std.specs.Prelude.{◌≡◌, ◌≤◌, [], length, IfOk, OnOk};
 ghost use Rattle.frame_loop.specs.Delivery.{Delivers};
 ghost use Rattle.name_report.specs.Page.{Puts, outgoing};

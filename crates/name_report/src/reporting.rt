@@ -1,3 +1,5 @@
+//! Gives the report of a chain to a sink.
+
 ghost use Rattle.std.specs.Prelude.{◌≡◌, ◌<◌, List, ℕ, []};
 ghost use Rattle.frame_loop.specs.Delivery.{Delivers};
 ghost use Rattle.nmc_base.specs.declared.chain_ends.Base.{Base};

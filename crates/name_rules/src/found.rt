@@ -1,3 +1,5 @@
+//! The first of some items, and whether there are more.
+
 ghost use Rattle.std.specs.Prelude.{◌≡◌, length, nat_lt, slice_get};
 ghost use Rattle.name_rules.specs.Found.{listed, with_item};
 

@@ -1,3 +1,5 @@
+//! The inputs that spend a live coin.
+
 ghost use Rattle.std.specs.Prelude.{◌≡◌, ◌+◌, ◌≤◌, length};
 ghost use Rattle.chain_names.specs.Verdict.{name_inputs};
 ghost use Rattle.name_rules.specs.Found.{shortened};

@@ -1,3 +1,5 @@
+//! The outputs with a name script.
+
 ghost use Rattle.std.specs.Prelude.{◌≡◌, ◌≤◌, ◌^◌, length};
 ghost use Rattle.chain_names.specs.Verdict.{name_outputs};
 ghost use Rattle.name_rules.specs.Found.{shortened};

@@ -1,3 +1,5 @@
+//! The verdict on a transaction.
+
 ghost use Rattle.std.specs.Prelude.{◌≡◌, ◌+◌, ◌≤◌, ◌^◌, [], length};
 ghost use Rattle.nmc_base.specs.Heights.{highest};
 ghost use Rattle.block_grammar.specs.Transaction.{txid_of};

@@ -1,3 +1,5 @@
+//! What a transaction is to the rules on names.
+
 use chain_names::RuleRefusal;
 use nmc_base::{Hash20, OutPoint};
 

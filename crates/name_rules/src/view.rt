@@ -1,3 +1,5 @@
+//! What the rules on names look at.
+
 ghost use Rattle.std.specs.Prelude.{◌≡◌, ◌+◌, ◌≤◌, IfSome};
 ghost use Rattle.std.specs.Option.{option_map};
 ghost use Rattle.nmc_base.specs.Heights.{highest};

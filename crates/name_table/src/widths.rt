@@ -1,3 +1,5 @@
+//! That items are as wide as their fields.
+
 ghost use Rattle.chain_names.specs.Measured.{IsMeasuredItem};
 ghost use Rattle.chain_names.specs.Writable.{IsWritablePoint};
 

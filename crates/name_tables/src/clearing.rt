@@ -1,3 +1,5 @@
+//! Gives places up that nothing stands in any more.
+
 ghost use Rattle.std.specs.Prelude.{◌+◌, ◌*◌, ◌≤◌, List, [], length};
 ghost use Rattle.chain_names.specs.declared.coin.HeldCoin.{HeldCoin};
 ghost use Rattle.name_tables.specs.Clearing.{GivesUp, GivesUpOp};

@@ -1,3 +1,5 @@
+//! Takes expired coins off the tables, and puts them back.
+
 ghost use Rattle.std.specs.Prelude.{◌≡◌, ℕ, ◌+◌, ◌*◌, ◌≤◌, [], length, true, IfOk, OnErr};
 ghost use Rattle.std.specs.List.{list_any, AllByRecursion, IsDistinct};
 ghost use Rattle.nmc_base.specs.declared.hashes.OutPoint.{OutPoint};

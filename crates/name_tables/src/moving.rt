@@ -1,3 +1,5 @@
+//! A name that moves to another output, with its new value.
+
 ghost use Rattle.std.specs.Prelude.{◌≡◌, ℕ, ◌+◌, ◌≤◌, true, None, Some, IfOk, OnOk, OnErr};
 ghost use Rattle.chain_names.specs.declared.coin.Coin.{Coin};
 ghost use Rattle.chain_names.specs.Coins.{entry_of};

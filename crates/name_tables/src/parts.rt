@@ -1,3 +1,5 @@
+//! The tables of a state with the records that undo its blocks.
+
 ghost use Rattle.std.specs.Prelude.{◌≡◌};
 ghost use Rattle.chain_names.specs.Measured.{AreMeasured};
 ghost use Rattle.name_tables.specs.Parts.{tables_of};

@@ -1,3 +1,5 @@
+//! Makes the places that undoing needs.
+
 ghost use Rattle.std.specs.Prelude.{◌+◌, ◌*◌, ◌≤◌, ◌∷◌, [], length, IfOk, OnOk, OnErr};
 ghost use Rattle.std.specs.List.{AllByRecursion};
 ghost use Rattle.chain_names.specs.Expired.{is_held_at};

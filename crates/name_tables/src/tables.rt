@@ -1,3 +1,5 @@
+//! Coins, histories and the queue of expiry, kept in step.
+
 ghost use Rattle.std.specs.Prelude.{◌≡◌, ℕ, ◌+◌, ◌≤◌, true, false, Some, IfOk};
 ghost use Rattle.std.specs.Prelude.{Option};
 ghost use Rattle.nmc_base.specs.declared.hashes.OutPoint.{OutPoint};

@@ -1,3 +1,5 @@
+//! A list of bytes that grows.
+
 ghost use Rattle.std.specs.Borrow.{Array, Lends, sem, u8 as byte};
 ghost use Rattle.std.specs.Prelude.{◌≡◌, ◌++◌, [], drop, length, replicate, take, IfOk, OnOk, OnErr};
 ghost use Rattle.nmc_base.specs.contracts.byte_list.Bytes.{the_row};

@@ -1,3 +1,5 @@
+//! The networks with their expiry depths, and the base and the tip of a chain.
+
 ghost use Rattle.std.specs.Prelude.{◌≡◌, ◌↔◌, ℕ, suc, ◌≤◌, Some};
 ghost use Rattle.nmc_base.specs.Heights.{highest};
 ghost use Rattle.nmc_base.specs.Expiry.{Expires, due_height, expiry_depth, is_expired, least_amount};

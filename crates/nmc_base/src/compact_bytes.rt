@@ -1,3 +1,5 @@
+//! Bytes that stay as they are, of which few take no memory of their own.
+
 ghost use Rattle.std.specs.Prelude.{◌≡◌, ◌≤◌, [], length, IfOk, IsOk};
 
 use crate::no_memory::NoMemory;

@@ -1,3 +1,5 @@
+//! Hashes and outpoints.
+
 ghost use Rattle.std.specs.Prelude.{◌≡◌, Some};
 ghost use Rattle.nmc_base.specs.Hash.{display_text, outpoint_cmp};
 ghost use Rattle.hex.specs.Hex.{encode_lower};

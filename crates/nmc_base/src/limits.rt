@@ -1,3 +1,5 @@
+//! The limits of Namecoin that other crates cite.
+
 /// No chain is higher: so many blocks stand below its tip, from height 0 on.
 pub const HIGHEST_HEIGHT: u32 = 2_000_000_000;
 

@@ -1,3 +1,5 @@
+//! A list with spare room.
+
 ghost use Rattle.std.specs.Prelude.{◌≡◌, ◌++◌, ◌+◌, ◌<◌, ◌≤◌, ◌∷◌, [], length, slice_get, vec_len, vec_capacity, OnOk, OnErr, IfSome, IfNone};
 ghost use Rattle.std.specs.Option.{option_copied};
 ghost use Rattle.nmc_base.specs.Roomy.{Roomy};

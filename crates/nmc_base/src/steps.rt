@@ -1,3 +1,5 @@
+//! Counts the steps of the index's tables.
+
 ghost use Rattle.std.specs.Prelude.{◌≡◌, ◌+◌, ◌<◌};
 
 use std::marker::Model;

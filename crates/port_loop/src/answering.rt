@@ -1,3 +1,5 @@
+//! Answers a frame of a port.
+
 ghost use Rattle.byte_io.specs.Port.{IsBound};
 ghost use Rattle.feed_frames.specs.Front.{frame_of};
 ghost use Rattle.frame_loop.specs.Turns.{IsAskable};

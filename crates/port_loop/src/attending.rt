@@ -1,3 +1,5 @@
+//! Polls a port, and deals with each poll before the next.
+
 ghost use Rattle.byte_io.specs.Port.{IsBound};
 ghost use Rattle.port_loop.specs.Transcript.{Attends};
 

@@ -1,3 +1,5 @@
+//! Laws of a run over a port. Each is the contract of a function that does nothing.
+
 ghost use Rattle.std.specs.Prelude.{◌≡◌, ℕ, List};
 ghost use Rattle.byte_io.specs.Port.{Note, Got, nothing};
 ghost use Rattle.feed_frames.specs.Frames.{Frame};

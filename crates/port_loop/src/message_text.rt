@@ -1,3 +1,5 @@
+//! A message behind its length, as a stream has it.
+
 ghost use Rattle.std.specs.Prelude.{◌≡◌, ◌≤◌, length, IfOk, []};
 ghost use Rattle.dns_tcp.specs.Messages.{message_text};
 ghost use Rattle.frame_loop.specs.declared.reply.TheConstants.{LONGEST_REPLY};

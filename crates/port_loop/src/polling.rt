@@ -1,3 +1,5 @@
+//! Room for what a poll brings.
+
 ghost use Rattle.std.specs.Prelude.{◌≡◌, ◌≤◌, ◌<◌, ◌+◌, ◌^◌, length, take, IfOk};
 ghost use Rattle.byte_io.specs.Port.{IsBound, Polls};
 ghost use Rattle.byte_io.specs.declared.port.TheConstants.{POLL_ROOM};

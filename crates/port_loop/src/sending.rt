@@ -1,3 +1,5 @@
+//! Sends the reply to a frame where it has to go.
+
 ghost use Rattle.std.specs.Prelude.{◌≡◌, ◌∷◌, []};
 ghost use Rattle.byte_io.specs.Port.{IsBound, Notes, closed};
 ghost use Rattle.feed_frames.specs.Feed.{fresh_feed};

@@ -1,3 +1,5 @@
+//! Answers the messages of a client's stream.
+
 ghost use Rattle.std.specs.Prelude.{◌≤◌, length, IsTrue};
 ghost use Rattle.byte_io.specs.Port.{IsBound};
 ghost use Rattle.byte_io.specs.declared.port.TheConstants.{POLL_ROOM};

@@ -1,3 +1,5 @@
+//! Hashes as people write them, the order of outpoints, and heights at which names expire.
+
 use crate::comparing::{same, same_number, same_text};
 use nmc_base::{Bytes, Hash20, Hash32, NoMemory, OutPoint, Profile, Words};
 use std::alloc::{AllocError, Global};

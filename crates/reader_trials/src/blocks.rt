@@ -1,3 +1,5 @@
+//! Blocks that are read, and where others end.
+
 use crate::comparing::same_text;
 use block_grammar::TxKind;
 use block_reader::{Block, BlockKind, merkle_root, read_block};

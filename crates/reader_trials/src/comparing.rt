@@ -1,3 +1,5 @@
+//! Compares what is said with what is wanted.
+
 use std::process::Abort;
 
 pub(crate) fn same(rt: &impl Abort, got: &[u8], want: &[u8]) {

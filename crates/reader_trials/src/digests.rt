@@ -1,3 +1,5 @@
+//! Digests of published messages.
+
 use crate::comparing::same_text;
 use hash160::{Ripemd, hash160, hash160_pair, ripemd160};
 use nmc_base::Hash20;

@@ -1,3 +1,5 @@
+//! Fields that a cursor reads.
+
 use crate::comparing::same;
 use block_grammar::TxKind;
 use std::process::Abort;

@@ -1,3 +1,5 @@
+//! Headers with a merge-mining part, and without one.
+
 use auxpow_header::{Header, read_header};
 use block_grammar::TxKind;
 use nmc_base::Hash32;

@@ -1,3 +1,5 @@
+//! Bytes and values that are kept in memory of their own.
+
 use crate::comparing::{same, same_number};
 use nmc_base::{Boxed, CompactBytes};
 use std::alloc::Global;

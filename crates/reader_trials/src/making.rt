@@ -1,3 +1,5 @@
+//! That the maker makes the blocks of the table.
+
 ghost use Rattle.std.specs.Prelude.{IfSome};
 ghost use Rattle.block_maker.specs.Seen.{HasShortParts};
 

@@ -1,3 +1,5 @@
+//! Scripts that hold a name, and those that don't.
+
 use crate::comparing::same_text;
 use name_script::{NameOp, read_name};
 use std::alloc::{AllocError, Global};

@@ -1,3 +1,5 @@
+//! Transactions with and without a witness.
+
 use nmc_base::{Hash32, OutPoint};
 use std::alloc::{AllocError, Global};
 use std::process::Abort;

@@ -1,3 +1,5 @@
+//! Lets each name's first item begin its registration.
+
 ghost use Rattle.std.specs.Prelude.{◌≡◌, ◌++◌, ◌≤◌, [], length, map, reverse, slice_get, true, IfOk, IfSome, OnOk};
 ghost use Rattle.std.specs.Map.{keys_of};
 ghost use Rattle.std.specs.Str.{bytes_eq};

@@ -1,3 +1,5 @@
+//! Sets the registration heights that a text of version 1 leaves out.
+
 ghost use Rattle.std.specs.Prelude.{◌≡◌, ℕ, ◌<◌, List, OnOk};
 ghost use Rattle.nmc_base.specs.declared.chain_ends.Profile.{Profile};
 ghost use Rattle.chain_names.specs.Coins.{Maps};

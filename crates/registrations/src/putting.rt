@@ -1,3 +1,5 @@
+//! Puts operations and items back, with their registration heights.
+
 ghost use Rattle.std.specs.Prelude.{◌≡◌, [], map, reverse, IfOk, OnOk};
 ghost use Rattle.chain_names.specs.Coins.{with_value};
 ghost use Rattle.chain_names.specs.Seen.{seen_undo};

@@ -1,3 +1,5 @@
+//! A list with room for so many items.
+
 ghost use Rattle.std.specs.Prelude.{◌≡◌, ◌≤◌, [], IfOk};
 
 use nmc_base::{NoMemory, RoomyList};

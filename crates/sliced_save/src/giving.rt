@@ -1,3 +1,5 @@
+//! The text of a mirror's image, while it is given out.
+
 ghost use Rattle.std.specs.Prelude.{◌≡◌, ◌+◌, ◌≤◌, drop, length, min, take};
 ghost use Rattle.image_grammar.specs.Text.{image_text};
 ghost use Rattle.image_writer.specs.Pieces.{Gives};

@@ -1,3 +1,5 @@
+//! The mirror: the whole index once more, which can be pinned.
+
 ghost use Rattle.std.specs.Prelude.{◌≡◌, ℕ, ◌+◌, ◌<◌, ◌≤◌, List, length, IfOk, OnOk};
 ghost use Rattle.std.specs.Option.{option_map};
 ghost use Rattle.nmc_base.specs.declared.chain_ends.Base.{Base};

@@ -1,3 +1,5 @@
+//! The text of a mirror of one moment, in slices.
+
 ghost use Rattle.std.specs.Prelude.{◌≡◌, ◌+◌, ◌-◌, ◌≤◌, drop, length, min, take};
 ghost use Rattle.image_grammar.specs.Text.{image_text};
 ghost use Rattle.undo_records.specs.declared.version.Version.TheVariants.{Two};

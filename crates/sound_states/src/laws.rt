@@ -1,3 +1,5 @@
+//! Laws of sound states. Each is the contract of a function that does nothing.
+
 ghost use Rattle.std.specs.Prelude.{ℕ, suc, List, ◌∷◌};
 ghost use Rattle.nmc_base.specs.declared.chain_ends.Profile.{Profile};
 ghost use Rattle.chain_names.specs.Coins.{Maps};

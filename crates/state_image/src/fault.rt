@@ -1,3 +1,5 @@
+//! Why bytes aren't the text of a sound state.
+
 use nmc_base::NoMemory as NoBytes;
 use thiserror::Error;
 

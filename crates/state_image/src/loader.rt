@@ -1,3 +1,5 @@
+//! Reads an image that comes in pieces.
+
 ghost use Rattle.std.specs.Prelude.{◌≡◌, ◌+◌, ◌≤◌, ◌^◌, ◌++◌, ℕ, List, [], length, Some, Err, IfOk};
 ghost use Rattle.state_image.specs.Answers.{IsImageAnswer};
 ghost use Rattle.state_image.specs.Loading.{Takes, HasRead, TakesOn, stop_of, fault_at};

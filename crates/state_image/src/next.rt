@@ -1,3 +1,5 @@
+//! What of an image comes next.
+
 /// What of an image comes next, and how many of them are left.
 #[derive(Clone, Copy)]
 pub enum Next {

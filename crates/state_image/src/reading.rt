@@ -1,3 +1,5 @@
+//! What was read of an image so far.
+
 ghost use Rattle.std.specs.Prelude.{◌≡◌, [], IfOk};
 ghost use Rattle.chain_names.specs.Seen.{seen_undo};
 ghost use Rattle.name_tables.specs.Tables.{AreEmpty};

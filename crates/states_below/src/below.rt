@@ -1,3 +1,5 @@
+//! The state below some blocks, without a change of the tables.
+
 ghost use Rattle.std.specs.Prelude.{◌≡◌, IfOk, OnOk};
 ghost use Rattle.chain_names.specs.Changes.{moved_back};
 ghost use Rattle.chain_names.specs.Tables.{coins_in, names_in};

@@ -1,3 +1,5 @@
+//! Whether what is left at the base is what a start list may hold.
+
 ghost use Rattle.std.specs.Prelude.{◌≡◌, ◌<◌, ◌≤◌, true, false};
 ghost use Rattle.std.specs.Option.{option_copied};
 ghost use Rattle.nmc_base.specs.Heights.{highest};

@@ -1,3 +1,5 @@
+//! The coins of a table below some blocks.
+
 ghost use Rattle.std.specs.Prelude.{◌≡◌, ◌<◌, OnOk, OnErr};
 ghost use Rattle.std.specs.Option.{option_copied};
 ghost use Rattle.chain_names.specs.Points.{same_point, changed};

@@ -1,3 +1,5 @@
+//! Whether coins and items are those that an operation made.
+
 ghost use Rattle.std.specs.Prelude.{◌≡◌, Some};
 ghost use Rattle.std.specs.Option.{option_copied};
 ghost use Rattle.chain_names.specs.Tables as tables;

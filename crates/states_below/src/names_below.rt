@@ -1,3 +1,5 @@
+//! The histories of a table below some blocks.
+
 ghost use Rattle.std.specs.Prelude.{◌≡◌, ◌<◌, take, OnOk, OnErr};
 ghost use Rattle.std.specs.Str.{bytes_eq};
 ghost use Rattle.chain_names.specs.Changes.{without_entry};

@@ -1,3 +1,5 @@
+//! Whether what one record touches is sound.
+
 ghost use Rattle.std.specs.Prelude.{◌≡◌, suc, ◌≤◌, IfOk, OnOk};
 ghost use Rattle.std.specs.Option.{option_copied};
 ghost use Rattle.nmc_base.specs.Expiry.{is_expired};

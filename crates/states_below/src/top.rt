@@ -1,3 +1,5 @@
+//! Whether each name is as it has to be at the tip.
+
 ghost use Rattle.std.specs.Prelude.{◌≡◌, ◌<◌, ◌≤◌};
 ghost use Rattle.nmc_base.specs.Heights.{highest};
 ghost use Rattle.chain_names.specs.State.{IsState};

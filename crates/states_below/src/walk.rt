@@ -1,3 +1,5 @@
+//! Walks down from the tip to the base.
+
 ghost use Rattle.std.specs.Prelude.{◌≡◌, ◌+◌, ◌≤◌, length};
 ghost use Rattle.std.specs.List.{AllByRecursion};
 ghost use Rattle.nmc_base.specs.Heights.{highest};

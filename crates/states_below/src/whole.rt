@@ -1,3 +1,5 @@
+//! Whether tables are sound with their records.
+
 ghost use Rattle.std.specs.Prelude.{◌≡◌, ◌+◌, ◌≤◌, ℕ, List, length};
 ghost use Rattle.std.specs.List.{AllByRecursion};
 ghost use Rattle.nmc_base.specs.Heights.{highest};

@@ -1,3 +1,5 @@
+//! The texts of what people are told.
+
 use std::{fmt, io};
 
 /// What people are told of: why a call failed, or what else stands behind a status.

@@ -1,3 +1,5 @@
+//! A peer of the UDP socket, as a number.
+
 ghost use Rattle.std.specs.Prelude.{◌≡◌, ◌∷◌, drop};
 ghost use Rattle.std.specs.Int.{w64, from_be_bytes, to_be_bytes};
 ghost use Rattle.system_io.specs.Client.{address_bytes};

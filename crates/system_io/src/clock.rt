@@ -1,3 +1,5 @@
+//! Times of a clock that never goes back.
+
 use std::time::{Clock, Duration};
 
 /// So many microseconds are a millisecond.

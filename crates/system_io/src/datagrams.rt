@@ -1,3 +1,5 @@
+//! Sends datagrams.
+
 ghost use Rattle.std.specs.Prelude.{◌∷◌, [], drop};
 ghost use Rattle.std.specs.Int.{w64, to_be_bytes};
 ghost use Rattle.system_io.specs.Net.{Adds, gave, is_sent, GivesWhole};

@@ -1,3 +1,5 @@
+//! The listener of the feed, and who of those that come is let in.
+
 ghost use Rattle.std.specs.Prelude.{◌≡◌, IsSome, Ok};
 ghost use Rattle.system_io.specs.Loopback.{loopback_bytes, Asks};
 

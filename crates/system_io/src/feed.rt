@@ -1,3 +1,5 @@
+//! The one place of the feed, and who holds it.
+
 ghost use Rattle.std.specs.Prelude.{◌≡◌, ◌≤◌, ◌⊎◌, length, IfOk};
 ghost use Rattle.system_io.specs.Arrival.{IsOfFeed, IsWithin};
 ghost use Rattle.system_io.specs.Loopback.{loopback_bytes, Asks};

@@ -1,3 +1,5 @@
+//! The connection of the feed.
+
 ghost use Rattle.std.specs.Prelude.{◌≡◌, ◌≤◌, ◌↔◌, ◌<◌, ◌++◌, [], take, length, IsTrue, IfOk, OnOk};
 ghost use Rattle.system_io.specs.FrameEnd.{GoesOn, Stands};
 ghost use Rattle.system_io.specs.Net.{Adds, Fetches, Moves, Reads, SendsOn};

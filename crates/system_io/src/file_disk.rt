@@ -1,3 +1,5 @@
+//! Files as a disk.
+
 ghost use Rattle.std.specs.Prelude.{◌≡◌, false};
 ghost use Rattle.fault_counts.specs.Counts.{counted};
 

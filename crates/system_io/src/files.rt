@@ -1,3 +1,5 @@
+//! Three files, by calls each of which is one of the system's.
+
 ghost use Rattle.std.specs.Prelude.{◌≡◌, ◌+◌, ◌<◌, ◌≤◌, ℕ, Bool, length, IsTrue, IfOk};
 ghost use Rattle.disk_model.specs.FileState.{IsFileImage};
 ghost use Rattle.disk_model.specs.Moments.{Moments};

@@ -1,3 +1,5 @@
+//! The files of a folder, opened and locked.
+
 ghost use Rattle.std.specs.Prelude.{◌≡◌, ◌+◌, ◌<◌, [], ◌∷◌, ◌++◌, codes, IfOk};
 
 use crate::cause::Cause;

@@ -1,3 +1,5 @@
+//! A connection, and whose it is.
+
 use std::net::TcpStream;
 
 /// Whose connection it is.

@@ -1,3 +1,5 @@
+//! The one address that is listened at.
+
 ghost use Rattle.std.specs.Prelude.{◌≡◌};
 ghost use Rattle.system_io.specs.Client.{address_bytes};
 ghost use Rattle.system_io.specs.Loopback.{loopback_bytes, Asks};

@@ -1,3 +1,5 @@
+//! A disk's files as files that tell what they hold.
+
 ghost use Rattle.std.specs.Prelude.{◌≡◌};
 
 use crate::files::Files;

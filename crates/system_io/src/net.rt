@@ -1,3 +1,5 @@
+//! The sockets of a port, by calls each of which is one of the system's.
+
 ghost use Rattle.std.specs.Prelude.{◌≡◌, [], ◌∷◌, length};
 ghost use Rattle.std.specs.Io.{ReadsAtMost, WritesAtMost};
 ghost use Rattle.system_io.specs.Client.{address_bytes};

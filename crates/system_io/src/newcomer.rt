@@ -1,3 +1,5 @@
+//! A connection of which it isn't known yet whose it is.
+
 ghost use Rattle.std.specs.Prelude.{◌≡◌, ◌⊎◌, ◌↔◌, IsTrue, IsSome, IfOk};
 ghost use Rattle.system_io.specs.declared.newcomer.Verdict.TheVariants.{Taken};
 

@@ -1,3 +1,5 @@
+//! Lines about connections that people are told, a line at times.
+
 use crate::cause::Cause;
 use crate::clock::SECOND;
 use crate::people::People;

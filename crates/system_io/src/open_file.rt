@@ -1,3 +1,5 @@
+//! Opens and locks a file.
+
 ghost use Rattle.std.specs.Prelude.{◌≡◌, IfOk};
 
 use crate::cause::Cause;

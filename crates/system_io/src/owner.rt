@@ -1,3 +1,5 @@
+//! Which user has the other end of a connection, by a row of the system's table.
+
 ghost use Rattle.std.specs.Prelude.{◌≡◌, ◌≢◌, ◌↔◌, ◌⊎◌, IsTrue, IfSome};
 
 use std::net::SocketAddrV4;

@@ -1,3 +1,5 @@
+//! Who is told causes, and the program's own name.
+
 ghost use Rattle.std.specs.Prelude.{◌≡◌};
 
 use crate::cause::Cause;

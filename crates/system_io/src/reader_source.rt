@@ -1,3 +1,5 @@
+//! A reader as a source.
+
 ghost use Rattle.std.specs.Prelude.{◌≡◌, false};
 
 use crate::people::People;

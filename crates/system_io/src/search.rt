@@ -1,3 +1,5 @@
+//! Looks through the system's tables of connections, some rows at a time.
+
 ghost use Rattle.std.specs.Prelude.{◌≡◌, ◌≤◌, length, take, IfOk};
 
 use crate::owner::{Ends, Holder, holder_in};

@@ -1,3 +1,5 @@
+//! Sockets as a port.
+
 use crate::cause::Cause;
 use crate::client::Client;
 use crate::net::Net;

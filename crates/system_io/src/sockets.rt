@@ -1,3 +1,5 @@
+//! All sockets of a run, and which of them is served next.
+
 ghost use Rattle.std.specs.Prelude.{◌≡◌, ◌≤◌, length, drop, IsTrue, IfOk, OnOk};
 ghost use Rattle.system_io.specs.Arrival.{IsWithin};
 ghost use Rattle.system_io.specs.FeedReplies.{SendsReply};

@@ -1,3 +1,5 @@
+//! A client's connection.
+
 ghost use Rattle.std.specs.Prelude.{◌≡◌, ◌+◌, ◌<◌, ◌≤◌, ◌↔◌, ◌++◌, length, IsTrue, IfOk, MatchBool};
 ghost use Rattle.system_io.specs.Arrival.{IsWithin, IsOnlyOf, IsOfRead};
 ghost use Rattle.system_io.specs.Net.{HandsOn, Moves, Reads, SendsOn};

@@ -1,3 +1,5 @@
+//! The connections of all clients.
+
 ghost use Rattle.std.specs.Prelude.{◌≡◌, ◌⊎◌, ◌+◌, ◌<◌, ◌≤◌, length, remove, None, Some, IsTrue, IsFalse, IfSome, slice_get};
 ghost use Rattle.system_io.specs.declared.stream.Stream.{Stream};
 ghost use Rattle.system_io.specs.Arrival.{IsWithin};

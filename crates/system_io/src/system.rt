@@ -1,3 +1,5 @@
+//! The system's sockets.
+
 use crate::link::Link;
 use crate::net::Net;
 use byte_io::{Polled, Sent};

@@ -1,3 +1,5 @@
+//! Counts calls that failed.
+
 ghost use Rattle.std.specs.Prelude.{◌≡◌, true, false, IfOk, OnOk, OnErr};
 ghost use Rattle.fault_counts.specs.Counts.{counted};
 ghost use Rattle.fault_counts.specs.Faults.{HasCause, NeverFell, Rose};

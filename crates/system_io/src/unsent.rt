@@ -1,3 +1,5 @@
+//! Bytes that a peer is still to take.
+
 ghost use Rattle.std.specs.Prelude.{◌≡◌, ◌++◌, ◌==◌, [], length, OnOk, OnErr};
 ghost use Rattle.system_io.specs.Net.{Moves};
 

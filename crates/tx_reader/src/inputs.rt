@@ -1,3 +1,5 @@
+//! The inputs of a transaction, one after the other.
+
 ghost use Rattle.std.specs.Prelude.{◌≡◌, length};
 ghost use Rattle.std.specs.Iterator.{YieldsFirstBy, item_count};
 ghost use Rattle.block_grammar.specs.Combinators.{many_from};

@@ -1,3 +1,5 @@
+//! The outputs of a transaction, one after the other.
+
 ghost use Rattle.std.specs.Prelude.{◌≡◌};
 ghost use Rattle.std.specs.Iterator.{YieldsFirstBy, item_count};
 ghost use Rattle.block_grammar.specs.Combinators.{many_from};

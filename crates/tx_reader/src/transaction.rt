@@ -1,3 +1,5 @@
+//! A transaction, read in place.
+
 ghost use Rattle.std.specs.Prelude.{◌≡◌, ℕ, ◌≤◌, ◌++◌, length, IfOk, Ok, Err};
 ghost use Rattle.std.specs.Int.{w32, to_le_bytes};
 ghost use Rattle.block_grammar.specs.Transaction.{input_text, output_text, Transaction, FitsTransaction, transaction_text, txid_of};

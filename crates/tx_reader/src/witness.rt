@@ -1,3 +1,5 @@
+//! The witness of a transaction.
+
 ghost use Rattle.std.specs.Prelude.{◌≡◌, ◌-◌, ◌≤◌, false, ◌||◌};
 ghost use Rattle.block_grammar.specs.Witness.{has_item};
 ghost use Rattle.block_grammar.specs.Combinators.{map_from, many_from, nonzero_from};

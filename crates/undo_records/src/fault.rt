@@ -1,3 +1,5 @@
+//! Why bytes don't begin with a record.
+
 ghost use Rattle.std.specs.Prelude.{◌≡◌, []};
 
 use nmc_base::NoMemory as NoBytes;

@@ -1,3 +1,5 @@
+//! Laws of the text of a record. Each is the contract of a function that does nothing.
+
 ghost use Rattle.std.specs.Prelude.{◌≡◌, ◌<◌, ◌++◌, ◌∷◌, [], ℕ, List, Ok, Err, slice_index};
 ghost use Rattle.chain_names.specs.Undo.{UndoRecord};
 ghost use Rattle.undo_records.specs.declared.version.Version.{Version};

@@ -1,3 +1,5 @@
+//! Reads a record, in either version.
+
 ghost use Rattle.std.specs.Prelude.{◌≡◌, ◌++◌, List, ℕ, length, IfOk, IfErr};
 ghost use Rattle.chain_names.specs.Undo.{UndoRecord};
 ghost use Rattle.chain_names.specs.Seen.{seen_undo};

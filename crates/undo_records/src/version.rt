@@ -1,3 +1,5 @@
+//! The versions of texts.
+
 /// The version of a text. It says whether items have a registration height in it, and nothing else.
 #[derive(Clone, Copy)]
 pub enum Version {

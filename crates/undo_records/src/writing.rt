@@ -1,3 +1,5 @@
+//! Writes a record.
+
 ghost use Rattle.std.specs.Prelude.{◌≡◌, ◌++◌, List, ℕ, Ok, OnOk, OnErr};
 ghost use Rattle.chain_names.specs.Seen.{seen_undo};
 ghost use Rattle.undo_records.specs.declared.version.Version.TheVariants.{Two};

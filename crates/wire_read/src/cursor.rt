@@ -1,3 +1,5 @@
+//! Reads fields one after the other.
+
 ghost use Rattle.std.specs.Prelude.{◌≡◌, ℕ, ◌<◌, ◌≤◌, length, take, drop, slice_index, MatchResult};
 ghost use Rattle.std.specs.Int.{w32, w64, from_le_bytes};
 ghost use Rattle.wire_read.specs.Position.{left};

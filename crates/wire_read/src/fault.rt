@@ -1,3 +1,5 @@
+//! The first fault in bytes, and its place.
+
 ghost use Rattle.std.specs.Prelude.{◌≡◌, []};
 
 use block_grammar::TxKind;

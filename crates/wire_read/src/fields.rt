@@ -1,3 +1,5 @@
+//! Reads the field at the front of bytes.
+
 ghost use Rattle.std.specs.Prelude.{◌≡◌, ◌-◌, ◌≤◌, length, take};
 ghost use Rattle.std.specs.Int.{w32, w64};
 ghost use Rattle.block_grammar.specs.Combinators.{nonzero_from};

@@ -1,3 +1,5 @@
+//! Blocks that the maker makes.
+
 /// Generated blocks, one on each line: the height and the hash of the block before; the block; its hash; and the
 /// operation, "-" where there is none. An operation is New and the hash; First and name, rand, value, outpoint; or Update
 /// and name, value, outpoint. "-" is an empty part, and an outpoint is its txid and its index.

@@ -1,3 +1,5 @@
+//! Scripts with the operations that they hold.
+
 /// A script in hex on each line, and what it does: "none"; or New and the hash; First and name, rand, value; Update and
 /// name, value. "-" is an empty value.
 pub(super) const ROWS: &str = "\
