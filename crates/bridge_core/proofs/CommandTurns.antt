@@ -1,6 +1,5 @@
 -- A turn of a bridge by what came of a command in its store.
 use Rattle.std.proofs.Common.{◌≡◌, List, ℕ}
-use Rattle.feed_frames.specs.Replies.{Reply}
 use Rattle.nmc_base.specs.declared.chain_ends.Tip.{Tip}
 use Rattle.disk_model.specs.Changes.{LeavesOthers}
 use Rattle.chain_state.specs.declared.stage.Refusal as stage

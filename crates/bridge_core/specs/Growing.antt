@@ -1,5 +1,5 @@
 -- What a command leaves of the selected area, as the store says it.
-use Rattle.std.specs.Prelude.{◌≡◌, ◌≢◌, ℕ, ◌-◌, ◌++◌, take}
+use Rattle.std.specs.Prelude.{◌≡◌, ◌≢◌, ◌-◌, ◌++◌, take}
 use Rattle.disk_model.specs.DiskSeen.{DiskSeen, bytes_in}
 use Rattle.gate_journal.specs.Gate.{record_text}
 use Rattle.chain_commands.specs.Event.{Command}
