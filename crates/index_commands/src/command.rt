@@ -60,12 +60,12 @@ impl ChainCommand<'_> {
 }
 
 /// The command whose record these bytes are.
-pub(crate) fn read_command(record: &[u8]) -> Option<ChainCommand<'_>>
-    ensures some { IfSome result (λ command. record.now ≡ record_of (command_of command)) }
+pub(crate) fn read_command(bytes: &[u8]) -> Option<ChainCommand<'_>>
+    ensures some { IfSome result (λ command. bytes.now ≡ record_of (command_of command)) }
     ensures within { IfSome result IsWithinLimits }
-    ensures none { IsNone result → (command : Command) → HasSize command → record.now ≡ record_of command → ⊥ }
+    ensures none { IsNone result → (command : Command) → HasSize command → bytes.now ≡ record_of command → ⊥ }
 {
-    let (head, body) = record.split_first()?;
+    let (head, body) = bytes.split_first()?;
     if *head == CONNECT && body.len() <= LONGEST_BLOCK {
         return Some(ChainCommand::Connect(body));
     }

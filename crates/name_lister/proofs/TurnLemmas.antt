@@ -67,7 +67,7 @@ module _ (old new : Listed) (reply : Reply) where
         let is : next ≡ accepted run (Connect block) = (step_leaves run next (Do (Connect block)) reply step).done is_zero in
         let index = new.bridge.store.index in
         let stands : chains.StandsFor index (with_block (chain_of run) block) = subst (λ (r : RunState). chains.StandsFor index (chain_of r)) is t.store.index in
-        mirror_on (chain_of next) index new.mirror t.store.index (done is_zero (mirror_before (chain_of run) index old.mirror block stands are))
+        mirror_on (chain_of next) index new.mirror t.store.index (done is_zero (mirror_before (chain_of run) block index old.mirror stands are))
     by run next step t are (inr other) =
         let is : next ≡ run = (step_leaves run next (Do (Connect block)) reply step).undone other in
         subst (λ (mirror : Option Mirrored). IsMirrorOn (chain_of next) mirror) (sym (same other)) (subst (λ (r : RunState). IsMirrorOn (chain_of r) old.mirror) (sym is) are)

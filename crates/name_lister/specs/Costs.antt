@@ -14,8 +14,11 @@ abbrev pub opening_cost : Indexed → ℕ
 opening_cost index = length index.tables.names + length index.tables.coins + 2
 
 -- no step more than without listings
+pub record IsCheapListed (old : Indexed) (command : Command) (new : Indexed) (before after : ℕ) : Type 0 where
+  pub cheap : IsCheap old command new before after
+
 abbrev pub IsCheapOn : Listed → Command → ListTurned → ℕ → ℕ → Type 0
-IsCheapOn old command (On lister) before after = IsCheap old.bridge.store.index command lister.bridge.store.index before after
+IsCheapOn old command (On lister) before after = IsCheapListed old.bridge.store.index command lister.bridge.store.index before after
 IsCheapOn old command Ended before after = Unit {0}
 
 -- a command that is accepted; and sessions and saves in slices take no step

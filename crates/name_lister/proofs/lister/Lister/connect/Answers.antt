@@ -2,8 +2,8 @@ use Rattle.std.proofs.Common.{◌≡◌, refl, sym, subst}
 use Rattle.std.specs.Prelude.{IsTrue}
 use Rattle.chain_state.specs.Chain.{Indexed}
 use Rattle.chain_commands.specs.Event.{Connect, Do}
-use Rattle.index_commands.specs.Costs.{IsCheap}
 use Rattle.name_lister.specs.Answers.{AnswersList}
+use Rattle.name_lister.specs.Costs.{IsCheapListed}
 use Rattle.name_lister.specs.Event.{Plain}
 use Rattle.name_lister.specs.Kept.{IsMirrorBefore, IsMirrorNow}
 use Rattle.name_lister.specs.Lister.{Listed, listed, IsListOn}
@@ -38,8 +38,8 @@ returns-in-On-clause-answers g c =
 
 pub returns-in-On-clause-cost : goal.returns-in-On-clause-cost
 returns-in-On-clause-cost g c = λ is_zero.
-    subst (λ (o : Listed). IsCheap o.bridge.store.index (Connect c.args.bytes.now) c.in-On.bridge.store.index c.args.steps.now c.turn.new.steps) c.self.view_is
-    (c.in-On.ensures.cost is_zero)
+    subst (λ (o : Listed). IsCheapListed o.bridge.store.index (Connect c.args.bytes.now) c.in-On.bridge.store.index c.args.steps.now c.turn.new.steps) c.self.view_is
+    (record { cheap = c.in-On.ensures.cost is_zero })
 
 pub invariant_of-result : goal.invariant_of-result
 invariant_of-result g c = (
