@@ -8,6 +8,7 @@ ghost use Rattle.disk_model.specs.DiskSeen.{EndsWith, bytes_in};
 ghost use Rattle.disk_model.specs.Moments.{EachMoment};
 ghost use Rattle.bridge_core.specs.Views.{carrier_of, event_of, IsReadable};
 ghost use Rattle.chain_commands.specs.Event.{Connect, Disconnect, Do, Ask, Save};
+ghost use Rattle.index_commands.specs.Views.{command_of, IsWithinLimits};
 ghost use Rattle.chain_commands.specs.RunState.{RunState};
 ghost use Rattle.kept_answers.specs.Answering.{none_kept};
 ghost use Rattle.name_store.specs.Opening.{IsSynced, OpenAnswer};
@@ -394,14 +395,29 @@ impl Lister {
         ensures cost { IsCheapTurn self (Plain (event_of event.entry)) reply.new result steps.old steps.new }
     {
         match event {
-            Event::Do(ChainCommand::Connect(bytes)) => {
-                self.connect(alloc, disk, bytes, reply, steps)
-            }
-            Event::Do(ChainCommand::Disconnect(hash)) => {
-                self.disconnect(alloc, disk, hash, reply, steps)
-            }
+            Event::Do(command) => self.execute(alloc, disk, command, reply, steps),
             Event::Ask(transport, message) => self.query(alloc, disk, transport, message, reply),
             Event::Save => self.save(alloc, disk, reply),
+        }
+    }
+
+    /// Does a command on the chain.
+    fn execute<D: Disk, L: Ledger>(
+        self,
+        alloc: Global,
+        disk: &mut D,
+        command: ChainCommand<'_>,
+        reply: &mut ReplyBuf,
+        steps: &mut Steps<L>,
+    ) -> ListTurned
+        requires within { IsWithinLimits command }
+        requires on_disk { IsTrue D.tells → IsListOn self (D.seen disk.old).moments.now }
+        ensures answers { AnswersList D.tells D.seen self disk.old (Plain (Do (command_of command.entry))) reply.new result disk.new }
+        ensures cost { IsCheapTurn self (Plain (Do (command_of command.entry))) reply.new result steps.old steps.new }
+    {
+        match command {
+            ChainCommand::Connect(bytes) => self.connect(alloc, disk, bytes, reply, steps),
+            ChainCommand::Disconnect(hash) => self.disconnect(alloc, disk, hash, reply, steps),
         }
     }
 }
