@@ -1,20 +1,25 @@
 -- What a room remembers, where it grows.
-use Rattle.std.proofs.Common.{◌≡◌, ℕ, zero, suc, ◌<◌, ◌≤◌, List, [], ◌∷◌, ◌++◌, length, map, slice_get, get_or, Some, None, true, nat_lt, All, refl, sym, ap, subst, ◌∙◌, arith}
+use Rattle.std.proofs.Common.{◌≡◌, ℕ, ◌+◌, zero, suc, ◌<◌, ◌≤◌, List, [], ◌∷◌, ◌++◌, length, map, slice_get, get_or, Some, None, true, false, nat_lt, All, refl, sym, ap, subst, ◌∙◌, arith}
 use Rattle.std.proofs.lemmas.List.{map-append}
 use Rattle.std.proofs.lemmas.List.Elements.{All-push, All-weaker, All-get_or, All-from_recursion}
 use borrow.Author.Tests.{ltb-true}
-use Rattle.std.proofs.lemmas.Option.{same_Some}
+use Rattle.std.proofs.lemmas.Bool.{ltb-false}
+use Rattle.std.proofs.lemmas.Option.{same_Some, slice_get_within}
 use Rattle.serde_json.specs.Data.{Members}
 use Rattle.import_expand.specs.Sources.{Live, sources_of, child_of}
 use Rattle.import_expand.specs.Books as books
 use Rattle.import_expand.specs.Books.{objects, IsAt, Shows, Grows}
-use Rattle.import_expand.specs.Rooms.{objects_in, held, nodes_in, numbers_of, IsNodeAt, IsNode, GrowsBy, IsPlain, IsShown, IsChild, IsTop, IsSound, Keeps, LacksEntry, Later}
+use Rattle.import_expand.specs.Rooms.{objects_in, held, nodes_in, numbers_of, IsNodeAt, IsNode, GivesUp, GrowsBy, IsFull, IsPlain, IsShown, IsChild, IsTop, IsSound, Keeps, LacksEntry, Later}
+use Rattle.import_expand.specs.Rooms.IsFull.{by_book, by_asking}
+use Rattle.import_expand.specs.declared.exhausted.Exhausted.{Exhausted}
+use Rattle.import_expand.specs.declared.limits.TheConstants.{MOST_HELD}
 use Rattle.import_expand.specs.declared.room.Room.{Room}
 use Rattle.import_expand.specs.declared.room.Sources.{Sources}
 use Rattle.import_expand.specs.declared.room.Child.{Child}
 use Rattle.import_expand.specs.declared.room.Top.{Top}
 use Rattle.import_expand.proofs.BookLemmas.{shows_later}
 use Rattle.import_expand.proofs.AbsentLemmas.{child_of_any}
+use Rattle.import_expand.proofs.ExpandLemmas.{shows_length}
 
 pub node_later : (os later : List Members) (nodes more : List (List ℕ)) → Grows os later → GrowsBy nodes more → (k : ℕ) (ns : List Members) → IsNodeAt os nodes k ns → IsNodeAt later more k ns
 node_later os later nodes more g h k ns n = record { numbers = n.numbers; is = h k n.numbers n.is; shown = shows_later os later g n.numbers ns n.shown }
@@ -245,3 +250,24 @@ top_new live a c d of at o here new more =
 -- what a look-up by an index found
 pub found_at : {A : Type 0} (xs ys : List A) (k : ℕ) (x : A) → ys ≡ xs → true ≡ nat_lt k (length ys) → x ≡ get_or ys k x → (k < length xs) × (x ≡ get_or xs k x)
 found_at xs ys k x e within is = (subst (λ zs. k < length zs) e (lookup_within k (length ys) within), subst (λ zs. x ≡ get_or zs k x) e is)
+
+-- what the book gives up, the room does
+pub given_up : (live : Live) (r : Room) (e : Exhausted) → books.GivesUp live r.book e → GivesUp live r e
+given_up live r e up held = by_book (up held)
+
+-- the sources of a node that there is are more than may be counted, behind a try that keeps objects and nodes
+pub asks_too_many : (live : Live) (r later : Room) (k : ℕ) (s : Sources) (e : Exhausted) → IsSound live r → objects_in later ≡ objects_in r → nodes_in later ≡ nodes_in r → (k < length r.nodes.items) × (s ≡ get_or r.nodes.items k s)
+    → MOST_HELD < held later + length (numbers_of s) → GivesUp live later e
+asks_too_many live r later k s e sound os nodes there more = λ full.
+    let n = node_exists live r k s sound there.0 there.1 in
+    let many = shows_length (objects_in r) (numbers_of s) n.of (node_shown r k (numbers_of s) n.of (node_numbers r.nodes.items k s there.0 there.1) n.is) in
+    by_asking k n.of (same_node r later k n.of os nodes n.is) (subst (λ (m : ℕ). MOST_HELD < held later + m) many more)
+
+-- where a look-up by an index found nothing there is no node
+pub no_node_there : (r : Room) (ys : List Sources) (k : ℕ) (ns : List Members) → ys ≡ r.nodes.items → false ≡ nat_lt k (length ys) → IsNode r k ns → ⊥
+no_node_there r ys k ns e out n =
+    let within = slice_get_within (nodes_in r) k n.numbers n.is in
+    let past = ltb-false k (length ys) (sym out) in
+    let same = length_map r.nodes.items in
+    let items = ap length e in
+    absurd (omega (arith, within, past, same, items))

@@ -1,5 +1,5 @@
 -- A room: a book, and the nodes that were met, each with a number.
-use Rattle.std.specs.Prelude.{◌≡◌, ℕ, ◌≤◌, List, [], map, slice_get, Some, None, true}
+use Rattle.std.specs.Prelude.{◌≡◌, ℕ, ◌+◌, ◌<◌, ◌≤◌, List, [], length, map, slice_get, Some, None, true}
 use Rattle.std.specs.List.{All}
 use Rattle.serde_json.specs.Data.{Members}
 use Rattle.ifa_value.specs.declared.item.Key.TheVariants as key
@@ -7,6 +7,8 @@ use Rattle.import_expand.specs.Sources.{Live, sources_of, child_of, entries, fir
 use Rattle.import_expand.specs.Books as books
 use Rattle.import_expand.specs.Books.{objects, IsAt, Shows, Grows}
 use Rattle.import_expand.specs.declared.exhausted.Exhausted.{Exhausted}
+use Rattle.import_expand.specs.declared.exhausted.Exhausted.TheVariants.{Held}
+use Rattle.import_expand.specs.declared.limits.TheConstants.{MOST_HELD}
 use Rattle.import_expand.specs.declared.room.Room.{Room}
 use Rattle.import_expand.specs.declared.room.Sources.{Sources}
 use Rattle.import_expand.specs.declared.room.Child.{Child}
@@ -15,13 +17,9 @@ use Rattle.import_expand.specs.declared.room.Top.{Top}
 abbrev pub objects_in : Room → List Members
 objects_in r = objects r.book
 
--- the bytes of the values that were read and of the entries that were taken out of them
+-- the bytes of the values that were read and of the entries that were taken out of them, and one for each source that was asked
 abbrev pub held : Room → ℕ
 held r = books.held r.book
-
--- no value is refused but where what has to be held next doesn't fit
-abbrev pub GivesUp : Live → Room → Exhausted → Type 0
-GivesUp live r e = books.GivesUp live r.book e
 
 abbrev pub numbers_of : Sources → List ℕ
 numbers_of s = s.numbers.items
@@ -38,6 +36,15 @@ pub record IsNodeAt (os : List Members) (nodes : List (List ℕ)) (k : ℕ) (ns 
 
 abbrev pub IsNode : Room → ℕ → List Members → Type 0
 IsNode r k ns = IsNodeAt (objects_in r) (nodes_in r) k ns
+
+-- What has to be held next doesn't fit: a value that is served, an entry of one, or what a node's sources count that are to be asked for a label.
+pub data IsFull (live : Live) (r : Room) : Type 0 where
+  by_book : books.IsFull live r.book → IsFull live r
+  by_asking : (k : ℕ) (ns : List Members) → IsNode r k ns → MOST_HELD < held r + length ns → IsFull live r
+
+-- no answer is given up but where what has to be held next doesn't fit
+abbrev pub GivesUp : Live → Room → Exhausted → Type 0
+GivesUp live r e = e ≡ Held → IsFull live r
 
 -- a node that there is, of which no source has an entry under a label
 pub record LacksEntry (r : Room) (k : ℕ) (label : List ℕ) : Type 0 where
@@ -90,3 +97,8 @@ pub record Later (live : Live) (r later : Room) : Type 0 where
   pub held : held r ≤ held later
   pub nodes : GrowsBy (nodes_in r) (nodes_in later)
   pub sound : IsSound live later
+
+-- What it costs to ask a node's sources for a label: nothing where it is remembered what comes of it; else each of them counts.
+pub data CountsAsked (r later : Room) (ns : List Members) : Type 0 where
+  remembered : later ≡ r → CountsAsked r later ns
+  asked : held r + length ns ≤ held later → CountsAsked r later ns

@@ -1,4 +1,4 @@
-//! The JSON that is held for one message, counted in bytes.
+//! What is held for one message, counted in bytes: the JSON, and one for each source that is asked for a label.
 
 ghost use Rattle.std.specs.Prelude.{◌≡◌, ◌+◌, ◌<◌, ◌≤◌, length, IfOk, IfErr, OnOk};
 ghost use Rattle.ifa_value.specs.Object.{members};
@@ -12,7 +12,7 @@ use crate::limits::MOST_HELD;
 use ifa_value::{IfaObject, read_value};
 use std::alloc::Global;
 
-/// The bytes of the values that were read and of the entries that were taken out of them.
+/// The bytes of the values that were read and of the entries that were taken out of them, and one for each source that was asked.
 #[derive(Drop)]
 pub(crate) struct Held {
     pub(crate) count: usize,
@@ -52,6 +52,19 @@ impl Held {
             return Err(Exhausted::Held);
         }
         self.count = MOST_HELD + 1 - rest;
+        Ok(())
+    }
+
+    /// Counts so many sources that are to be asked.
+    pub(crate) fn ask(&mut self, sources: usize) -> Result<(), Exhausted>
+        ensures counted { OnOk result (self.new.count ≡ self.old.count + sources) }
+        // They are refused where they don't fit, and only there.
+        ensures refused { IfErr result (λ e. (self.new ≡ self.old) × (GREATEST < self.new.count + sources)) }
+    {
+        if sources > MOST_HELD - self.count {
+            return Err(Exhausted::Held);
+        }
+        self.count += sources;
         Ok(())
     }
 }

@@ -1,13 +1,13 @@
 //! The room in which one message is answered: the objects and the nodes that were met, each with a number.
 
-ghost use Rattle.std.specs.Prelude.{◌≡◌, ◌≤◌, ◌∷◌, [], true, List, length, OnOk, IfOk, IfErr, IfSome};
+ghost use Rattle.std.specs.Prelude.{◌≡◌, ◌+◌, ◌≤◌, ◌∷◌, [], true, List, length, OnOk, IfOk, IfErr, IfSome};
 ghost use Rattle.std.specs.Option.{option_map};
 ghost use Rattle.ifa_value.specs.Object.{members};
 ghost use Rattle.ifa_value.specs.Values.{object_of};
 ghost use Rattle.serde_json.specs.Data.{Members};
 ghost use Rattle.import_expand.specs.Sources.{Live, sources_of, child_of, first_of, entries};
 ghost use Rattle.import_expand.specs.Books.{IsAt, IsCounted, Finds, Shows};
-ghost use Rattle.import_expand.specs.Rooms.{objects_in, nodes_in, held, GivesUp, IsNode, IsPlain, IsSound, Keeps, LacksEntry, Later};
+ghost use Rattle.import_expand.specs.Rooms.{objects_in, nodes_in, held, CountsAsked, GivesUp, IsNode, IsPlain, IsSound, Keeps, LacksEntry, Later};
 ghost use Rattle.import_expand.specs.declared.limits.TheConstants.{MOST_HELD as GREATEST};
 
 use crate::book::Book;
@@ -94,7 +94,7 @@ impl Room {
         self.alike.clear();
     }
 
-    /// The bytes of the values that were read and of the entries that were taken out of them.
+    /// The bytes of the values that were read and of the entries that were taken out of them, and one for each source that was asked.
     pub fn held(&self) -> usize
         ensures held { result ≡ held self.now }
         ensures bound { result ≤ GREATEST }
@@ -399,9 +399,24 @@ impl Room {
         Ok(at)
     }
 
-    /// The number of a node's child under a label: its sources are those of the entries under the label, or, where no source has
-    /// one, under `*`.
-    pub fn child<N: Names>(
+    /// Counts the sources of a node, which are to be asked for a label.
+    fn count_asked(&mut self, of: usize) -> Result<(), Exhausted>
+        ensures later { OnOk result ((live : Live) → IsSound live self.old → Later live self.old self.new) }
+        // Each of them counts.
+        ensures counted { OnOk result ((ns : List Members) → IsNode self.old of ns → held self.new ≡ held self.old + length ns) }
+        ensures refused { IfErr result (λ e. (live : Live) → IsSound live self.old → GivesUp live self.new e) }
+    {
+        match self.nodes.get(of) {
+            Some(sources) => {
+                self.book.count_asked(sources.numbers.as_slice().len())?;
+                Ok(())
+            }
+            None => Ok(()),
+        }
+    }
+
+    /// The number of a node's child under a label, which isn't remembered.
+    fn new_child<N: Names>(
         &mut self,
         alloc: Global,
         names: &N,
@@ -413,10 +428,6 @@ impl Room {
         ensures later { OnOk result (Later (N.served names.now) self.old self.new) }
         ensures refused { IfErr result (GivesUp (N.served names.now) self.new) }
     {
-        match self.known_child(of, label) {
-            Some(known) => return Ok(known),
-            None => {}
-        }
         if self.len(of) <= FEW_SOURCES {
             let at = self.child_under(alloc, names, of, label)?;
             return Ok(at);
@@ -427,5 +438,31 @@ impl Room {
         }
         let at = self.child_under(alloc, names, of, label)?;
         Ok(at)
+    }
+
+    /// The number of a node's child under a label: its sources are those of the entries under the label, or, where no source has
+    /// one, under `*`. Where it isn't remembered, each source of the node is counted, which is asked then.
+    pub fn child<N: Names>(
+        &mut self,
+        alloc: Global,
+        names: &N,
+        of: usize,
+        label: &[u8],
+    ) -> Result<usize, Exhausted>
+        requires sound { IsSound (N.served names.now) self.old }
+        ensures found { IfOk result (λ k. (ns : List Members) → IsNode self.old of ns → IsNode self.new k (child_of (N.served names.now) ns label.now)) }
+        ensures later { OnOk result (Later (N.served names.now) self.old self.new) }
+        // Each source of the node counts that is asked.
+        ensures counted { OnOk result ((ns : List Members) → IsNode self.old of ns → CountsAsked self.old self.new ns) }
+        ensures refused { IfErr result (GivesUp (N.served names.now) self.new) }
+    {
+        match self.known_child(of, label) {
+            Some(known) => Ok(known),
+            None => {
+                self.count_asked(of)?;
+                let at = self.new_child(alloc, names, of, label)?;
+                Ok(at)
+            }
+        }
     }
 }
