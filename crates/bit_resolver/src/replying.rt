@@ -31,7 +31,8 @@ pub enum Answered {
 pub enum Replied {
     /// The question's answer.
     Answer(usize),
-    /// SERVFAIL: memory ran out, or more than 65,536 bytes of values and of their entries would have to be held.
+    /// SERVFAIL: memory ran out, or more than 65,536 bytes would have to be held: of values, of their entries, and one for each source
+    /// that is asked for a label.
     Failure(usize),
 }
 
@@ -47,7 +48,7 @@ impl Replied {
 }
 
 /// Writes the reply to a question at the front of the buffer, in at most so many bytes: 512 to 65,535. `held` becomes the
-/// bytes that were held for it.
+/// bytes that were held for it, with one for each source that was asked for a label.
 pub fn reply_to_question<N: Names>(
     alloc: Global,
     names: &N,

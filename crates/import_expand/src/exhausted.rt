@@ -13,7 +13,7 @@ use std::fmt;
 pub enum Exhausted {
     /// Memory.
     Memory,
-    /// The bytes of JSON that may be held for one message.
+    /// The bytes that may be held for one message: of JSON, and one for each source that is asked for a label.
     Held,
 }
 
@@ -21,7 +21,7 @@ impl fmt::Display for Exhausted {
     fn fmt<W: fmt::Write>(&self, f: &mut fmt::Formatter<W>) -> fmt::Result {
         match self {
             Exhausted::Memory => write!(f, "out of memory"),
-            Exhausted::Held => write!(f, "too many bytes of values to hold"),
+            Exhausted::Held => write!(f, "too many bytes to hold"),
         }
     }
 }
