@@ -12,7 +12,8 @@ import typing
 
 A, TXT = 1, 16
 LONGEST_VALUE = 1023
-# So many bytes of JSON are held for one message: of the values that are read, and of the entries that are taken out of them.
+# So many bytes are held for one message: of the values that are read, and of the entries that are taken out of them, and one for each
+# source that is asked for a label.
 MOST_HELD = 65_536
 MOST_LABELS = 100
 # So many labels, no two of which are the same, are as long as a name may be.
@@ -216,8 +217,24 @@ def by_chance(count, seed=1):
 
 def chances():
     """Imports in an order by chance."""
-    yield Row("28 names by chance", by_chance(20), different("x0.bit."), 0)
+    yield Row("28 names by chance", by_chance(20), different("x0.bit."), 2)
     yield Row("100 names by chance", by_chance(92), different("x0.bit."), 2)
+    yield Row("names of one byte", tiny(), "x0.bit.", 0)
+
+
+def tiny():
+    """On each of eight hops 33 names that import one another and 224 more, whose values say nothing and have a byte: each has to be
+    looked for and read all the same."""
+    texts, found = map("".join, itertools.product(string.ascii_lowercase, repeat=3)), {}
+    for hop in range(8):
+        inner, outer = [f"d/c{hop}{number}" for number in range(28)], [f"d/b{hop}{number}" for number in range(4)]
+        found[f"d/x{hop}"] = {"import": [[name] for name in outer], "alias": f"x{hop + 1}.bit."}
+        for number, name in enumerate(outer):
+            found[name] = {"import": [[it] for it in inner[number::4]]}
+        for name in inner:
+            leaves = list(itertools.islice(texts, 8))
+            found |= {name: {"import": [[leaf] for leaf in leaves]}, **dict.fromkeys(leaves, 1)}
+    return found
 
 
 def tree():
@@ -234,23 +251,23 @@ def labels_by_chance(chance, room):
     return {text: {} for text in sorted(texts)}
 
 
-def alike(entries, asked):
-    """A node of 256 objects that differ, each with a map of such entries: each is asked for each of these labels, on each of eight hops."""
+def alike(entries, asked, hops=8):
+    """A node of 256 objects that differ, each with a map of such entries: each is asked for each of these labels, on each of so many hops."""
     _, outer, inner, leaves = tree()
     found = {leaf: {"map": entries()} for leaf in leaves}
     for name, below_it in {**inner, **outer}.items():
         found[name] = {"import": [[it] for it in below_it], "map": entries()}
     tops = [[name] for name in outer]
-    for hop in range(8):
+    for hop in range(hops):
         more = {"import": [[f"d/x{hop}"], *tops[:7]], "alias": asked(f"x{hop + 1}.bit.")}
         found[f"d/x{hop}"] = {"import": tops, "map": {"*": more}}
     return found
 
 
-def by_size(size):
+def by_size(size, hops=8):
     """The maps have so many bytes, and no label that is asked."""
     chance, *_ = tree()
-    return alike(lambda: labels_by_chance(chance, size), different)
+    return alike(lambda: labels_by_chance(chance, size), different, hops)
 
 
 def hollow(labels=32):
@@ -366,17 +383,18 @@ def apart(count=24, places=3, times=4):
 
 def many():
     """Nodes of as many sources as there may be: no two of them are the same, and no label is found; or a few come again and again, and
-    each label is found in many."""
+    each label is found in many. Where each has to be asked for more than some 250 labels, that is too much to be held."""
     for size in (0, 200):
-        yield Row(f"maps of {size} bytes in {MANY}", by_size(size), different("x0.bit."), 0)
-    yield Row(f"labels without an object in {MANY}", hollow(), different("x0.bit."), 0)
-    yield Row(f"labels of one number in {MANY}", mistaken(), of_one_number(ONE_NUMBER[1], "x0.bit."), 0)
+        yield Row(f"maps of {size} bytes in {MANY}", by_size(size), different("x0.bit."), 2)
+    yield Row(f"maps of 0 bytes in {MANY}, two hops", by_size(0, hops=2), different("x0.bit."), 3)
+    yield Row(f"labels without an object in {MANY}", hollow(), different("x0.bit."), 2)
+    yield Row(f"labels of one number in {MANY}", mistaken(), of_one_number(ONE_NUMBER[1], "x0.bit."), 2)
     for count, length in ((80, 2), (61, 3)):
         asked = ".".join(of_few_remainders(count, length))
-        yield Row(f"labels of {length} letters of few remainders in {MANY}", left_alike(200, count, length), f"{asked}.x0.bit.", 0)
+        yield Row(f"labels of {length} letters of few remainders in {MANY}", left_alike(200, count, length), f"{asked}.x0.bit.", 2)
     yield Row(f"each label in {MANY}", joined(), joined_name(0), 0)
-    yield Row(f"each label in {MANY}, an entry in each", spread(), joined_name(0), 0)
-    yield Row(f"each label in {MANY}, an entry in each, names of each hop", apart(), joined_name(0), 0)
+    yield Row(f"each label in {MANY}, an entry in each", spread(), joined_name(0), 2)
+    yield Row(f"each label in {MANY}, an entry in each, names of each hop", apart(), joined_name(0), 2)
 
 
 def of_size(value, size, levels=1):
@@ -403,18 +421,21 @@ def whole(left, levels, more=()):
     return {name: of_size(value, size, levels) for (name, value), size in zip(values.items(), sizes, strict=True)}
 
 
-# An entry, and how much JSON it is.
-ENTRY, ENTRY_SIZE = {"ip": "1.2.3.4"}, 16
+# An entry, and how much JSON it is; and how many sources those names have, each of which counts one where they are asked for a label.
+ENTRY, ENTRY_SIZE, SOURCES = {"ip": "1.2.3.4"}, 16, 66
 
 
 def bounds():
-    """Values that take the whole room, and a byte more; and an entry that takes the last of it, and a byte more."""
+    """Values that take the whole room, and a byte more; an entry that takes the last of it, and a byte more; and so the sources that are
+    asked."""
     for levels in (1, 25, 100):
         yield Row(f"the whole room, {levels} levels", whole(0, levels), "x.bit.", 0, TXT)
         yield Row(f"a byte more, {levels} levels", whole(-1, levels), "x.bit.", 2, TXT)
     asked = {"map": {"a": ENTRY}}
-    yield Row("an entry that takes the last of it", whole(ENTRY_SIZE, 1, asked.items()), "a.x.bit.", 0)
-    yield Row("an entry a byte too large", whole(ENTRY_SIZE - 1, 1, asked.items()), "a.x.bit.", 2)
+    yield Row("an entry that takes the last of it", whole(ENTRY_SIZE + SOURCES, 1, asked.items()), "a.x.bit.", 0)
+    yield Row("an entry a byte too large", whole(ENTRY_SIZE + SOURCES - 1, 1, asked.items()), "a.x.bit.", 2)
+    yield Row("sources that take the last of it", whole(SOURCES, 1), "a.x.bit.", 3)
+    yield Row("a source too many", whole(SOURCES - 1, 1), "a.x.bit.", 2)
 
 
 def wide():
