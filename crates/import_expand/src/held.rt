@@ -9,25 +9,41 @@ ghost use Rattle.import_expand.specs.declared.limits.TheConstants.{MOST_HELD as 
 
 use crate::exhausted::Exhausted;
 use crate::limits::MOST_HELD;
-use ifa_value::{IfaObject, read_value};
+use crate::shared_object::SharedObject;
+use crate::shelf::{Shelf, read_shelved};
+use ifa_value::IfaObject;
 use std::alloc::Global;
 
-/// The bytes of the values that were read and of the entries that were taken out of them, and one for each source that was asked.
+/// The bytes of the values that were read and of the entries that were taken out of them, and one for each source that was asked. A
+/// value whose object stands on the shelf counts as any other.
 #[derive(Drop)]
 pub(crate) struct Held {
     pub(crate) count: usize,
+    /// Once a short value was read.
+    shelf: Option<Shelf>,
     ghost few: { count ≤ GREATEST },
 }
 
 impl Held {
+    /// Nothing is held, and no shelf is made.
     pub(crate) fn none() -> Held
         ensures { result.count ≡ 0 }
     {
-        Held { count: 0 }
+        Held {
+            count: 0,
+            shelf: None,
+        }
+    }
+
+    /// Lets go what is held. What stands on the shelf stays.
+    pub(crate) fn clear(&mut self)
+        ensures { self.new.count ≡ 0 }
+    {
+        self.count = 0;
     }
 
     /// Reads a value, and counts its bytes.
-    pub(crate) fn read(&mut self, alloc: Global, value: &[u8]) -> Result<IfaObject, Exhausted>
+    pub(crate) fn read(&mut self, alloc: Global, value: &[u8]) -> Result<SharedObject, Exhausted>
         ensures object { IfOk result (λ object. members object ≡ object_of value.now) }
         ensures counted { OnOk result (self.new.count ≡ self.old.count + length value.now) }
         // A value is refused where its bytes don't fit, and only there.
@@ -37,7 +53,7 @@ impl Held {
             return Err(Exhausted::Held);
         }
         self.count += value.len();
-        let object = read_value(alloc, value)?;
+        let object = read_shelved(alloc, value, &mut self.shelf)?;
         Ok(object)
     }
 

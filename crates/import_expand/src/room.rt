@@ -13,6 +13,7 @@ ghost use Rattle.import_expand.specs.declared.limits.TheConstants.{MOST_HELD as 
 use crate::book::Book;
 use crate::exhausted::Exhausted;
 use crate::expansion::{are_absent, are_plain, first_with, listed_child, listed_sources};
+use crate::held::Held;
 use crate::limits::{FEW_SOURCES, LITTLE_HELD};
 use crate::names::Names;
 use ifa_value::{IfaObject, Key, label_number};
@@ -67,8 +68,17 @@ impl Room {
         ensures sound { (live : Live) → IsSound live result }
         ensures held { held result ≡ 0 }
     {
+        Room::over(alloc, Held::none())
+    }
+
+    /// The empty room, for which nothing is held.
+    fn over(alloc: Global, counted: Held) -> Room
+        requires { counted.count ≡ 0 }
+        ensures sound { (live : Live) → IsSound live result }
+        ensures held { held result ≡ 0 }
+    {
         Room {
-            book: Book::new(alloc),
+            book: Book::new(alloc, counted),
             nodes: Vec::new(alloc),
             children: Vec::new(alloc),
             tops: Vec::new(alloc),
@@ -77,13 +87,14 @@ impl Room {
         }
     }
 
-    /// Empties the room for the next message. Its lists keep their room where little was held.
+    /// Empties the room for the next message. Its lists keep their room where little was held, and what stands on the shelf stays.
     pub fn clear(&mut self, alloc: Global)
         ensures sound { (live : Live) → IsSound live self.new }
         ensures held { held self.new ≡ 0 }
     {
         if self.held() > LITTLE_HELD {
-            *self = Room::new(alloc);
+            let counted = self.book.let_go();
+            *self = Room::over(alloc, counted);
             return;
         }
         self.book.clear();
