@@ -15,5 +15,5 @@ bytes_eq-partial_equivalence = partial_equiv_from_equiv bytes_eq-equivalence
 abbrev pub text_writes : List ℕ → fed.HashWrites
 text_writes text = text ∷ []
 
-pub same_writes : (a b : List ℕ) → bytes_eq a b ≡ true → text_writes a ≡ text_writes b
-same_writes a b h = ap text_writes ((bytes_decides a b).0 h)
+pub same_text_writes : (a b : List ℕ) → bytes_eq a b ≡ true → text_writes a ≡ text_writes b
+same_text_writes a b h = ap text_writes ((bytes_decides a b).0 h)

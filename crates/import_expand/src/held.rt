@@ -11,7 +11,7 @@ use crate::exhausted::Exhausted;
 use crate::limits::MOST_HELD;
 use crate::shared_object::SharedObject;
 use crate::shelf::{Shelf, read_shelved};
-use ifa_value::IfaObject;
+use ifa_value::{IfaObject, read_value};
 use std::alloc::Global;
 
 /// The bytes of the values that were read and of the entries that were taken out of them, and one for each source that was asked. A
@@ -42,8 +42,13 @@ impl Held {
         self.count = 0;
     }
 
-    /// Reads a value, and counts its bytes.
-    pub(crate) fn read(&mut self, alloc: Global, value: &[u8]) -> Result<SharedObject, Exhausted>
+    /// Reads a value, and counts its bytes. It is looked for on the shelf, and kept there, if the caller says so.
+    pub(crate) fn read(
+        &mut self,
+        alloc: Global,
+        value: &[u8],
+        by_shelf: bool,
+    ) -> Result<SharedObject, Exhausted>
         ensures object { IfOk result (λ object. members object ≡ object_of value.now) }
         ensures counted { OnOk result (self.new.count ≡ self.old.count + length value.now) }
         // A value is refused where its bytes don't fit, and only there.
@@ -53,7 +58,11 @@ impl Held {
             return Err(Exhausted::Held);
         }
         self.count += value.len();
-        let object = read_shelved(alloc, value, &mut self.shelf)?;
+        let object = if by_shelf {
+            read_shelved(alloc, value, &mut self.shelf)?
+        } else {
+            SharedObject::alone(read_value(alloc, value)?)
+        };
         Ok(object)
     }
 

@@ -4,7 +4,7 @@ ghost use Rattle.std.specs.Prelude.{◌≡◌, IfOk};
 ghost use Rattle.std.specs.Cmp.{on_per, on_equiv};
 ghost use Rattle.std.specs.Str.{bytes_eq};
 ghost use Rattle.import_expand.specs.Sought.{text_of};
-ghost use Rattle.import_expand.specs.Texts.{text_writes, bytes_eq-equivalence, bytes_eq-partial_equivalence, same_writes};
+ghost use Rattle.import_expand.specs.Texts.{text_writes, bytes_eq-equivalence, bytes_eq-partial_equivalence, same_text_writes};
 
 use nmc_base::{Bytes, NoMemory};
 use std::alloc::Global;
@@ -59,7 +59,7 @@ impl Eq for Text {
 impl Hash for Text {
     ghost hash_input = { text_writes };
 
-    ghost respects_eq = { same_writes };
+    ghost respects_eq = { same_text_writes };
 
     fn hash<H: Hasher>(&self, state: &mut H) {
         state.write(self.as_slice());
@@ -89,7 +89,7 @@ impl Eq for Sought<'_> {
 impl Hash for Sought<'_> {
     ghost hash_input = { λ s. text_writes s.bytes.now };
 
-    ghost respects_eq = { λ a b. same_writes a.bytes.now b.bytes.now };
+    ghost respects_eq = { λ a b. same_text_writes a.bytes.now b.bytes.now };
 
     fn hash<H: Hasher>(&self, state: &mut H) {
         state.write(self.bytes);
@@ -99,7 +99,7 @@ impl Hash for Sought<'_> {
 impl Equivalent<Text> for Sought<'_> {
     ghost equivalent = { λ s t. bytes_eq s.bytes.now t };
 
-    ghost respects_hash = { λ s t. same_writes s.bytes.now t };
+    ghost respects_hash = { λ s t. same_text_writes s.bytes.now t };
 
     ghost respects_eq = { λ s x y. bytes_eq-equivalence.congr s.bytes.now x y };
 
