@@ -1,4 +1,4 @@
-//! Trials of what queries are answered with: hosts and addresses, values, imports, messages, and answers over names of their own and over a chain.
+//! Trials of what queries are answered with: hosts and addresses, values, the shelf, imports, messages, and answers over names of their own and over a chain.
 #![tactic(auto)]
 
 #[cfg(test)]
@@ -15,5 +15,7 @@ mod messages;
 mod replies;
 #[cfg(test)]
 mod resolving;
+#[cfg(test)]
+mod shelf;
 #[cfg(test)]
 mod values;
