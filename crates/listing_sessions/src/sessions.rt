@@ -1,6 +1,6 @@
 //! The sessions that are open.
 
-ghost use Rattle.std.specs.Prelude.{◌≡◌, ◌≤◌, ◌<◌, IfOk, IsTrue, MatchBool, Some, None, length, slice_get, slice_set, vec_capacity, vec_len};
+ghost use Rattle.std.specs.Prelude.{◌≡◌, ◌+◌, ◌≤◌, ◌<◌, IfOk, IsTrue, MatchBool, Some, None, length, slice_get, slice_set, vec_capacity, vec_len};
 ghost use Rattle.std.specs.Option.{option_map};
 ghost use Rattle.nmc_base.specs.Heights.{highest};
 ghost use Rattle.chain_commands.specs.Chain.{Chain};
@@ -14,11 +14,12 @@ use crate::replies::{
     lack_memory, refuse_more, refuse_number, tell_closed, tell_number, tell_page,
 };
 use frame_loop::ReplyBuf;
-use nmc_base::{NoMemory, Profile};
+use nmc_base::{NoMemory, Profile, Steps};
 use sliced_save::{Mirror, Rows};
 use std::alloc::Global;
 use std::marker::Model;
 use std::mem;
+use std::sync::ledger::Ledger;
 
 /// So many sessions are open at once, at most.
 pub const MOST_SESSIONS: usize = 8;
@@ -102,12 +103,19 @@ fn rows_of(was: Option<Listing>) -> Option<Rows>
 }
 
 /// Writes the next page of what is held under the number, of so many rows at most, in place of the text; or answers that there is none.
-fn turn_at(held: &mut Vec<Option<Listing>>, number: usize, size: u32, text: &mut Vec<u8>) -> bool
+fn turn_at<L: Ledger>(
+    held: &mut Vec<Option<Listing>>,
+    number: usize,
+    size: u32,
+    text: &mut Vec<u8>,
+    steps: &mut Steps<L>,
+) -> bool
     requires size { size ≤ LARGEST_PAGE }
     requires room { LONGEST_PAGE ≤ vec_capacity text.old }
     ensures turns { TurnsAt size held.old.items number text.new.items result held.new.items }
     ensures short { IsTrue result → vec_len text.new ≤ LONGEST_PAGE }
     ensures capacity { vec_capacity text.old ≤ vec_capacity text.new }
+    ensures cost { steps.new ≤ steps.old + size }
 {
     if !is_held(held, number) {
         return false;
@@ -115,7 +123,7 @@ fn turn_at(held: &mut Vec<Option<Listing>>, number: usize, size: u32, text: &mut
     match take_at(held, number) {
         Some(listing) => {
             let mut listing = listing;
-            listing.turn(size, text);
+            listing.turn(size, text, steps);
             put_at(held, number, Some(listing));
             true
         }
@@ -164,11 +172,19 @@ impl Sessions {
 
     /// Gives the next page of a session, of so many rows at most. Code 0 and the page; or code 32 where no session of this number is
     /// open. It takes no memory.
-    pub fn page(&mut self, number: u32, size: u32, reply: &mut ReplyBuf)
+    pub fn page<L: Ledger>(
+        &mut self,
+        number: u32,
+        size: u32,
+        reply: &mut ReplyBuf,
+        steps: &mut Steps<L>,
+    )
         requires size { size ≤ LARGEST_PAGE }
-        ensures { MakesStep (Pages size number) self.old reply.new self.new }
+        ensures step { MakesStep (Pages size number) self.old reply.new self.new }
+        // Each of its rows is looked up.
+        ensures cost { steps.new ≤ steps.old + size }
     {
-        if turn_at(&mut self.held, number as usize, size, &mut self.text) {
+        if turn_at(&mut self.held, number as usize, size, &mut self.text, steps) {
             tell_page(reply, &self.text);
         } else {
             refuse_number(reply);

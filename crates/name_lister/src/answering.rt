@@ -20,16 +20,18 @@ use std::marker::Model;
 use std::mem;
 use std::sync::ledger::Ledger;
 
-/// A run: the lister as its last turn left it, and what is still to be let go of of sessions that were closed and saves that ended.
+/// A run: the lister as its last turn left it, what is still to be let go of of sessions that were closed and saves that ended, and the
+/// steps that were taken for the mirror.
 ///
 /// Contracts see the lister alone.
 #[derive(Drop)]
-pub(crate) struct Running {
+pub(crate) struct Running<M: Ledger> {
     pub(crate) turned: ListTurned,
     pub(crate) leavings: Leavings,
+    pub(crate) mirror_steps: Steps<M>,
 }
 
-impl Model for Running {
+impl<M: Ledger> Model for Running<M> {
     ghost use Rattle.name_lister.specs.declared.lister.ListTurned.{ListTurned};
 
     ghost Value = { ListTurned };
@@ -37,20 +39,21 @@ impl Model for Running {
     ghost view = { λ r. r.turned };
 }
 
-impl Running {
+impl<M: Ledger> Running<M> {
     /// The run of a lister that was opened.
-    pub(crate) fn new(lister: Lister, leavings: Leavings) -> Running
+    pub(crate) fn new(lister: Lister, leavings: Leavings, mirror_steps: Steps<M>) -> Running<M>
         ensures { result ≡ On lister }
     {
         Running {
             turned: ListTurned::On(lister),
             leavings,
+            mirror_steps,
         }
     }
 }
 
 /// Has a lister deal with an event. It is moved, as that needs; what a fault of the disk has ended stays so.
-fn deal<D: Disk, L: Ledger>(
+fn deal<D: Disk, L: Ledger, M: Ledger>(
     turned: &mut ListTurned,
     alloc: Global,
     disk: &mut D,
@@ -58,6 +61,7 @@ fn deal<D: Disk, L: Ledger>(
     reply: &mut ReplyBuf,
     leavings: &mut Leavings,
     steps: &mut Steps<L>,
+    mirror_steps: &mut Steps<M>,
 ) -> Result<(), Over>
     requires within { IsListReadable event }
     requires ready { Ready D.tells D.seen (turned.old, disk.old) }
@@ -65,18 +69,20 @@ fn deal<D: Disk, L: Ledger>(
 {
     match mem::replace(turned, ListTurned::Ended) {
         ListTurned::Ended => Err(Over),
-        ListTurned::On(lister) => match lister.turn(alloc, disk, event, reply, leavings, steps) {
-            ListTurned::Ended => Err(Over),
-            ListTurned::On(next) => {
-                let_go(mem::replace(turned, ListTurned::On(next)));
-                Ok(())
+        ListTurned::On(lister) => {
+            match lister.turn(alloc, disk, event, reply, leavings, steps, mirror_steps) {
+                ListTurned::Ended => Err(Over),
+                ListTurned::On(next) => {
+                    let_go(mem::replace(turned, ListTurned::On(next)));
+                    Ok(())
+                }
             }
-        },
+        }
     }
 }
 
 /// A lister answers frames by means of the disk that has the files of its bridge. Once a fault has ended it, it answers none.
-impl<D: Disk> Answerer<D> for Running {
+impl<D: Disk, M: Ledger> Answerer<D> for Running<M> {
     ghost use Rattle.name_lister.specs.Event.{last_list_kind};
     ghost use Rattle.name_lister.specs.Reached.{ListBeginning, Ready, Reached, Broken};
 
@@ -108,6 +114,7 @@ impl<D: Disk> Answerer<D> for Running {
             reply,
             &mut self.leavings,
             steps,
+            &mut self.mirror_steps,
         )
     }
 }

@@ -7,6 +7,7 @@ use crate::saving::Saving;
 use bridge_core::Bridge;
 use listing_sessions::Sessions;
 use sliced_save::{Mirror, Slices};
+use std::sync::ledger::Ledger;
 
 pub(crate) fn let_bridge_go(_bridge: Bridge) {}
 
@@ -50,8 +51,12 @@ pub(crate) fn let_go(turned: ListTurned) {
 }
 
 /// All that a run kept.
-pub(crate) fn let_all_go(running: Running) {
-    let Running { turned, leavings } = running;
+pub(crate) fn let_all_go<M: Ledger>(running: Running<M>) {
+    let Running {
+        turned,
+        leavings,
+        mirror_steps: _mirror_steps,
+    } = running;
     let_go(turned);
     let_leavings_go(leavings);
 }

@@ -15,7 +15,7 @@ ghost use Rattle.name_store.specs.Opening.{IsSynced, OpenAnswer};
 ghost use Rattle.name_store.specs.Stands.{Stands};
 ghost use Rattle.bridge_core.specs.Bridged as bridges;
 ghost use Rattle.name_lister.specs.Answers.{AnswersList};
-ghost use Rattle.name_lister.specs.Costs.{IsCheapTurn, opening_cost};
+ghost use Rattle.name_lister.specs.Costs.{IsCheapForMirror, IsCheapTurn, opening_cost};
 ghost use Rattle.name_lister.specs.Event.{Plain, Open, Page, Close, Begin, Slice};
 ghost use Rattle.name_lister.specs.Leavings.{Adds, LetsGo, total};
 ghost use Rattle.name_lister.specs.Lister.{StandsFor, IsListOn};
@@ -148,18 +148,20 @@ impl Lister {
     }
 
     /// Connects a block, and takes the mirror along.
-    fn connect<D: Disk, L: Ledger>(
+    fn connect<D: Disk, L: Ledger, M: Ledger>(
         self,
         alloc: Global,
         disk: &mut D,
         bytes: &[u8],
         reply: &mut ReplyBuf,
         steps: &mut Steps<L>,
+        mirror_steps: &mut Steps<M>,
     ) -> ListTurned
         requires within { length bytes.now ≤ LONGEST_BLOCK }
         requires on_disk { IsTrue D.tells → IsListOn self (D.seen disk.old).moments.now }
         ensures answers { AnswersList D.tells D.seen self disk.old (Plain (Do (Connect bytes.now))) reply.new result disk.new }
         ensures cost { IsCheapTurn self (Plain (Do (Connect bytes.now))) reply.new result steps.old steps.new }
+        ensures mirror { IsCheapForMirror self (Plain (Do (Connect bytes.now))) result mirror_steps.old mirror_steps.new }
     {
         let Lister {
             bridge,
@@ -174,7 +176,7 @@ impl Lister {
                 ListTurned::Ended
             }
             Turned::On(bridge) => {
-                let mirror = behind_connect(alloc, mirror, reply, bridge.chain());
+                let mirror = behind_connect(alloc, mirror, reply, bridge.chain(), mirror_steps);
                 ListTurned::On(Lister {
                     bridge,
                     mirror,
@@ -187,17 +189,19 @@ impl Lister {
     }
 
     /// Disconnects the newest block, and takes the mirror back to where it was before it.
-    fn disconnect<D: Disk, L: Ledger>(
+    fn disconnect<D: Disk, L: Ledger, M: Ledger>(
         self,
         alloc: Global,
         disk: &mut D,
         hash: Hash32,
         reply: &mut ReplyBuf,
         steps: &mut Steps<L>,
+        mirror_steps: &mut Steps<M>,
     ) -> ListTurned
         requires on_disk { IsTrue D.tells → IsListOn self (D.seen disk.old).moments.now }
         ensures answers { AnswersList D.tells D.seen self disk.old (Plain (Do (Disconnect hash.0))) reply.new result disk.new }
         ensures cost { IsCheapTurn self (Plain (Do (Disconnect hash.0))) reply.new result steps.old steps.new }
+        ensures mirror { IsCheapForMirror self (Plain (Do (Disconnect hash.0))) result mirror_steps.old mirror_steps.new }
     {
         let Lister {
             bridge,
@@ -212,7 +216,7 @@ impl Lister {
                 ListTurned::Ended
             }
             Turned::On(bridge) => {
-                let mirror = behind_disconnect(alloc, mirror, reply);
+                let mirror = behind_disconnect(alloc, mirror, reply, mirror_steps);
                 ListTurned::On(Lister {
                     bridge,
                     mirror,
@@ -289,13 +293,22 @@ impl Lister {
     }
 
     /// Gives the next page of a session.
-    fn turn_page<D: Disk>(self, disk: &D, number: u32, reply: &mut ReplyBuf) -> ListTurned
+    fn turn_page<D: Disk, M: Ledger>(
+        self,
+        disk: &D,
+        number: u32,
+        reply: &mut ReplyBuf,
+        mirror_steps: &mut Steps<M>,
+    ) -> ListTurned
         requires on_disk { IsTrue D.tells → IsListOn self (D.seen disk.now).moments.now }
-        ensures { AnswersList D.tells D.seen self disk.now (Page number) reply.new result disk.now }
+        ensures answers { AnswersList D.tells D.seen self disk.now (Page number) reply.new result disk.now }
+        ensures mirror { IsCheapForMirror self (Page number) result mirror_steps.old mirror_steps.new }
     {
         let _ = disk;
         let mut lister = self;
-        lister.sessions.page(number, lister.page, reply);
+        lister
+            .sessions
+            .page(number, lister.page, reply, mirror_steps);
         ListTurned::On(lister)
     }
 
@@ -335,7 +348,9 @@ impl Lister {
     /// later opening, and each later begin, has code FE.
     ///
     /// What a session that is closed, or a save in slices that ends, alone held is let go of behind it, at each event a few parts of it.
-    pub fn turn<D: Disk, L: Ledger>(
+    ///
+    /// What is done to the mirror, and looked up for it, is counted by steps of its own.
+    pub fn turn<D: Disk, L: Ledger, M: Ledger>(
         self,
         alloc: Global,
         disk: &mut D,
@@ -343,19 +358,21 @@ impl Lister {
         reply: &mut ReplyBuf,
         leavings: &mut Leavings,
         steps: &mut Steps<L>,
+        mirror_steps: &mut Steps<M>,
     ) -> ListTurned
         requires within { IsListReadable event }
         requires on_disk { IsTrue D.tells → IsListOn self (D.seen disk.old).moments.now }
         ensures answers { AnswersList D.tells D.seen self disk.old (list_event_of event.entry) reply.new result disk.new }
         ensures cost { IsCheapTurn self (list_event_of event.entry) reply.new result steps.old steps.new }
+        ensures mirror { IsCheapForMirror self (list_event_of event.entry) result mirror_steps.old mirror_steps.new }
         ensures leavings { LetsGo (list_event_of event.entry) leavings.old leavings.new }
     {
         leavings.let_go();
-        self.answered(alloc, disk, event, reply, leavings, steps)
+        self.answered(alloc, disk, event, reply, leavings, steps, mirror_steps)
     }
 
     /// Deals with it, once some of what waits was let go of.
-    fn answered<D: Disk, L: Ledger>(
+    fn answered<D: Disk, L: Ledger, M: Ledger>(
         self,
         alloc: Global,
         disk: &mut D,
@@ -363,61 +380,73 @@ impl Lister {
         reply: &mut ReplyBuf,
         leavings: &mut Leavings,
         steps: &mut Steps<L>,
+        mirror_steps: &mut Steps<M>,
     ) -> ListTurned
         requires within { IsListReadable event }
         requires on_disk { IsTrue D.tells → IsListOn self (D.seen disk.old).moments.now }
         ensures answers { AnswersList D.tells D.seen self disk.old (list_event_of event.entry) reply.new result disk.new }
         ensures cost { IsCheapTurn self (list_event_of event.entry) reply.new result steps.old steps.new }
+        ensures mirror { IsCheapForMirror self (list_event_of event.entry) result mirror_steps.old mirror_steps.new }
         ensures leavings { Adds (list_event_of event.entry) leavings.old leavings.new }
     {
         match event {
-            ListEvent::Plain(event) => self.turn_plain(alloc, disk, event, reply, steps),
+            ListEvent::Plain(event) => {
+                self.turn_plain(alloc, disk, event, reply, steps, mirror_steps)
+            }
             ListEvent::Open => self.open_session(disk, reply),
-            ListEvent::Page(number) => self.turn_page(disk, number, reply),
+            ListEvent::Page(number) => self.turn_page(disk, number, reply, mirror_steps),
             ListEvent::Close(number) => self.close_session(disk, number, reply, leavings),
             ListEvent::Begin => self.begin_save(disk, reply),
-            ListEvent::Slice(asked) => self.slice(disk, asked, reply, leavings),
+            ListEvent::Slice(asked) => self.slice(disk, asked, reply, leavings, mirror_steps),
         }
     }
 
     /// Deals with what a bridge may be asked.
-    fn turn_plain<D: Disk, L: Ledger>(
+    fn turn_plain<D: Disk, L: Ledger, M: Ledger>(
         self,
         alloc: Global,
         disk: &mut D,
         event: Event<'_>,
         reply: &mut ReplyBuf,
         steps: &mut Steps<L>,
+        mirror_steps: &mut Steps<M>,
     ) -> ListTurned
         requires within { IsReadable event }
         requires on_disk { IsTrue D.tells → IsListOn self (D.seen disk.old).moments.now }
         ensures answers { AnswersList D.tells D.seen self disk.old (Plain (event_of event.entry)) reply.new result disk.new }
         ensures cost { IsCheapTurn self (Plain (event_of event.entry)) reply.new result steps.old steps.new }
+        ensures mirror { IsCheapForMirror self (Plain (event_of event.entry)) result mirror_steps.old mirror_steps.new }
     {
         match event {
-            Event::Do(command) => self.execute(alloc, disk, command, reply, steps),
+            Event::Do(command) => { self.execute(alloc, disk, command, reply, steps, mirror_steps) }
             Event::Ask(transport, message) => self.query(alloc, disk, transport, message, reply),
             Event::Save => self.save(alloc, disk, reply),
         }
     }
 
     /// Does a command on the chain.
-    fn execute<D: Disk, L: Ledger>(
+    fn execute<D: Disk, L: Ledger, M: Ledger>(
         self,
         alloc: Global,
         disk: &mut D,
         command: ChainCommand<'_>,
         reply: &mut ReplyBuf,
         steps: &mut Steps<L>,
+        mirror_steps: &mut Steps<M>,
     ) -> ListTurned
         requires within { IsWithinLimits command }
         requires on_disk { IsTrue D.tells → IsListOn self (D.seen disk.old).moments.now }
         ensures answers { AnswersList D.tells D.seen self disk.old (Plain (Do (command_of command.entry))) reply.new result disk.new }
         ensures cost { IsCheapTurn self (Plain (Do (command_of command.entry))) reply.new result steps.old steps.new }
+        ensures mirror { IsCheapForMirror self (Plain (Do (command_of command.entry))) result mirror_steps.old mirror_steps.new }
     {
         match command {
-            ChainCommand::Connect(bytes) => self.connect(alloc, disk, bytes, reply, steps),
-            ChainCommand::Disconnect(hash) => self.disconnect(alloc, disk, hash, reply, steps),
+            ChainCommand::Connect(bytes) => {
+                self.connect(alloc, disk, bytes, reply, steps, mirror_steps)
+            }
+            ChainCommand::Disconnect(hash) => {
+                self.disconnect(alloc, disk, hash, reply, steps, mirror_steps)
+            }
         }
     }
 }

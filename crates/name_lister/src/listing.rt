@@ -20,7 +20,7 @@ use std::marker::Brand;
 use std::sync::ledger::{Blank, Ledger};
 
 /// Opens the files, and then reads and answers frames by means of these buffers.
-fn list_by<S: Source, K: Sink, D: Disk, L: Ledger>(
+fn list_by<S: Source, K: Sink, D: Disk, L: Ledger, M: Ledger>(
     alloc: Global,
     buffers: &mut Buffers,
     source: &mut S,
@@ -30,15 +30,17 @@ fn list_by<S: Source, K: Sink, D: Disk, L: Ledger>(
     page: u32,
     leavings: Leavings,
     steps: &mut Steps<L>,
+    mirror_steps: Steps<M>,
 ) -> Status
     requires limit { limit ≤ 2 ^ 40 }
     requires page { page ≤ LARGEST_PAGE }
     ensures { Lists page D.tells D.seen disk.new (outside (streams (S.seen source.old) (K.seen sink.old)) (D.seen disk.old))
         (outside (streams (S.seen source.new) (K.seen sink.new)) (D.seen disk.new)) limit result }
 {
-    match Lister::open(alloc, disk, page, steps) {
+    let mut mirror_steps = mirror_steps;
+    match Lister::open(alloc, disk, page, &mut mirror_steps) {
         Ok(lister) => {
-            let mut running = Running::new(lister, leavings);
+            let mut running = Running::new(lister, leavings, mirror_steps);
             let ending = follow(
                 alloc,
                 &mut running,
@@ -66,8 +68,8 @@ fn room(alloc: Global) -> Result<(Buffers, Leavings), NoMemory> {
     Ok((buffers, leavings))
 }
 
-/// A listing run whose steps are counted in the ledger of the blank.
-fn list_counted<S: Source, K: Sink, D: Disk, L: Ledger>(
+/// A listing run whose steps are counted in the ledgers of the blanks, those for the mirror in the second.
+fn list_counted<S: Source, K: Sink, D: Disk, L: Ledger, M: Ledger>(
     alloc: Global,
     source: &mut S,
     sink: &mut K,
@@ -75,16 +77,21 @@ fn list_counted<S: Source, K: Sink, D: Disk, L: Ledger>(
     limit: u64,
     page: u32,
     blank: Blank,
+    mirror_blank: Blank,
 ) -> Status
     requires limit { limit ≤ 2 ^ 40 }
     requires page { page ≤ LARGEST_PAGE }
     requires name { blank.name ≡ L.name }
     requires parts { blank.parts ≡ L.parts }
     requires some { 0 < blank.parts }
+    requires mirror_name { mirror_blank.name ≡ M.name }
+    requires mirror_parts { mirror_blank.parts ≡ M.parts }
+    requires mirror_some { 0 < mirror_blank.parts }
     ensures { Lists page D.tells D.seen disk.new (outside (streams (S.seen source.old) (K.seen sink.old)) (D.seen disk.old))
         (outside (streams (S.seen source.new) (K.seen sink.new)) (D.seen disk.new)) limit result }
 {
     let mut steps = Steps::<L>::new(blank);
+    let mirror_steps = Steps::<M>::new(mirror_blank);
     let (buffers, leavings) = match room(alloc) {
         Ok(room) => room,
         Err(NoMemory) => return Status::NoMemory,
@@ -100,6 +107,7 @@ fn list_counted<S: Source, K: Sink, D: Disk, L: Ledger>(
         page,
         leavings,
         &mut steps,
+        mirror_steps,
     )
 }
 
@@ -120,5 +128,14 @@ pub fn list<S: Source, K: Sink, D: Disk>(
     ensures { Lists page D.tells D.seen disk.new (outside (streams (S.seen source.old) (K.seen sink.old)) (D.seen disk.old))
         (outside (streams (S.seen source.new) (K.seen sink.new)) (D.seen disk.new)) limit result }
 {
-    list_counted::<S, K, D, Brand>(alloc, source, sink, disk, limit, page, Blank::new(1))
+    list_counted::<S, K, D, Brand, Brand>(
+        alloc,
+        source,
+        sink,
+        disk,
+        limit,
+        page,
+        Blank::new(1),
+        Blank::new(1),
+    )
 }

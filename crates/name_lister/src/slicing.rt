@@ -1,12 +1,13 @@
 //! Saves in slices: the begin of one, and its slices.
 
-ghost use Rattle.std.specs.Prelude.{◌≡◌, ◌<◌, ◌≤◌, length, None, IfOk, IsTrue};
+ghost use Rattle.std.specs.Prelude.{◌≡◌, ◌+◌, ◌*◌, ◌<◌, ◌≤◌, length, None, IfOk, IsTrue};
 ghost use Rattle.std.specs.Option.{option_map};
 ghost use Rattle.chain_commands.specs.Saving.{most_selections};
 ghost use Rattle.name_store.specs.Drafting.{IsDraftOf, IsDraftOn};
 ghost use Rattle.name_store.specs.Stored.{IsOn};
 ghost use Rattle.name_store.specs.declared.slice_steps.TheConstants.{LONGEST_SLICE};
 ghost use Rattle.name_lister.specs.Answers.{AnswersList};
+ghost use Rattle.name_lister.specs.Costs.{IsCheapForMirror};
 ghost use Rattle.name_lister.specs.Event.{Begin, Slice};
 ghost use Rattle.name_lister.specs.Leavings.{total};
 ghost use Rattle.name_lister.specs.Lister.{IsListOn};
@@ -23,8 +24,9 @@ use bridge_core::{Bridge, DraftTurned, SliceTurned, lack_memory, refuse_save, te
 use disk_model::Disk;
 use frame_loop::ReplyBuf;
 use name_store::{LONGEST_SLICE, SaveRefusal};
-use nmc_base::NoMemory;
+use nmc_base::{NoMemory, Steps};
 use sliced_save::{Mirror, Slices};
+use std::sync::ledger::Ledger;
 
 /// The index as it is, pinned, where its mirror is there.
 fn pinned_now(mirror: Option<&Mirror>) -> Result<Slices, NoMemory>
@@ -37,11 +39,12 @@ fn pinned_now(mirror: Option<&Mirror>) -> Result<Slices, NoMemory>
 }
 
 /// Writes the next slice of a save, of at most as many bytes as the buffer has. Gives back what is left to give out.
-fn write_by<D: Disk>(
+fn write_by<D: Disk, M: Ledger>(
     bridge: Bridge,
     disk: &mut D,
     saving: Saving,
     buf: &mut [u8],
+    steps: &mut Steps<M>,
 ) -> (SliceTurned, Slices)
     requires on_disk { IsTrue D.tells → IsOn bridge.store (D.seen disk.old).moments.now }
     requires is_draft { IsDraftOf bridge.store saving.draft }
@@ -49,22 +52,24 @@ fn write_by<D: Disk>(
     requires some { 1 ≤ length buf.old }
     requires few { length buf.old ≤ LONGEST_SLICE }
     requires drafted { IsTrue D.tells → IsDraftOn bridge.store saving.draft saving.slices.text (D.seen disk.old).moments.now }
-    ensures { WritesSlice D.tells D.seen bridge saving (length buf.old) disk.old disk.new result.0 result.1 }
+    ensures writes { WritesSlice D.tells D.seen bridge saving (length buf.old) disk.old disk.new result.0 result.1 }
+    ensures cost { steps.new ≤ steps.old + 2 * (length buf.old + 1) }
 {
     let most = buf.len();
     let Saving { draft, slices } = saving;
     let mut slices = slices;
-    let count = slices.next(buf);
+    let count = slices.next(buf, steps);
     let turned = bridge.slice(disk, draft, &buf[..count], most);
     (turned, slices)
 }
 
 /// The same by a buffer of its own, of so many bytes at most.
-fn write_slice<D: Disk>(
+fn write_slice<D: Disk, M: Ledger>(
     bridge: Bridge,
     disk: &mut D,
     saving: Saving,
     most: usize,
+    steps: &mut Steps<M>,
 ) -> (SliceTurned, Slices)
     requires on_disk { IsTrue D.tells → IsOn bridge.store (D.seen disk.old).moments.now }
     requires is_draft { IsDraftOf bridge.store saving.draft }
@@ -72,10 +77,11 @@ fn write_slice<D: Disk>(
     requires some { 1 ≤ most }
     requires few { most ≤ LONGEST_SLICE }
     requires drafted { IsTrue D.tells → IsDraftOn bridge.store saving.draft saving.slices.text (D.seen disk.old).moments.now }
-    ensures { WritesSlice D.tells D.seen bridge saving most disk.old disk.new result.0 result.1 }
+    ensures writes { WritesSlice D.tells D.seen bridge saving most disk.old disk.new result.0 result.1 }
+    ensures cost { steps.new ≤ steps.old + 2 * (most + 1) }
 {
     let mut buffer = [0; LONGEST_SLICE];
-    write_by(bridge, disk, saving, &mut buffer[..most])
+    write_by(bridge, disk, saving, &mut buffer[..most], steps)
 }
 
 /// Tells what came of a slice. Gives the bridge back, with the save where that goes on; None behind a fault of the disk. Where the save
@@ -186,15 +192,17 @@ impl Lister {
     }
 
     /// Writes the next slice of the save that runs, and selects its area behind the last.
-    pub(crate) fn slice<D: Disk>(
+    pub(crate) fn slice<D: Disk, M: Ledger>(
         self,
         disk: &mut D,
         asked: u32,
         reply: &mut ReplyBuf,
         leavings: &mut Leavings,
+        mirror_steps: &mut Steps<M>,
     ) -> ListTurned
         requires on_disk { IsTrue D.tells → IsListOn self (D.seen disk.old).moments.now }
         ensures answers { AnswersList D.tells D.seen self disk.old (Slice asked) reply.new result disk.new }
+        ensures mirror { IsCheapForMirror self (Slice asked) result mirror_steps.old mirror_steps.new }
         ensures leavings { total leavings.old ≤ total leavings.new }
     {
         let Lister {
@@ -214,7 +222,7 @@ impl Lister {
                 saving: None,
             });
         };
-        let (turned, slices) = write_slice(bridge, disk, saving, slice_size(asked));
+        let (turned, slices) = write_slice(bridge, disk, saving, slice_size(asked), mirror_steps);
         match tell_slice(turned, slices, reply, leavings) {
             Some((bridge, saving)) => ListTurned::On(Lister {
                 bridge,

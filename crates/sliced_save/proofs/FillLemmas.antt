@@ -38,25 +38,24 @@ module _ {K V : Type 0} (same : K → K → Bool) (decides : (a b : K) → Decid
       (λ e. (turned key q true e, ap there ((decides key q).0 e))) (turned key q false)
       ∙ ap (λ b. cond b (there q) none) (sym (list_any-append (same q) keys (key ∷ [])))
 
-  pub filled_next : (keys : List K) (here new : K → V) (key : K) (i before steps : ℕ) → IsFilled same there none keys here i before steps → slice_get keys i ≡ Some key → new ≡ changed same here key (there key)
-      → IsFilled same there none keys new (i + 1) before (steps + 1)
-  filled_next keys here new key i before steps so_far at is =
+  pub filled_next : (keys : List K) (here new : K → V) (key : K) (i : ℕ) → IsFilled same there none keys here i → slice_get keys i ≡ Some key → new ≡ changed same here key (there key)
+      → IsFilled same there none keys new (i + 1)
+  filled_next keys here new key i so_far at is =
       let within = slice_get_within keys i key at in
       let found = get_or_from_slice_get keys i key key at in
       let e : take (i + 1) keys ≡ take i keys ++ key ∷ [] = take_more keys i key within ∙ ap (λ z. take i keys ++ z ∷ []) found in
       record {
         filled = λ q. filled_more (take i keys) here new key so_far.filled is q ∙ ap (λ (z : List K). cond (list_any (same q) z) (there q) none) (sym e);
         within = omega (arith, within);
-        cost = omega (arith, so_far.cost);
       }
 
   at_any : (b : Bool) (x : V) → (b ≡ false → x ≡ none) → cond b x none ≡ x
   at_any true x isnt = refl
   at_any false x isnt = sym (isnt refl)
 
-  pub filled_all : (keys : List K) (here : K → V) (i before steps : ℕ) → IsFilled same there none keys here i before steps → length keys ≤ i → ((q : K) → list_any (same q) keys ≡ false → there q ≡ none)
+  pub filled_all : (keys : List K) (here : K → V) (i : ℕ) → IsFilled same there none keys here i → length keys ≤ i → ((q : K) → list_any (same q) keys ≡ false → there q ≡ none)
       → here ≡ there
-  filled_all keys here i before steps so_far past unlisted = fun_ext (λ q.
+  filled_all keys here i so_far past unlisted = fun_ext (λ q.
       so_far.filled q ∙ ap (λ (z : List K). cond (list_any (same q) z) (there q) none) (take_all i keys past) ∙ at_any (list_any (same q) keys) (there q) (unlisted q))
 
 pub unlisted_none : {K V : Type 0} (test : K → Bool) (es : List (K × V)) → list_any test (keys_of es) ≡ false → lookup test es ≡ None

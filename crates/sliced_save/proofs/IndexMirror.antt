@@ -1,5 +1,5 @@
 -- The mirror of an index: made of its parts, with its newest block and without it.
-use Rattle.std.proofs.Common.{◌≡◌, ℕ, ◌-◌, ◌≤◌, arith, List, [], ◌∷◌, ◌++◌, length, map, reverse, take, drop, Some, None, refl, sym, ap, subst, ◌∙◌, length-append}
+use Rattle.std.proofs.Common.{◌≡◌, ℕ, ◌+◌, ◌-◌, ◌≤◌, arith, List, [], ◌∷◌, ◌++◌, length, map, reverse, take, drop, Some, None, refl, sym, ap, subst, ◌∙◌, length-append}
 use Rattle.std.proofs.lemmas.List.{reverse-append, reverse-reverse}
 use Rattle.std.specs.List.{AllByRecursion}
 use Rattle.nmc_base.specs.Heights.{highest}
@@ -23,6 +23,7 @@ use Rattle.chain_names.specs.declared.coin.Coin.TheVariants.{New, Named}
 use Rattle.chain_names.specs.declared.coin.Item.{Item}
 use Rattle.chain_names.specs.declared.undo.Undo.{Undo}
 use Rattle.chain_state.specs.Chain.{ArePartsOf, Indexed, IsIndexed}
+use Rattle.chain_state.specs.StageBack.{newest_work}
 use Rattle.chain_state.specs.Standing.{StandsForChain, chain_maps}
 use Rattle.image_grammar.proofs.WrittenLaws.{all_reversed, short_name}
 use Rattle.image_writer.proofs.WholeLemmas.{oldest_first}
@@ -35,6 +36,7 @@ use Rattle.sliced_save.specs.Mirror.{CoinPairs, IsMirrorOf, Mirrored, MirrorsBef
 use Rattle.sliced_save.specs.Rows.{HasFitRow}
 use Rattle.sliced_save.specs.Steps.{IsBack, IsForth, newest_of}
 use Rattle.sliced_save.proofs.ForthLemmas.{coins_forth, names_forth}
+use Rattle.sliced_save.proofs.UndoLemmas.{work_newest}
 
 -- ---- what the tables of an index hold fits
 
@@ -188,6 +190,11 @@ index_without base start (block ∷ blocks) c m s chain = index_before base star
 
 newest_is : (c : Indexed) (parts : Parts) (kept : List Undo) (undo : UndoRecord) → ArePartsOf c parts → kept ≡ parts.undos.items → Some undo ≡ newest_of (newest_first kept) → newest_of c.undos ≡ Some undo
 newest_is c parts kept undo are is newest = sym (newest ∙ ap (λ (l : List Undo). newest_of (newest_first l)) is ∙ ap newest_of are.undos)
+
+-- what the index's newest block touched
+pub index_work : (c : Indexed) (parts : Parts) (kept : List Undo) (undo : UndoRecord) → ArePartsOf c parts → kept ≡ parts.undos.items → Some undo ≡ newest_of (newest_first kept)
+    → newest_work c.undos ≡ length undo.ops + length undo.expired
+index_work c parts kept undo are is newest = work_newest c.undos undo (sym (newest_is c parts kept undo are is newest))
 
 pub index_joined : (c : Indexed) (parts : Parts) (kept : List Undo) (undo : UndoRecord) (old new : Mirrored) → ArePartsOf c parts → kept ≡ parts.undos.items → Some undo ≡ newest_of (newest_first kept)
     → IsForth old parts.coins parts.names undo new → MirrorsBefore c old → MirrorsIndex c new

@@ -9,6 +9,7 @@ use Rattle.chain_names.specs.Coins.{Maps}
 use Rattle.chain_names.specs.Seen.{seen_undo}
 use Rattle.chain_names.specs.Undo.{UndoRecord}
 use Rattle.chain_names.specs.declared.undo.Undo.{Undo}
+use Rattle.chain_state.specs.StageBack.{newest_work}
 use Rattle.undo_records.specs.Text.{undo_text}
 use Rattle.undo_records.specs.declared.version.Version.TheVariants.{Two}
 use Rattle.image_writer.specs.Lengths.{capped}
@@ -88,6 +89,13 @@ below_newest (first ∷ undos) undo maps e =
 pub below_none : (undos : List UndoRecord) (maps : Maps) → None ≡ newest_of undos → maps_below undos maps ≡ maps
 below_none [] maps e = refl
 below_none (first ∷ undos) maps e = absurd (cc e)
+
+-- what the newest one's block touched
+pub work_newest : (undos : List UndoRecord) (undo : UndoRecord) → Some undo ≡ newest_of undos → newest_work undos ≡ length undo.ops + length undo.expired
+work_newest [] undo e = absurd (cc e)
+work_newest (first ∷ undos) undo e =
+    let same : first ≡ undo = cc e in
+    ap (λ (u : UndoRecord). length u.ops + length u.expired) same
 
 -- how long the newest one is
 pub last_length : (stack : List Undo) (i : ℕ) (undo : Undo) (n : ℕ) → i + 1 ≡ length stack → Some undo ≡ slice_get stack i → undos_length (map seen_undo stack) ≤ MOST

@@ -6,4 +6,5 @@ pub mod Sliced
 pub mod Left
 pub mod Lengths
 pub mod Steps
+pub mod Costs
 pub mod Filling

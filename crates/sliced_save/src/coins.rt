@@ -13,15 +13,16 @@ use crate::copies::copy_coin;
 use crate::most::MOST;
 use chain_names::Coin;
 use image_writer::lengths::add_held;
-use nmc_base::{NoMemory, OutPoint};
+use nmc_base::{NoMemory, OutPoint, Steps};
 use pin_views::{MapWaste, SharedMap};
 use std::alloc::Global;
 use std::marker::Model;
+use std::sync::ledger::Ledger;
 use undo_records::widths::read_coin;
 
 /// The coins of a mirror, and how long they are in an image.
 ///
-/// Contracts see each coin behind its outpoint, in the order of outpoints.
+/// Contracts see each coin behind its outpoint, in the order of outpoints. Each look-up, write and removal is a step.
 #[derive(Drop)]
 pub(crate) struct MirrorCoins {
     map: SharedMap<OutPoint, Coin>,
@@ -69,11 +70,13 @@ impl MirrorCoins {
     }
 
     /// The i-th coin behind its outpoint, counted from 0, or None exactly past the end.
-    pub(crate) fn at(&self, i: usize) -> Option<(&OutPoint, &Coin)>
+    pub(crate) fn at<L: Ledger>(&self, i: usize, steps: &mut Steps<L>) -> Option<(&OutPoint, &Coin)>
         ensures pair { option_map (λ p. (p.0.now, p.1.now)) result ≡ slice_get self.now i }
         ensures kept { IfSome result (λ p. IsKeptCoin (p.0.now, p.1.now)) }
         ensures within { IfSome result (λ _. i + 1 < 2 ^ 64) }
+        ensures cost { steps.new ≡ steps.old + 1 }
     {
+        steps.tick();
         let _count = self.map.len();
         match self.map.at(i) {
             Some(pair) => Some(pair),
@@ -96,10 +99,12 @@ impl MirrorCoins {
     }
 
     /// How long the coin of the outpoint is in an image; 0 where it has none.
-    fn len_at(&self, at: &OutPoint) -> u64
+    fn len_at<L: Ledger>(&self, at: &OutPoint, steps: &mut Steps<L>) -> u64
         ensures weight { result ≡ held_weight at.now (coin_at self.now at.now) }
         ensures part { result ≤ coins_length self.now }
+        ensures cost { steps.new ≡ steps.old + 1 }
     {
+        steps.tick();
         match self.map.get(at) {
             Some(coin) => add_held(0, *at, coin),
             None => 0,
@@ -107,27 +112,43 @@ impl MirrorCoins {
     }
 
     /// The outpoint has this coin.
-    pub(crate) fn set(&mut self, alloc: Global, at: OutPoint, coin: &Coin) -> Result<(), NoMemory>
+    pub(crate) fn set<L: Ledger>(
+        &mut self,
+        alloc: Global,
+        at: OutPoint,
+        coin: &Coin,
+        steps: &mut Steps<L>,
+    ) -> Result<(), NoMemory>
         requires { HasShortName coin.now }
-        ensures { OnOk result (coin_at self.new ≡ changed same_point (coin_at self.old) at (Some coin.now)) }
+        ensures coins { OnOk result (coin_at self.new ≡ changed same_point (coin_at self.old) at (Some coin.now)) }
+        ensures grows { steps.old ≤ steps.new }
+        ensures cost { steps.new ≤ steps.old + 2 }
     {
-        let others = self.len - self.len_at(&at);
+        let others = self.len - self.len_at(&at, steps);
         let len = add_held(others, at, coin);
         if len > MOST {
             return Err(NoMemory);
         }
         read_coin(at, coin);
         let copy = copy_coin(alloc, coin)?;
+        steps.tick();
         self.map.set(alloc, at, copy)?;
         self.len = len;
         Ok(())
     }
 
     /// The outpoint has no coin.
-    pub(crate) fn unset(&mut self, alloc: Global, at: OutPoint) -> Result<(), NoMemory>
-        ensures { OnOk result (coin_at self.new ≡ changed same_point (coin_at self.old) at None) }
+    pub(crate) fn unset<L: Ledger>(
+        &mut self,
+        alloc: Global,
+        at: OutPoint,
+        steps: &mut Steps<L>,
+    ) -> Result<(), NoMemory>
+        ensures coins { OnOk result (coin_at self.new ≡ changed same_point (coin_at self.old) at None) }
+        ensures cost { steps.new ≤ steps.old + 2 }
     {
-        let others = self.len - self.len_at(&at);
+        let others = self.len - self.len_at(&at, steps);
+        steps.tick();
         self.map.unset(alloc, &at)?;
         self.len = others;
         Ok(())

@@ -1,6 +1,6 @@
 //! What the parts of an index hold, copied into those of a mirror.
 
-ghost use Rattle.std.specs.Prelude.{◌≡◌, ◌+◌, ◌≤◌, length, map, IfOk};
+ghost use Rattle.std.specs.Prelude.{◌≡◌, ◌+◌, ◌*◌, ◌≤◌, length, map, IfOk};
 ghost use Rattle.std.specs.List.{AllByRecursion};
 ghost use Rattle.chain_names.specs.Limits.{IsWithinLimits};
 ghost use Rattle.chain_names.specs.Seen.{seen_undo};
@@ -19,20 +19,26 @@ use std::alloc::Global;
 use std::sync::ledger::Ledger;
 
 /// These records, that of the oldest block first.
-pub(crate) fn undos_of(alloc: Global, undos: &[Undo]) -> Result<MirrorUndos, NoMemory>
+pub(crate) fn undos_of<L: Ledger>(
+    alloc: Global,
+    undos: &[Undo],
+    steps: &mut Steps<L>,
+) -> Result<MirrorUndos, NoMemory>
     requires { AllByRecursion IsWithinLimits (map seen_undo undos.now) }
-    ensures { IfOk result (λ u. u ≡ map seen_undo undos.now) }
+    ensures undos { IfOk result (λ u. u ≡ map seen_undo undos.now) }
+    ensures grows { steps.old ≤ steps.new }
+    ensures cost { steps.new ≤ steps.old + length undos.now }
 {
     let mut made = MirrorUndos::new();
     let mut rest = undos;
     while let [undo, more @ ..] = rest {
-        made.push(alloc, undo)?;
+        made.push(alloc, undo, steps)?;
         rest = more;
     }
     Ok(made)
 }
 
-/// The coins of a table. Each is looked at once.
+/// The coins of a table. Each is looked at once, and put once.
 pub(crate) fn coins_of<L: Ledger>(
     alloc: Global,
     table: &Coins,
@@ -42,19 +48,19 @@ pub(crate) fn coins_of<L: Ledger>(
     requires short { AreShortCoins (coins_in table.now) }
     ensures coins { IfOk result (λ coins. coin_at coins ≡ coins_in table.now) }
     ensures least { IfOk result (λ _. steps.old + length table.now ≤ steps.new) }
-    ensures cost { steps.new ≤ steps.old + (length table.now + 1) }
+    ensures cost { steps.new ≤ steps.old + (3 * length table.now + 1) }
 {
     let mut coins = MirrorCoins::new();
     for i in 0..usize::MAX {
         match table.item(i, steps) {
             None => return Ok(coins),
-            Some((at, coin)) => coins.set(alloc, *at, coin)?,
+            Some((at, coin)) => coins.set(alloc, *at, coin, steps)?,
         }
     }
     Err(NoMemory)
 }
 
-/// The names of a table with their items. Each is looked at once.
+/// The names of a table with their items. Each is looked at once, and put once.
 pub(crate) fn names_of<L: Ledger>(
     alloc: Global,
     table: &Table,
@@ -63,13 +69,13 @@ pub(crate) fn names_of<L: Ledger>(
     requires { AreFitNames (names_in table.now) }
     ensures names { IfOk result (λ names. items_at names ≡ names_in table.now) }
     ensures least { IfOk result (λ _. steps.old + length table.now ≤ steps.new) }
-    ensures cost { steps.new ≤ steps.old + (length table.now + 1) }
+    ensures cost { steps.new ≤ steps.old + (3 * length table.now + 1) }
 {
     let mut names = MirrorNames::new();
     for i in 0..usize::MAX {
         match table.entry_at(i, steps) {
             None => return Ok(names),
-            Some((name, items)) => names.grow(alloc, name, items)?,
+            Some((name, items)) => names.grow(alloc, name, items, steps)?,
         }
     }
     Err(NoMemory)

@@ -1,6 +1,6 @@
 //! What a block does to the parts of a mirror, as the tables of the index have it now.
 
-ghost use Rattle.std.specs.Prelude.{◌≡◌, OnOk};
+ghost use Rattle.std.specs.Prelude.{◌≡◌, ◌+◌, ◌*◌, ◌≤◌, length, OnOk};
 ghost use Rattle.chain_names.specs.Tables.{coins_in, names_in};
 ghost use Rattle.sliced_save.specs.Changes.{AreShortCoins, AreFitNames, refreshed_point, refreshed_op, refreshed_ops, refreshed_helds, grown_op, grown_ops};
 ghost use Rattle.sliced_save.specs.Mirror.{coin_at, items_at};
@@ -23,11 +23,12 @@ fn refresh_point<L: Ledger>(
     steps: &mut Steps<L>,
 ) -> Result<(), NoMemory>
     requires { AreShortCoins (coins_in table.now) }
-    ensures { OnOk result (coin_at coins.new ≡ refreshed_point table.now at (coin_at coins.old)) }
+    ensures coins { OnOk result (coin_at coins.new ≡ refreshed_point table.now at (coin_at coins.old)) }
+    ensures cost { steps.new ≤ steps.old + 3 }
 {
     match table.get(&at, steps) {
-        Some(coin) => coins.set(alloc, at, coin),
-        None => coins.unset(alloc, at),
+        Some(coin) => coins.set(alloc, at, coin, steps),
+        None => coins.unset(alloc, at, steps),
     }
 }
 
@@ -41,7 +42,8 @@ fn refresh_both<L: Ledger>(
     steps: &mut Steps<L>,
 ) -> Result<(), NoMemory>
     requires { AreShortCoins (coins_in table.now) }
-    ensures { OnOk result (coin_at coins.new ≡ refreshed_point table.now spent (refreshed_point table.now made (coin_at coins.old))) }
+    ensures coins { OnOk result (coin_at coins.new ≡ refreshed_point table.now spent (refreshed_point table.now made (coin_at coins.old))) }
+    ensures cost { steps.new ≤ steps.old + 6 }
 {
     refresh_point(alloc, coins, made, table, steps)?;
     refresh_point(alloc, coins, spent, table, steps)?;
@@ -57,7 +59,8 @@ fn refresh_op<L: Ledger>(
     steps: &mut Steps<L>,
 ) -> Result<(), NoMemory>
     requires { AreShortCoins (coins_in table.now) }
-    ensures { OnOk result (coin_at coins.new ≡ refreshed_op table.now op.now (coin_at coins.old)) }
+    ensures coins { OnOk result (coin_at coins.new ≡ refreshed_op table.now op.now (coin_at coins.old)) }
+    ensures cost { steps.new ≤ steps.old + 6 }
 {
     match op.parts() {
         OpParts::New { made } => refresh_point(alloc, coins, *made, table, steps),
@@ -79,7 +82,8 @@ pub(crate) fn refresh_ops<L: Ledger>(
     steps: &mut Steps<L>,
 ) -> Result<(), NoMemory>
     requires { AreShortCoins (coins_in table.now) }
-    ensures { OnOk result (coin_at coins.new ≡ refreshed_ops table.now ops.now (coin_at coins.old)) }
+    ensures coins { OnOk result (coin_at coins.new ≡ refreshed_ops table.now ops.now (coin_at coins.old)) }
+    ensures cost { steps.new ≤ steps.old + 6 * length ops.now }
 {
     let mut rest = ops;
     while let [op, more @ ..] = rest {
@@ -98,7 +102,8 @@ pub(crate) fn refresh_helds<L: Ledger>(
     steps: &mut Steps<L>,
 ) -> Result<(), NoMemory>
     requires { AreShortCoins (coins_in table.now) }
-    ensures { OnOk result (coin_at coins.new ≡ refreshed_helds table.now helds.now (coin_at coins.old)) }
+    ensures coins { OnOk result (coin_at coins.new ≡ refreshed_helds table.now helds.now (coin_at coins.old)) }
+    ensures cost { steps.new ≤ steps.old + 3 * length helds.now }
 {
     let mut rest = helds;
     while let [held, more @ ..] = rest {
@@ -117,17 +122,20 @@ fn grow_op<L: Ledger>(
     steps: &mut Steps<L>,
 ) -> Result<(), NoMemory>
     requires { AreFitNames (names_in table.now) }
-    ensures { OnOk result (items_at names.new ≡ grown_op table.now op.now (items_at names.old)) }
+    ensures names { OnOk result (items_at names.new ≡ grown_op table.now op.now (items_at names.old)) }
+    ensures cost { steps.new ≤ steps.old + 3 }
 {
     match op.parts() {
         OpParts::New { .. } => Ok(()),
         OpParts::First { change, .. } => {
             let name = change.name.as_slice();
-            names.grow(alloc, name, table.history(name, steps))
+            let items = table.history(name, steps);
+            names.grow(alloc, name, items, steps)
         }
         OpParts::Update { change, .. } => {
             let name = change.name.as_slice();
-            names.grow(alloc, name, table.history(name, steps))
+            let items = table.history(name, steps);
+            names.grow(alloc, name, items, steps)
         }
     }
 }
@@ -141,7 +149,8 @@ pub(crate) fn grow_ops<L: Ledger>(
     steps: &mut Steps<L>,
 ) -> Result<(), NoMemory>
     requires { AreFitNames (names_in table.now) }
-    ensures { OnOk result (items_at names.new ≡ grown_ops table.now ops.now (items_at names.old)) }
+    ensures names { OnOk result (items_at names.new ≡ grown_ops table.now ops.now (items_at names.old)) }
+    ensures cost { steps.new ≤ steps.old + 3 * length ops.now }
 {
     let mut rest = ops;
     while let [op, more @ ..] = rest {

@@ -1,6 +1,6 @@
 //! The text of a mirror's image, while it is given out.
 
-ghost use Rattle.std.specs.Prelude.{◌≡◌, ◌+◌, ◌≤◌, drop, length, min, take};
+ghost use Rattle.std.specs.Prelude.{◌≡◌, ◌+◌, ◌*◌, ◌≤◌, drop, length, min, take};
 ghost use Rattle.image_grammar.specs.Text.{image_text};
 ghost use Rattle.image_writer.specs.Pieces.{Gives};
 ghost use Rattle.undo_records.specs.declared.version.Version.TheVariants.{Two};
@@ -11,7 +11,9 @@ use crate::stage::Stage;
 use image_writer::copy::copy_into;
 use image_writer::page::Page;
 use image_writer::values::{put_count, put_head};
+use nmc_base::Steps;
 use std::marker::Model;
+use std::sync::ledger::Ledger;
 
 /// The text of a mirror's image while it is given out. Contracts see the whole text, and what is left of it.
 #[derive(Drop)]
@@ -69,15 +71,16 @@ impl Giving {
     }
 
     /// Puts the next bytes into the buffer, from a place on, and answers how many.
-    fn give(&mut self, buf: &mut [u8], at: usize) -> usize
+    fn give<L: Ledger>(&mut self, buf: &mut [u8], at: usize, steps: &mut Steps<L>) -> usize
         requires { at ≤ length buf.old }
         ensures gives { Gives self.old.rest self.new.rest buf.old buf.new at result }
         ensures text { self.new.text ≡ self.old.text }
+        ensures cost { steps.new ≤ steps.old + 2 }
     {
         if self.put == self.page.as_slice().len() {
             self.page.clear();
             self.put = 0;
-            self.stage = self.stage.step(&self.mirror, &mut self.page);
+            self.stage = self.stage.step(&self.mirror, &mut self.page, steps);
         }
         let count = copy_into(&self.page.as_slice()[self.put..], buf, at);
         self.put += count;
@@ -85,16 +88,17 @@ impl Giving {
     }
 
     /// Puts the next bytes of the text into the buffer, and answers how many. It fills the buffer, or gives all that is left.
-    pub(crate) fn next(&mut self, buf: &mut [u8]) -> usize
+    pub(crate) fn next<L: Ledger>(&mut self, buf: &mut [u8], steps: &mut Steps<L>) -> usize
         ensures count { result ≡ min (length buf.old) (length self.old.rest) }
         ensures bytes { take result buf.new ≡ take result self.old.rest }
         ensures behind { drop result buf.new ≡ drop result buf.old }
         ensures rest { self.new.rest ≡ drop result self.old.rest }
         ensures text { self.new.text ≡ self.old.text }
+        ensures cost { steps.new ≤ steps.old + 2 * (result + 1) }
     {
         let mut filled = 0;
         while filled < buf.len() {
-            let count = self.give(buf, filled);
+            let count = self.give(buf, filled, steps);
             if count == 0 {
                 return filled;
             }

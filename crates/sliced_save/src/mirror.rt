@@ -1,6 +1,6 @@
 //! The mirror: the whole index once more, which can be pinned.
 
-ghost use Rattle.std.specs.Prelude.{◌≡◌, ℕ, ◌+◌, ◌<◌, ◌≤◌, List, length, IfOk, OnOk};
+ghost use Rattle.std.specs.Prelude.{◌≡◌, ℕ, ◌+◌, ◌*◌, ◌≤◌, List, length, reverse, IfOk, OnOk};
 ghost use Rattle.std.specs.Option.{option_map};
 ghost use Rattle.nmc_base.specs.declared.chain_ends.Base.{Base};
 ghost use Rattle.chain_names.specs.Coins.{history_of};
@@ -15,6 +15,7 @@ ghost use Rattle.name_tables.specs.Tables.{maps_by};
 ghost use Rattle.undo_records.specs.declared.version.Version.TheVariants.{Two};
 ghost use Rattle.chain_state.specs.Chain.{Indexed, IsIndexed};
 ghost use Rattle.sliced_save.specs.Changes.{AreShortCoins, AreFitNames};
+ghost use Rattle.sliced_save.specs.Costs.{back_cost, forth_cost, making_cost};
 ghost use Rattle.sliced_save.specs.Kept.{IsKept};
 ghost use Rattle.sliced_save.specs.Mirror.{MirrorsIndex, MirrorsBefore, MirrorsChain, items_at, mirror_image};
 ghost use Rattle.sliced_save.specs.Rows.{AreRowsOf};
@@ -35,8 +36,8 @@ use image_writer::widths::read_hash;
 use name_tables::Parts;
 use nmc_base::{Base, NoMemory, Steps};
 use std::alloc::Global;
-use std::marker::{Brand, Model};
-use std::sync::ledger::{Blank, Ledger};
+use std::marker::Model;
+use std::sync::ledger::Ledger;
 
 /// The whole index of a chain once more, over maps whose pins share their nodes: its base, its records, its coins, and its names with
 /// their items.
@@ -71,7 +72,7 @@ fn newest(undos: &[Undo]) -> Option<&Undo>
 impl Mirror {
     /// The mirror of a chain's index. Each coin and each name of the tables is looked at once. It takes the memory of the index once
     /// more, and that of the nodes of its maps. It is refused where memory runs out, and where the records, the coins or the names
-    /// alone have more than 2^62 bytes in an image.
+    /// alone have more than 2^62 bytes in an image. What is put into the mirror is counted too.
     pub fn of<L: Ledger>(
         alloc: Global,
         chain: &Chain,
@@ -80,10 +81,10 @@ impl Mirror {
         ensures mirror { IfOk result (MirrorsIndex chain.now) }
         // Each coin and each name is a step.
         ensures least { IfOk result (λ _. steps.old + (length chain.now.tables.coins + length chain.now.tables.names) ≤ steps.new) }
-        ensures cost { steps.new ≤ steps.old + (length chain.now.tables.coins + length chain.now.tables.names + 2) }
+        ensures cost { steps.new ≤ steps.old + making_cost chain.now }
     {
         let parts = chain.parts();
-        let undos = undos_of(alloc, parts.undos.as_slice())?;
+        let undos = undos_of(alloc, parts.undos.as_slice(), steps)?;
         let coins = coins_of(alloc, &parts.coins, steps)?;
         let names = names_of(alloc, &parts.names, steps)?;
         Ok(Mirror {
@@ -96,15 +97,22 @@ impl Mirror {
 
     /// The chain's newest block has joined it: each outpoint that the block touched is looked up, and so is each name that it gave a
     /// value, whose items of before stay where they are. Where it is refused, as `of` is, nothing is left of it.
-    pub fn connected(self, alloc: Global, chain: &Chain) -> Result<Mirror, NoMemory>
-        ensures { IfOk result (λ m. MirrorsBefore chain.now self → MirrorsIndex chain.now m) }
+    pub fn connected<L: Ledger>(
+        self,
+        alloc: Global,
+        chain: &Chain,
+        steps: &mut Steps<L>,
+    ) -> Result<Mirror, NoMemory>
+        ensures mirror { IfOk result (λ m. MirrorsBefore chain.now self → MirrorsIndex chain.now m) }
+        // Each look-up in a table of the index is a step too.
+        ensures cost { steps.new ≤ steps.old + forth_cost chain.now.undos }
     {
         let mut mirror = self;
         let parts = chain.parts();
         match newest(parts.undos.as_slice()) {
             None => Ok(mirror),
             Some(undo) => {
-                mirror.bring_in::<Brand>(alloc, parts, undo, Blank::new(1))?;
+                mirror.bring_in(alloc, parts, undo, steps)?;
                 Ok(mirror)
             }
         }
@@ -112,21 +120,32 @@ impl Mirror {
 
     /// The mirror as it is once its newest block has left, by the record of that block that it keeps itself: in place, so far as nobody
     /// else stands over its parts. Where it is refused, as `of` is, nothing is left of it.
-    pub fn disconnected(self, alloc: Global) -> Result<Mirror, NoMemory>
-        ensures { IfOk result (λ m. (index : Indexed) → MirrorsIndex index self → MirrorsBefore index m) }
+    pub fn disconnected<L: Ledger>(
+        self,
+        alloc: Global,
+        steps: &mut Steps<L>,
+    ) -> Result<Mirror, NoMemory>
+        ensures mirror { IfOk result (λ m. (index : Indexed) → MirrorsIndex index self → MirrorsBefore index m) }
+        ensures cost { steps.new ≤ steps.old + back_cost (reverse self.undos) }
     {
         let mut mirror = self;
-        mirror.go_back(alloc)?;
+        mirror.go_back(alloc, steps)?;
         Ok(mirror)
     }
 
     /// The mirror as it is once the chain's newest block has left it. This one stays as it is. It is refused as `of` is.
-    pub fn disconnecting(&self, alloc: Global, chain: &Chain) -> Result<Mirror, NoMemory>
-        ensures { IfOk result (λ m. MirrorsIndex chain.now self.now → MirrorsBefore chain.now m) }
+    pub fn disconnecting<L: Ledger>(
+        &self,
+        alloc: Global,
+        chain: &Chain,
+        steps: &mut Steps<L>,
+    ) -> Result<Mirror, NoMemory>
+        ensures mirror { IfOk result (λ m. MirrorsIndex chain.now self.now → MirrorsBefore chain.now m) }
+        ensures cost { steps.new ≤ steps.old + back_cost (reverse self.now.undos) }
     {
         let _ = chain;
         let mirror = self.pin()?;
-        let before = mirror.disconnected(alloc)?;
+        let before = mirror.disconnected(alloc, steps)?;
         Ok(before)
     }
 
@@ -217,43 +236,41 @@ impl Mirror {
         self.names.text_len();
     }
 
-    /// What the block of this record, the newest in the parts, does. Nobody reads the steps that it takes.
+    /// What the block of this record, the newest in the parts, does.
     fn bring_in<L: Ledger>(
         &mut self,
         alloc: Global,
         parts: &Parts,
         undo: &Undo,
-        blank: Blank,
+        steps: &mut Steps<L>,
     ) -> Result<(), NoMemory>
-        requires name { blank.name ≡ L.name }
-        requires parts { blank.parts ≡ L.parts }
-        requires some { 0 < blank.parts }
         requires limits { IsWithinLimits (seen_undo undo.now) }
         requires coins { AreShortCoins (coins_in parts.now.coins) }
         requires names { AreFitNames (names_in parts.now.names) }
-        ensures { OnOk result (IsForth self.old parts.now.coins parts.now.names (seen_undo undo.now) self.new) }
+        ensures forth { OnOk result (IsForth self.old parts.now.coins parts.now.names (seen_undo undo.now) self.new) }
+        ensures cost { steps.new ≤ steps.old + (9 * length (seen_undo undo.now).ops + 3 * length (seen_undo undo.now).expired + 1) }
     {
-        let mut steps = Steps::<L>::new(blank);
         let ops = undo.ops.as_slice();
-        refresh_ops(alloc, &mut self.coins, ops, &parts.coins, &mut steps)?;
+        refresh_ops(alloc, &mut self.coins, ops, &parts.coins, steps)?;
         refresh_helds(
             alloc,
             &mut self.coins,
             undo.expired.as_slice(),
             &parts.coins,
-            &mut steps,
+            steps,
         )?;
-        grow_ops(alloc, &mut self.names, ops, &parts.names, &mut steps)?;
-        self.undos.push(alloc, undo)?;
+        grow_ops(alloc, &mut self.names, ops, &parts.names, steps)?;
+        self.undos.push(alloc, undo, steps)?;
         Ok(())
     }
 
     /// What takes the newest block back, if there is one.
-    fn go_back(&mut self, alloc: Global) -> Result<(), NoMemory>
-        ensures { OnOk result (IsBack self.old self.new) }
+    fn go_back<L: Ledger>(&mut self, alloc: Global, steps: &mut Steps<L>) -> Result<(), NoMemory>
+        ensures back { OnOk result (IsBack self.old self.new) }
+        ensures cost { steps.new ≤ steps.old + back_cost (reverse self.old.undos) }
     {
-        undo_newest(alloc, &mut self.coins, &mut self.names, &self.undos)?;
-        self.undos.pop();
+        undo_newest(alloc, &mut self.coins, &mut self.names, &self.undos, steps)?;
+        self.undos.pop(steps);
         Ok(())
     }
 }

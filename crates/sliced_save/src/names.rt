@@ -20,15 +20,17 @@ use crate::copies::copy_item;
 use crate::most::MOST;
 use chain_names::Item;
 use image_writer::lengths::{add_item, add_name};
-use nmc_base::NoMemory;
+use nmc_base::{NoMemory, Steps};
 use pin_views::{MapWaste, NameKey, SharedMap, SharedStack};
 use std::alloc::Global;
 use std::marker::Model;
+use std::sync::ledger::Ledger;
 use undo_records::widths::read_item;
 
 /// The names of a mirror with their items, and how long they are in an image.
 ///
-/// Contracts see the items of each name behind the name, in the order of names.
+/// Contracts see the items of each name behind the name, in the order of names. Each look-up, write and removal of a name is a step;
+/// what is done to the items of one name is none.
 #[derive(Drop)]
 pub(crate) struct MirrorNames {
     map: SharedMap<NameKey, SharedStack<Item>>,
@@ -77,12 +79,18 @@ impl MirrorNames {
     }
 
     /// The i-th name with its items, counted from 0, or None exactly past the end.
-    pub(crate) fn at(&self, i: usize) -> Option<(&[u8], &SharedStack<Item>)>
+    pub(crate) fn at<L: Ledger>(
+        &self,
+        i: usize,
+        steps: &mut Steps<L>,
+    ) -> Option<(&[u8], &SharedStack<Item>)>
         ensures pair { option_map (λ p. (p.0.now, p.1.now)) result ≡ slice_get self.now i }
         ensures kept { IfSome result (λ p. IsKeptName (p.0.now, p.1.now)) }
         ensures within { IfSome result (λ _. i + 1 < 2 ^ 64) }
         ensures all { AreKeptNames self.now }
+        ensures cost { steps.new ≡ steps.old + 1 }
     {
+        steps.tick();
         let _count = self.map.len();
         match self.map.at(i) {
             Some((name, items)) => Some((name.as_slice(), items)),
@@ -105,41 +113,58 @@ impl MirrorNames {
     }
 
     /// The name has these items. The length is that of all names with them.
-    fn set(
+    fn set<L: Ledger>(
         &mut self,
         alloc: Global,
         name: NameKey,
         items: SharedStack<Item>,
         len: u64,
+        steps: &mut Steps<L>,
     ) -> Result<(), NoMemory>
         requires kept { IsKeptName (name, items) }
         requires len { SetsLength self.old name items len }
         requires most { len ≤ MOST }
-        ensures { OnOk result (items_at self.new ≡ changed bytes_eq (items_at self.old) name items) }
+        ensures names { OnOk result (items_at self.new ≡ changed bytes_eq (items_at self.old) name items) }
+        ensures cost { steps.new ≡ steps.old + 1 }
     {
+        steps.tick();
         self.map.set(alloc, name, items)?;
         self.len = len;
         Ok(())
     }
 
     /// The name is none. The length is that of all names without it.
-    fn unset(&mut self, alloc: Global, name: &NameKey, len: u64) -> Result<(), NoMemory>
+    fn unset<L: Ledger>(
+        &mut self,
+        alloc: Global,
+        name: &NameKey,
+        len: u64,
+        steps: &mut Steps<L>,
+    ) -> Result<(), NoMemory>
         requires { UnsetsLength self.old name.now len }
-        ensures { OnOk result (items_at self.new ≡ changed bytes_eq (items_at self.old) name.now []) }
+        ensures names { OnOk result (items_at self.new ≡ changed bytes_eq (items_at self.old) name.now []) }
+        ensures cost { steps.new ≡ steps.old + 1 }
     {
+        steps.tick();
         self.map.unset(alloc, name)?;
         self.len = len;
         Ok(())
     }
 
     /// The items of the name, to be pinned; and the length of all names, if this one has these.
-    fn items_of(&self, name: &NameKey) -> Result<(SharedStack<Item>, u64), NoMemory>
+    fn items_of<L: Ledger>(
+        &self,
+        name: &NameKey,
+        steps: &mut Steps<L>,
+    ) -> Result<(SharedStack<Item>, u64), NoMemory>
         requires { IsWritableName name.now }
         ensures items { IfOk result (λ p. p.0 ≡ items_at self.now name.now) }
         ensures kept { IfOk result (λ p. AllByRecursion IsKeptItem p.0) }
         ensures len { IfOk result (λ p. SetsLength self.now name.now p.0 p.1) }
         ensures most { IfOk result (λ p. p.1 ≤ MOST + 260) }
+        ensures cost { steps.new ≡ steps.old + 1 }
     {
+        steps.tick();
         match self.map.get(name) {
             Some(items) => Ok((items.pin()?, self.len)),
             None => {
@@ -150,33 +175,43 @@ impl MirrorNames {
     }
 
     /// The name has the items of these that it lacks behind its own.
-    pub(crate) fn grow(
+    pub(crate) fn grow<L: Ledger>(
         &mut self,
         alloc: Global,
         name: &[u8],
         items: &[Item],
+        steps: &mut Steps<L>,
     ) -> Result<(), NoMemory>
         requires { AllByRecursion (HasFitRow name.now) items.now }
-        ensures { OnOk result (items_at self.new ≡ grown_name name.now items.now (items_at self.old)) }
+        ensures names { OnOk result (items_at self.new ≡ grown_name name.now items.now (items_at self.old)) }
+        ensures grows { steps.old ≤ steps.new }
+        ensures cost { steps.new ≤ steps.old + 2 }
     {
         if items.len() == 0 {
             return Ok(());
         }
         let key = NameKey::copy_of(alloc, name)?;
-        let (here, begun) = self.items_of(&key)?;
+        let (here, begun) = self.items_of(&key, steps)?;
         let mut here = here;
         let len = push_more(alloc, &mut here, items, begun)?;
         if len > MOST {
             return Err(NoMemory);
         }
-        self.set(alloc, key, here, len)
+        self.set(alloc, key, here, len, steps)
     }
 
     /// The name loses its last item, and goes with it if it was the only one.
-    pub(crate) fn shrink(&mut self, alloc: Global, name: &[u8]) -> Result<(), NoMemory>
-        ensures { OnOk result (items_at self.new ≡ changed bytes_eq (items_at self.old) name.now (without_entry (items_at self.old name.now))) }
+    pub(crate) fn shrink<L: Ledger>(
+        &mut self,
+        alloc: Global,
+        name: &[u8],
+        steps: &mut Steps<L>,
+    ) -> Result<(), NoMemory>
+        ensures names { OnOk result (items_at self.new ≡ changed bytes_eq (items_at self.old) name.now (without_entry (items_at self.old name.now))) }
+        ensures cost { steps.new ≤ steps.old + 2 }
     {
         let key = NameKey::copy_of(alloc, name)?;
+        steps.tick();
         match self.map.get(&key) {
             None => Ok(()),
             Some(items) => {
@@ -184,9 +219,9 @@ impl MirrorNames {
                 let len = self.len - last_len(&items);
                 items.pop();
                 if items.len() == 0 {
-                    self.unset(alloc, &key, len - 5 - name.len() as u64)
+                    self.unset(alloc, &key, len - 5 - name.len() as u64, steps)
                 } else {
-                    self.set(alloc, key, items, len)
+                    self.set(alloc, key, items, len, steps)
                 }
             }
         }

@@ -1,6 +1,6 @@
 //! The rows of a mirror's names, pinned as they stand.
 
-ghost use Rattle.std.specs.Prelude.{◌≡◌, ◌≢◌, [], Some, length, slice_get, IfSome};
+ghost use Rattle.std.specs.Prelude.{◌≡◌, ◌≢◌, ◌+◌, [], Some, length, slice_get, IfSome};
 ghost use Rattle.std.specs.Option.{option_map};
 ghost use Rattle.chain_names.specs.Coins.{entry_of};
 ghost use Rattle.pin_views.specs.Rows.{row_of};
@@ -8,8 +8,10 @@ ghost use Rattle.sliced_save.specs.Rows.{FitsRow, rows_of};
 
 use crate::names::MirrorNames;
 use chain_names::Item;
+use nmc_base::Steps;
 use pin_views::{MapWaste, NameKey, SharedStack};
 use std::marker::Model;
+use std::sync::ledger::Ledger;
 
 /// The row of each name of a mirror, as the names were when these were pinned: its last item, with its height, whether the name is
 /// expired or not. They stand over the mirror's own parts, and stay as they are whatever becomes of the mirror.
@@ -57,12 +59,13 @@ impl Rows {
     }
 
     /// The i-th name with its last item, counted from 0 in the order of the names, or None exactly past the end.
-    pub fn at(&self, i: usize) -> Option<(&[u8], &Item)>
+    pub fn at<L: Ledger>(&self, i: usize, steps: &mut Steps<L>) -> Option<(&[u8], &Item)>
         ensures row { option_map (λ p. (p.0.now, row_of p.1.now)) result ≡ slice_get self.now i }
         // A name has at most 255 bytes, a value 1,023, and no height is above 2,000,000,000.
         ensures fits { IfSome result (λ p. FitsRow p.0.now (row_of p.1.now)) }
+        ensures cost { steps.new ≡ steps.old + 1 }
     {
-        match self.names.at(i) {
+        match self.names.at(i, steps) {
             Some((name, items)) => Some((name, last_of(items))),
             None => None,
         }

@@ -1,6 +1,6 @@
 //! The text of a mirror of one moment, in slices.
 
-ghost use Rattle.std.specs.Prelude.{◌≡◌, ◌+◌, ◌-◌, ◌≤◌, drop, length, min, take};
+ghost use Rattle.std.specs.Prelude.{◌≡◌, ◌+◌, ◌-◌, ◌*◌, ◌≤◌, drop, length, min, take};
 ghost use Rattle.image_grammar.specs.Text.{image_text};
 ghost use Rattle.undo_records.specs.declared.version.Version.TheVariants.{Two};
 ghost use Rattle.sliced_save.specs.Mirror.{mirror_image};
@@ -8,7 +8,9 @@ ghost use Rattle.sliced_save.specs.Mirror.{mirror_image};
 use crate::giving::Giving;
 use crate::mirror::Mirror;
 use crate::waste::MirrorWaste;
+use nmc_base::Steps;
 use std::marker::Model;
+use std::sync::ledger::Ledger;
 
 /// The text of the image of a mirror as it was when this was made, given out in slices. It holds the mirror's nodes to the end, and
 /// takes no memory.
@@ -63,16 +65,18 @@ impl Slices {
     }
 
     /// Puts the next bytes of the text into the buffer, and answers how many. It fills the buffer, or gives all that is left.
-    pub fn next(&mut self, buf: &mut [u8]) -> usize
+    pub fn next<L: Ledger>(&mut self, buf: &mut [u8], steps: &mut Steps<L>) -> usize
         ensures count { result ≡ min (length buf.old) (length self.old.text - self.old.given) }
         ensures bytes { take result buf.new ≡ take result (drop self.old.given self.old.text) }
         // Behind them the buffer stays as it was.
         ensures behind { drop result buf.new ≡ drop result buf.old }
         ensures given { self.new ≡ record self.old { given = self.old.given + result } }
+        // Each value that it begins is looked up, and has a byte at least.
+        ensures cost { steps.new ≤ steps.old + 2 * (result + 1) }
     {
         // Its length fits its type.
         let _whole = self.giving.len();
-        let count = self.giving.next(buf);
+        let count = self.giving.next(buf, steps);
         self.given += count as u64;
         count
     }

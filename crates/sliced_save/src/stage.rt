@@ -1,6 +1,6 @@
 //! Gives an image out value by value.
 
-ghost use Rattle.std.specs.Prelude.{◌≡◌, ◌+◌, ◌^◌, ◌<◌, [], slice_get, IfSome};
+ghost use Rattle.std.specs.Prelude.{◌≡◌, ◌+◌, ◌^◌, ◌<◌, ◌≤◌, [], slice_get, IfSome};
 ghost use Rattle.std.specs.List.{AllByRecursion};
 ghost use Rattle.std.specs.Option.{option_copied};
 ghost use Rattle.chain_names.specs.Limits.{IsWithinLimits, IsWithinLimitsOp, HoldsName};
@@ -12,7 +12,9 @@ use crate::mirror::Mirror;
 use chain_names::{HeldCoin, Item, KeptOp, Undo};
 use image_writer::page::Page;
 use image_writer::values::{put_count, put_held, put_item, put_name, put_op};
+use nmc_base::Steps;
 use pin_views::SharedStack;
+use std::sync::ledger::Ledger;
 
 /// Where the giving of an image stands: what comes next, by its places among the records, coins and names.
 #[derive(Clone, Copy)]
@@ -33,11 +35,17 @@ pub(crate) enum Stage {
 
 /// The head of the next record; behind the last, the number of coins.
 #[tactic(auto, unfolding(undo_records::specs::Text::undo_text))]
-fn step_undos(from: usize, mirror: &Mirror, page: &mut Page) -> Stage
+fn step_undos<L: Ledger>(
+    from: usize,
+    mirror: &Mirror,
+    page: &mut Page,
+    steps: &mut Steps<L>,
+) -> Stage
     requires { page.old ≡ [] }
-    ensures { Writes mirror.now (Stage.InUndos from) result page.new }
+    ensures writes { Writes mirror.now (Stage.InUndos from) result page.new }
+    ensures cost { steps.new ≤ steps.old + 1 }
 {
-    match mirror.undos.at(from) {
+    match mirror.undos.at(from, steps) {
         Some(undo) => {
             page.put(&undo.block.0);
             put_count(page, undo.ops.len());
@@ -86,11 +94,18 @@ fn item_at(items: &SharedStack<Item>, from: usize) -> Option<&Item>
 }
 
 /// The next operation; behind the last, the number of coins that expired.
-fn step_ops(undo: usize, from: usize, mirror: &Mirror, page: &mut Page) -> Stage
+fn step_ops<L: Ledger>(
+    undo: usize,
+    from: usize,
+    mirror: &Mirror,
+    page: &mut Page,
+    steps: &mut Steps<L>,
+) -> Stage
     requires { page.old ≡ [] }
-    ensures { Writes mirror.now (Stage.InOps undo from) result page.new }
+    ensures writes { Writes mirror.now (Stage.InOps undo from) result page.new }
+    ensures cost { steps.new ≤ steps.old + 1 }
 {
-    let Some(record) = mirror.undos.at(undo) else {
+    let Some(record) = mirror.undos.at(undo, steps) else {
         return Stage::InOps { undo, from };
     };
     match op_at(record, from) {
@@ -109,11 +124,18 @@ fn step_ops(undo: usize, from: usize, mirror: &Mirror, page: &mut Page) -> Stage
 }
 
 /// The next coin that expired; behind the last, the next record.
-fn step_expired(undo: usize, from: usize, mirror: &Mirror, page: &mut Page) -> Stage
+fn step_expired<L: Ledger>(
+    undo: usize,
+    from: usize,
+    mirror: &Mirror,
+    page: &mut Page,
+    steps: &mut Steps<L>,
+) -> Stage
     requires { page.old ≡ [] }
-    ensures { Writes mirror.now (Stage.InExpired undo from) result page.new }
+    ensures writes { Writes mirror.now (Stage.InExpired undo from) result page.new }
+    ensures cost { steps.new ≤ steps.old + 2 }
 {
-    let Some(record) = mirror.undos.at(undo) else {
+    let Some(record) = mirror.undos.at(undo, steps) else {
         return Stage::InExpired { undo, from };
     };
     match held_at(record, from) {
@@ -124,16 +146,22 @@ fn step_expired(undo: usize, from: usize, mirror: &Mirror, page: &mut Page) -> S
                 from: from + 1,
             }
         }
-        None => step_undos(undo + 1, mirror, page),
+        None => step_undos(undo + 1, mirror, page, steps),
     }
 }
 
 /// The next coin; behind the last, the number of names.
-fn step_coins(from: usize, mirror: &Mirror, page: &mut Page) -> Stage
+fn step_coins<L: Ledger>(
+    from: usize,
+    mirror: &Mirror,
+    page: &mut Page,
+    steps: &mut Steps<L>,
+) -> Stage
     requires { page.old ≡ [] }
-    ensures { Writes mirror.now (Stage.InCoins from) result page.new }
+    ensures writes { Writes mirror.now (Stage.InCoins from) result page.new }
+    ensures cost { steps.new ≤ steps.old + 1 }
 {
-    match mirror.coins.at(from) {
+    match mirror.coins.at(from, steps) {
         Some((at, coin)) => {
             put_held(page, at, coin);
             Stage::InCoins { from: from + 1 }
@@ -146,11 +174,17 @@ fn step_coins(from: usize, mirror: &Mirror, page: &mut Page) -> Stage
 }
 
 /// The next name with the number of its items; behind the last, nothing.
-fn step_names(from: usize, mirror: &Mirror, page: &mut Page) -> Stage
+fn step_names<L: Ledger>(
+    from: usize,
+    mirror: &Mirror,
+    page: &mut Page,
+    steps: &mut Steps<L>,
+) -> Stage
     requires { page.old ≡ [] }
-    ensures { Writes mirror.now (Stage.InNames from) result page.new }
+    ensures writes { Writes mirror.now (Stage.InNames from) result page.new }
+    ensures cost { steps.new ≤ steps.old + 1 }
 {
-    match mirror.names.at(from) {
+    match mirror.names.at(from, steps) {
         Some((name, items)) => {
             put_name(page, name);
             put_count(page, items.len());
@@ -164,11 +198,18 @@ fn step_names(from: usize, mirror: &Mirror, page: &mut Page) -> Stage
 }
 
 /// The next item; behind the last, the next name.
-fn step_items(name: usize, from: usize, mirror: &Mirror, page: &mut Page) -> Stage
+fn step_items<L: Ledger>(
+    name: usize,
+    from: usize,
+    mirror: &Mirror,
+    page: &mut Page,
+    steps: &mut Steps<L>,
+) -> Stage
     requires { page.old ≡ [] }
-    ensures { Writes mirror.now (Stage.InItems name from) result page.new }
+    ensures writes { Writes mirror.now (Stage.InItems name from) result page.new }
+    ensures cost { steps.new ≤ steps.old + 2 }
 {
-    let Some((_, items)) = mirror.names.at(name) else {
+    let Some((_, items)) = mirror.names.at(name, steps) else {
         return Stage::InItems { name, from };
     };
     match item_at(items, from) {
@@ -179,23 +220,29 @@ fn step_items(name: usize, from: usize, mirror: &Mirror, page: &mut Page) -> Sta
                 from: from + 1,
             }
         }
-        None => step_names(name + 1, mirror, page),
+        None => step_names(name + 1, mirror, page, steps),
     }
 }
 
 impl Stage {
     /// Puts the next value into the page, and answers where the giving stands behind it.
-    pub(crate) fn step(self, mirror: &Mirror, page: &mut Page) -> Stage
+    pub(crate) fn step<L: Ledger>(
+        self,
+        mirror: &Mirror,
+        page: &mut Page,
+        steps: &mut Steps<L>,
+    ) -> Stage
         requires { page.old ≡ [] }
-        ensures { Writes mirror.now self result page.new }
+        ensures writes { Writes mirror.now self result page.new }
+        ensures cost { steps.new ≤ steps.old + 2 }
     {
         match self {
-            Stage::InUndos { from } => step_undos(from, mirror, page),
-            Stage::InOps { undo, from } => step_ops(undo, from, mirror, page),
-            Stage::InExpired { undo, from } => step_expired(undo, from, mirror, page),
-            Stage::InCoins { from } => step_coins(from, mirror, page),
-            Stage::InNames { from } => step_names(from, mirror, page),
-            Stage::InItems { name, from } => step_items(name, from, mirror, page),
+            Stage::InUndos { from } => step_undos(from, mirror, page, steps),
+            Stage::InOps { undo, from } => step_ops(undo, from, mirror, page, steps),
+            Stage::InExpired { undo, from } => step_expired(undo, from, mirror, page, steps),
+            Stage::InCoins { from } => step_coins(from, mirror, page, steps),
+            Stage::InNames { from } => step_names(from, mirror, page, steps),
+            Stage::InItems { name, from } => step_items(name, from, mirror, page, steps),
         }
     }
 }

@@ -12,15 +12,17 @@ use crate::copies::copy_undo;
 use crate::most::MOST;
 use chain_names::Undo;
 use image_writer::lengths::add_undo;
-use nmc_base::NoMemory;
+use nmc_base::{NoMemory, Steps};
 use pin_views::SharedStack;
 use std::alloc::Global;
 use std::marker::Model;
+use std::sync::ledger::Ledger;
 use undo_records::widths::read_record;
 
 /// The records of a mirror, and how long they are in an image.
 ///
-/// Contracts see them without the spare room of their lists, that of the oldest block first.
+/// Contracts see them without the spare room of their lists, that of the oldest block first. Each look-up, and each record that comes or
+/// goes, is a step.
 #[derive(Drop)]
 pub(crate) struct MirrorUndos {
     stack: SharedStack<Undo>,
@@ -69,11 +71,13 @@ impl MirrorUndos {
     }
 
     /// The i-th record, counted from 0, that of the oldest block first, or None exactly past the end.
-    pub(crate) fn at(&self, i: usize) -> Option<&Undo>
+    pub(crate) fn at<L: Ledger>(&self, i: usize, steps: &mut Steps<L>) -> Option<&Undo>
         ensures undo { option_map (λ u. seen_undo u.now) result ≡ slice_get self.now i }
         ensures kept { IfSome result (λ u. IsKeptUndo (seen_undo u.now)) }
         ensures within { IfSome result (λ _. i + 1 < 2 ^ 64) }
+        ensures cost { steps.new ≡ steps.old + 1 }
     {
+        steps.tick();
         let _count = self.stack.len();
         match self.stack.at(i) {
             Some(undo) => Some(undo),
@@ -82,15 +86,16 @@ impl MirrorUndos {
     }
 
     /// The newest record, if there is one.
-    pub(crate) fn newest(&self) -> Option<&Undo>
+    pub(crate) fn newest<L: Ledger>(&self, steps: &mut Steps<L>) -> Option<&Undo>
         ensures undo { option_map (λ u. seen_undo u.now) result ≡ newest_of (reverse self.now) }
         ensures limits { IfSome result (λ u. IsWithinLimits (seen_undo u.now)) }
+        ensures cost { steps.new ≤ steps.old + 1 }
     {
         let count = self.count();
         if count == 0 {
             return None;
         }
-        match self.at(count - 1) {
+        match self.at(count - 1, steps) {
             Some(undo) => Some(undo),
             None => None,
         }
@@ -106,9 +111,16 @@ impl MirrorUndos {
     }
 
     /// One record more, that of a newer block.
-    pub(crate) fn push(&mut self, alloc: Global, undo: &Undo) -> Result<(), NoMemory>
+    pub(crate) fn push<L: Ledger>(
+        &mut self,
+        alloc: Global,
+        undo: &Undo,
+        steps: &mut Steps<L>,
+    ) -> Result<(), NoMemory>
         requires { IsWithinLimits (seen_undo undo.now) }
-        ensures { OnOk result (self.new ≡ self.old ++ seen_undo undo.now ∷ []) }
+        ensures undos { OnOk result (self.new ≡ self.old ++ seen_undo undo.now ∷ []) }
+        ensures grows { steps.old ≤ steps.new }
+        ensures cost { steps.new ≤ steps.old + 1 }
     {
         let len = add_undo(self.len, undo);
         if len > MOST {
@@ -116,19 +128,22 @@ impl MirrorUndos {
         }
         read_record(undo);
         let copy = copy_undo(alloc, undo)?;
+        steps.tick();
         self.stack.push(alloc, copy)?;
         self.len = len;
         Ok(())
     }
 
     /// How long the newest record is in an image; 0 where there is none.
-    fn last_len(&self) -> u64
-        ensures { result + undos_length (take (length self.now - 1) self.now) ≡ undos_length self.now }
+    fn last_len<L: Ledger>(&self, steps: &mut Steps<L>) -> u64
+        ensures length { result + undos_length (take (length self.now - 1) self.now) ≡ undos_length self.now }
+        ensures cost { steps.new ≤ steps.old + 1 }
     {
         let count = self.stack.len();
         if count == 0 {
             return 0;
         }
+        steps.tick();
         match self.stack.at(count - 1) {
             Some(undo) => add_undo(0, undo),
             None => 0,
@@ -136,10 +151,12 @@ impl MirrorUndos {
     }
 
     /// Takes the newest record away, if there is one. It takes no memory.
-    pub(crate) fn pop(&mut self)
-        ensures { self.new ≡ take (length self.old - 1) self.old }
+    pub(crate) fn pop<L: Ledger>(&mut self, steps: &mut Steps<L>)
+        ensures undos { self.new ≡ take (length self.old - 1) self.old }
+        ensures cost { steps.new ≤ steps.old + 2 }
     {
-        self.len -= self.last_len();
+        self.len -= self.last_len(steps);
+        steps.tick();
         self.stack.pop();
     }
 }

@@ -13,8 +13,8 @@ slice-turned-requires-clause-next g c =
       next = piece_next c.args.saving c.requires.given now c.next-count.result (length c.args.buf.now) size c.next-count.ensures.count c.next-count.ensures.bytes;
     }
 
-pub returns : goal.returns
-returns g c =
+pub returns-clause-writes : goal.returns-clause-writes
+returns-clause-writes g c =
     let now = c.next-count.new.buf in
     let count = c.next-count.result in
     let most = length c.args.buf.now in

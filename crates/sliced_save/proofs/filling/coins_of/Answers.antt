@@ -17,14 +17,16 @@ set-requires g c = c.requires.short c.in-Some.at.now c.in-Some.coin.now c.in-Som
 
 pub returns-in-None-clause-coins : goal.returns-in-None-clause-coins
 returns-in-None-clause-coins g c =
-    filled_all same_point same_point-Decides (coins_in c.args.table.now) None (keys_of c.args.table.now) (coin_at c.loop-i.coins) c.loop-i.i _ _ c.loop-i.invariant
+    filled_all same_point same_point-Decides (coins_in c.args.table.now) None (keys_of c.args.table.now) (coin_at c.loop-i.coins) c.loop-i.i c.loop-i.invariant.0
     (omega (arith, length-map c.args.table.now (λ p. p.0), c.in-None.ensures.item))
     (λ q e. ap filled_by (unlisted_none (same_point q) c.args.table.now e))
 
 pub loop-i-preserved : goal.loop-i-preserved
 loop-i-preserved g c =
-    let table = c.args.table.now in
-    rw c.in-Some.ensures.cost
-    (filled_next same_point same_point-Decides (coins_in table) None (keys_of table) (coin_at c.loop-i.coins) (coin_at c.set.new.self) c.in-Some.at.now c.loop-i.i c.args.steps.now c.loop-i.steps
-    c.loop-i.invariant (slice_get_map (λ (p : OutPoint × Option Coin). p.0) table c.loop-i.i ∙ ap (option_map (λ (p : OutPoint × Option Coin). p.0)) c.in-Some.ensures.item)
-    (c.in_ok-set-in-Some.ensures ∙ ap (changed same_point (coin_at c.loop-i.coins) c.in-Some.at.now) (sym c.in-Some.ensures.held)))
+    let table = c.args.table.now in (
+      filled_next same_point same_point-Decides (coins_in table) None (keys_of table) (coin_at c.loop-i.coins) (coin_at c.set.new.self) c.in-Some.at.now c.loop-i.i
+          c.loop-i.invariant.0 (slice_get_map (λ (p : OutPoint × Option Coin). p.0) table c.loop-i.i ∙ ap (option_map (λ (p : OutPoint × Option Coin). p.0)) c.in-Some.ensures.item)
+          (c.in_ok-set-in-Some.ensures.coins ∙ ap (changed same_point (coin_at c.loop-i.coins) c.in-Some.at.now) (sym c.in-Some.ensures.held)),
+      omega (arith, c.in-Some.ensures.cost, c.in_ok-set-in-Some.ensures.grows, c.loop-i.invariant.1),
+      omega (arith, c.in-Some.ensures.cost, c.in_ok-set-in-Some.ensures.cost, c.loop-i.invariant.2),
+    )

@@ -1,4 +1,4 @@
-use Rattle.std.proofs.Common.{None}
+use Rattle.std.proofs.Common.{◌+◌, ◌*◌, ◌≤◌, None}
 use Rattle.std.specs.Map.{keys_of}
 use Rattle.chain_names.specs.Points.{same_point}
 use Rattle.chain_names.specs.Tables.{coins_in}
@@ -7,4 +7,4 @@ use Rattle.sliced_save.specs.Mirror.{coin_at}
 use Rattle.sliced_save.proofs.filling.coins_of.Given as goal
 
 abbrev pub invariant-loop-i : goal.invariant-loop-i
-invariant-loop-i g l = IsFilled same_point (coins_in l.table) None (keys_of l.table) (coin_at l.coins) l.i l.initial.steps l.steps
+invariant-loop-i g l = IsFilled same_point (coins_in l.table) None (keys_of l.table) (coin_at l.coins) l.i × (l.initial.steps + l.i ≤ l.steps) × (l.steps ≤ l.initial.steps + 3 * l.i)

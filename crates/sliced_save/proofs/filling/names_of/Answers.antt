@@ -17,12 +17,14 @@ pub loop-i-preserved : goal.loop-i-preserved
 loop-i-preserved g c =
     let table = c.args.table.now in
     let name = c.in-Some.name.now in
-    let old = items_at c.loop-i.names in
-    rw c.in-Some.ensures.cost
-    (filled_next bytes_eq bytes_eq-Decides (names_in table) [] (keys_of table) old (items_at c.grow.new.self) name c.loop-i.i c.args.steps.now c.loop-i.steps c.loop-i.invariant c.in-Some.ensures.name
-    (c.in_ok-grow-in-Some.ensures
-    ∙ ap (changed bytes_eq old name)
-    (ap (grown (old name)) c.in-Some.ensures.items ∙ grown_filled (list_any (bytes_eq name) (take c.loop-i.i (keys_of table))) (old name) (names_in table name) (c.loop-i.invariant.filled name))))
+    let old = items_at c.loop-i.names in (
+      filled_next bytes_eq bytes_eq-Decides (names_in table) [] (keys_of table) old (items_at c.grow.new.self) name c.loop-i.i c.loop-i.invariant.0 c.in-Some.ensures.name
+          (c.in_ok-grow-in-Some.ensures.names
+          ∙ ap (changed bytes_eq old name)
+          (ap (grown (old name)) c.in-Some.ensures.items ∙ grown_filled (list_any (bytes_eq name) (take c.loop-i.i (keys_of table))) (old name) (names_in table name) (c.loop-i.invariant.0.filled name))),
+      omega (arith, c.in-Some.ensures.cost, c.in_ok-grow-in-Some.ensures.grows, c.loop-i.invariant.1),
+      omega (arith, c.in-Some.ensures.cost, c.in_ok-grow-in-Some.ensures.cost, c.loop-i.invariant.2),
+    )
 
 pub returns-in-None : goal.returns-in-None
 returns-in-None g c =
@@ -30,7 +32,7 @@ returns-in-None g c =
     let past = past_end (keys_of table) c.loop-i.i (sym c.in-None.ensures.name) in
     let many = length-map table (λ p. p.0) in
     record {
-      names = filled_all bytes_eq bytes_eq-Decides (names_in table) [] (keys_of table) (items_at c.loop-i.names) c.loop-i.i _ _ c.loop-i.invariant past (λ q e. ap items_of (unlisted_none (bytes_eq q) table e));
-      least = omega (arith, past, many, c.loop-i.invariant.cost, c.in-None.ensures.cost);
-      cost = omega (arith, many, c.loop-i.invariant.within, c.loop-i.invariant.cost, c.in-None.ensures.cost);
+      names = filled_all bytes_eq bytes_eq-Decides (names_in table) [] (keys_of table) (items_at c.loop-i.names) c.loop-i.i c.loop-i.invariant.0 past (λ q e. ap items_of (unlisted_none (bytes_eq q) table e));
+      least = omega (arith, past, many, c.loop-i.invariant.1, c.in-None.ensures.cost);
+      cost = omega (arith, many, c.loop-i.invariant.0.within, c.loop-i.invariant.2, c.in-None.ensures.cost);
     }

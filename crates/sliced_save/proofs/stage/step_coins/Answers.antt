@@ -10,16 +10,16 @@ use Rattle.sliced_save.specs.declared.stage.Stage.TheVariants.{InCoins, InNames}
 use Rattle.sliced_save.proofs.StageLemmas.{next_value, no_value, writes}
 use Rattle.sliced_save.proofs.stage.step_coins.Goals as goal
 
-pub returns-in-Some : goal.returns-in-Some
-returns-in-Some c =
+pub returns-in-Some-clause-writes : goal.returns-in-Some-clause-writes
+returns-in-Some-clause-writes g c =
     let m = c.args.mirror.now in
     let pair : OutPoint × Coin = (c.in-Some.at.now, c.in-Some.coin.now) in
     let here : Some pair ≡ slice_get m.coins c.args.from = c.in-Some.ensures.pair ∙ ap (λ (z : Mirrored). slice_get z.coins c.args.from) c.mirror.view_is in
     writes m (InCoins c.args.from) _ c.put_held.new.page (held_text (held_pair pair)) (c.put_held.ensures.text ∙ ap (λ (l : List ℕ). l ++ held_text (held_pair pair)) c.requires)
     (omega (arith, c.put_held.ensures.grows.some)) (next_value held_pair held_text m.coins c.args.from (to_le_bytes w32 (length m.names) ++ names_left m 0) pair (sym here))
 
-pub returns-in-None : goal.returns-in-None
-returns-in-None c =
+pub returns-in-None-clause-writes : goal.returns-in-None-clause-writes
+returns-in-None-clause-writes g c =
     let m = c.args.mirror.now in
     let past : None ≡ slice_get m.coins c.args.from = c.in-None.ensures.pair ∙ ap (λ (z : Mirrored). slice_get z.coins c.args.from) c.mirror.view_is in
     let count : c.count.result ≡ length m.names = c.count.ensures.count ∙ ap (λ (z : Mirrored). length z.names) c.mirror.view_is in

@@ -9,8 +9,8 @@ use Rattle.sliced_save.specs.declared.stage.Stage.TheVariants.{InOps, InExpired}
 use Rattle.sliced_save.proofs.StageLemmas.{next_op, no_op, writes}
 use Rattle.sliced_save.proofs.stage.step_ops.Goals as goal
 
-pub returns-in-Some-op_at : goal.returns-in-Some-op_at
-returns-in-Some-op_at c =
+pub returns-in-Some-op_at-clause-writes : goal.returns-in-Some-op_at-clause-writes
+returns-in-Some-op_at-clause-writes g c =
     let m = c.args.mirror.now in
     let u = seen_undo c.in-Some.record.now in
     let here : Some u ≡ slice_get m.undos c.args.undo = c.in-Some.ensures.undo ∙ ap (λ (z : Mirrored). slice_get z.undos c.args.undo) c.mirror.view_is in
@@ -18,8 +18,8 @@ returns-in-Some-op_at c =
     writes m (InOps c.args.undo c.args.from) _ c.put_op.new.page (op_text Two op) (c.put_op.ensures.text ∙ ap (λ (l : List ℕ). l ++ op_text Two op) c.requires)
     (omega (arith, c.put_op.ensures.grows.some)) (next_op m c.args.undo c.args.from u op (sym here) (sym c.in-Some-op_at.ensures.op))
 
-pub returns-in-None : goal.returns-in-None
-returns-in-None c =
+pub returns-in-None-clause-writes : goal.returns-in-None-clause-writes
+returns-in-None-clause-writes g c =
     let m = c.args.mirror.now in
     let u = seen_undo c.in-Some.record.now in
     let here : Some u ≡ slice_get m.undos c.args.undo = c.in-Some.ensures.undo ∙ ap (λ (z : Mirrored). slice_get z.undos c.args.undo) c.mirror.view_is in

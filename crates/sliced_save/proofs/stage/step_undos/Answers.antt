@@ -10,8 +10,8 @@ use Rattle.sliced_save.proofs.StageLemmas.{no_plain, record_head, writes}
 use Rattle.undo_records.specs.Text.{undo_text}
 use Rattle.sliced_save.proofs.stage.step_undos.Goals as goal
 
-pub returns-in-Some : goal.returns-in-Some
-returns-in-Some c =
+pub returns-in-Some-clause-writes : goal.returns-in-Some-clause-writes
+returns-in-Some-clause-writes g c =
     let m = c.args.mirror.now in
     let u = seen_undo c.in-Some.undo.now in
     let here : Some u ≡ slice_get m.undos c.args.from = c.in-Some.ensures.undo ∙ ap (λ (z : Mirrored). slice_get z.undos c.args.from) c.mirror.view_is in
@@ -21,8 +21,8 @@ returns-in-Some c =
     ∙ ap (λ (n : ℕ). u.block.0 ++ to_le_bytes w32 n) c.len.ensures)
     (omega (arith, c.put_count.ensures.grows.some)) (record_head m c.args.from u (sym here))
 
-pub returns-in-None : goal.returns-in-None
-returns-in-None c =
+pub returns-in-None-clause-writes : goal.returns-in-None-clause-writes
+returns-in-None-clause-writes g c =
     let m = c.args.mirror.now in
     let past : None ≡ slice_get m.undos c.args.from = c.in-None.ensures.undo ∙ ap (λ (z : Mirrored). slice_get z.undos c.args.from) c.mirror.view_is in
     let count : c.count.result ≡ length m.coins = c.count.ensures ∙ ap (λ (z : Mirrored). length z.coins) c.mirror.view_is in

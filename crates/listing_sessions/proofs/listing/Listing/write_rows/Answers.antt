@@ -8,7 +8,7 @@ use Rattle.listing_sessions.proofs.PageLemmas.{rows_more}
 use Rattle.listing_sessions.proofs.listing.Listing.write_rows.Goals as goal
 
 pub loop-i-preserved : goal.loop-i-preserved
-loop-i-preserved c =
+loop-i-preserved g c =
     let listing = c.args.self.now in
     let row : List ℕ × Row = (c.left.result.0.now, row_of c.left.result.1.now) in
     record {
@@ -16,4 +16,5 @@ loop-i-preserved c =
           (sym c.left.ensures.row) c.loop-i.invariant.text_is (c.write_row.ensures.text ∙ ap (λ (b : Bool). c.loop-i.text.items ++ row_text (λ other. b) row) c.serves.ensures);
       short = omega arith;
       capacity = omega arith;
+      cost = omega arith;
     }

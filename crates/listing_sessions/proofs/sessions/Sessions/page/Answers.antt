@@ -6,8 +6,8 @@ use Rattle.listing_sessions.proofs.SessionLemmas.{paged_now, paged_none}
 use Rattle.listing_sessions.proofs.sessions.Sessions.page.Goals as goal
 use Rattle.listing_sessions.proofs.sessions.Sessions.page.Goals.{then-turn_at, else-turn_at}
 
-pub returns : goal.returns
-returns c = λ sessions stand.
+pub returns-clause-step : goal.returns-clause-step
+returns-clause-step g c = λ sessions stand.
     let held : List (Option Pinned) = c.self.inside.held.items in
     let new : List (Option Pinned) = c.turn_at.new.held.items in
     let text = c.turn_at.new.text.items in

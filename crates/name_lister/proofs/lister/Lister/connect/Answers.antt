@@ -41,6 +41,9 @@ returns-in-On-clause-cost g c = λ is_zero.
     subst (λ (o : Listed). IsCheapListed o.bridge.store.index (Connect c.args.bytes.now) c.in-On.bridge.store.index c.args.steps.now c.turn.new.steps) c.self.view_is
     (record { cheap = c.in-On.ensures.cost is_zero })
 
+pub returns-in-On-clause-mirror : goal.returns-in-On-clause-mirror
+returns-in-On-clause-mirror g c = rw (← c.chain.ensures) c.behind_connect-mirror.ensures.cost
+
 pub invariant_of-result : goal.invariant_of-result
 invariant_of-result g c = (
   c.self.invariant.0,

@@ -1,8 +1,9 @@
-use Rattle.std.proofs.Common.{refl, sym, subst}
+use Rattle.std.proofs.Common.{◌+◌, ◌≤◌, refl, sym, subst}
 use Rattle.std.specs.Prelude.{IsTrue}
 use Rattle.chain_commands.specs.Event.{Disconnect, Do}
 use Rattle.name_lister.specs.Answers.{AnswersList}
-use Rattle.name_lister.specs.Costs.{IsCheapListed}
+use Rattle.sliced_save.specs.Costs.{back_cost}
+use Rattle.name_lister.specs.Costs.{IsCheapListed, mirror_undos}
 use Rattle.name_lister.specs.Event.{Plain}
 use Rattle.name_lister.specs.Lister.{Listed, listed, IsListOn}
 use Rattle.name_lister.specs.declared.lister.ListTurned.TheVariants.{On, Ended}
@@ -39,6 +40,10 @@ pub returns-in-On-clause-cost : goal.returns-in-On-clause-cost
 returns-in-On-clause-cost g c = λ is_zero.
     subst (λ (o : Listed). IsCheapListed o.bridge.store.index (Disconnect c.args.hash.0) c.in-On.bridge.store.index c.args.steps.now c.turn.new.steps) c.self.view_is
     (record { cheap = c.in-On.ensures.cost is_zero })
+
+pub returns-in-On-clause-mirror : goal.returns-in-On-clause-mirror
+returns-in-On-clause-mirror g c =
+    subst (λ (o : Listed). c.behind_disconnect-mirror.new.steps ≤ c.args.mirror_steps.now + back_cost (mirror_undos o.mirror)) c.self.view_is c.behind_disconnect-mirror.ensures.cost
 
 pub invariant_of-result : goal.invariant_of-result
 invariant_of-result g c = (

@@ -37,7 +37,7 @@ returns-in-None-clause-answers g c =
     let turned = c.write_slice-turned.result.0 in
     let rest = c.write_slice-turned.result.1 in
     let old = listed inside.bridge inside.mirror inside.sessions inside.page inside.saving in
-    let writes = subst (λ (most : ℕ). WritesSlice tells seen inside.bridge saving most before after turned rest) c.slice_size.ensures c.write_slice-turned.ensures in
+    let writes = subst (λ (most : ℕ). WritesSlice tells seen inside.bridge saving most before after turned rest) c.slice_size.ensures c.write_slice-turned.ensures.writes in
     let on : IsTrue tells → IsListOn old (seen before).moments.now = subst (λ (o : Listed). IsTrue tells → IsListOn o (seen before).moments.now) (sym c.self.view_is) c.requires.on_disk in
     let of : IsSavingOf inside.bridge.store (Some saving) = subst (IsSavingOf inside.bridge.store) c.in-Some.is c.self.invariant.1 in
     subst (λ (o : Listed). AnswersList tells seen o before (Slice c.args.asked) c.tell_slice.new.reply Ended after) c.self.view_is
@@ -56,7 +56,7 @@ returns-in-Some-tell_slice-clause-answers g c =
     let turned = c.write_slice-turned.result.0 in
     let rest = c.write_slice-turned.result.1 in
     let old = listed inside.bridge inside.mirror inside.sessions inside.page inside.saving in
-    let writes = subst (λ (most : ℕ). WritesSlice tells seen inside.bridge saving most before after turned rest) c.slice_size.ensures c.write_slice-turned.ensures in
+    let writes = subst (λ (most : ℕ). WritesSlice tells seen inside.bridge saving most before after turned rest) c.slice_size.ensures c.write_slice-turned.ensures.writes in
     let new = listed c.in-Some-tell_slice.bridge inside.mirror inside.sessions inside.page c.in-Some-tell_slice.saving in
     let on : IsTrue tells → IsListOn old (seen before).moments.now = subst (λ (o : Listed). IsTrue tells → IsListOn o (seen before).moments.now) (sym c.self.view_is) c.requires.on_disk in
     let of : IsSavingOf inside.bridge.store (Some saving) = subst (IsSavingOf inside.bridge.store) c.in-Some.is c.self.invariant.1 in
@@ -76,5 +76,5 @@ invariant_of-result-in-Some-tell_slice g c =
     let turned = c.write_slice-turned.result.0 in
     let rest = c.write_slice-turned.result.1 in
     let old = listed inside.bridge inside.mirror inside.sessions inside.page inside.saving in
-    let writes = subst (λ (most : ℕ). WritesSlice tells seen inside.bridge saving most before after turned rest) c.slice_size.ensures c.write_slice-turned.ensures in
+    let writes = subst (λ (most : ℕ). WritesSlice tells seen inside.bridge saving most before after turned rest) c.slice_size.ensures c.write_slice-turned.ensures.writes in
     (c.self.invariant.0, subst KeepsSaving (sym c.tell_slice.ensures.left ∙ c.in-Some-tell_slice.is) (slice_keeps tells seen old before after saving (slice_size c.args.asked) rest turned writes))

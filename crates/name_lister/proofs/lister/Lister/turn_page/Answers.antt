@@ -7,8 +7,8 @@ use Rattle.name_lister.specs.declared.lister.ListTurned.TheVariants.{On}
 use Rattle.name_lister.proofs.TurnLemmas.{paged}
 use Rattle.name_lister.proofs.lister.Lister.turn_page.Goals as goal
 
-pub returns : goal.returns
-returns g c =
+pub returns-clause-answers : goal.returns-clause-answers
+returns-clause-answers g c =
     let tells = g.D.Disk.tells in
     let seen = g.D.Disk.seen in
     let disk = c.args.disk.now in
@@ -16,4 +16,4 @@ returns g c =
     let new = listed c.lister.inside.bridge c.lister.inside.mirror c.page.new.self c.lister.inside.page c.lister.inside.saving in
     let on : IsTrue tells → IsListOn old (seen disk).moments.now = subst (λ (o : Listed). IsTrue tells → IsListOn o (seen disk).moments.now) (sym c.lister.view_is) c.requires.on_disk in
     subst (λ (o : Listed). AnswersList tells seen o disk (Page c.args.number) c.page.new.reply (On new) disk) c.lister.view_is
-    (paged tells seen old disk on c.page.new.reply c.page.new.self c.args.number c.page.ensures)
+    (paged tells seen old disk on c.page.new.reply c.page.new.self c.args.number c.page.ensures.step)
