@@ -1,12 +1,12 @@
--- A call on a part of the bytes, or of the room, that it is asked for.
-use Rattle.std.proofs.Common.{◌≡◌, ℕ, ◌+◌, ◌<◌, ◌≤◌, min, Bool, IsTrue, List, ◌++◌, length, take, drop, Result, Ok, Err, ap, ◌∙◌, arith, length-take, length-append}
-use Rattle.std.proofs.lemmas.List.{take-take, take-append-le}
+-- A call on a part of the bytes that it is asked for.
+use Rattle.std.proofs.Common.{ℕ, ◌≤◌, min, Bool, List, length, take, Result, Ok, Err, ap, ◌∙◌, arith, length-take}
+use Rattle.std.proofs.lemmas.List.{take-take}
 use Rattle.std.specs.declared.io.Error.{Error}
 use Rattle.disk_model.specs.FileState.{FileState, put}
 use Rattle.disk_model.specs.Moments.{Files, Moments}
 use Rattle.disk_model.specs.Changes.{Changes, AfterWrite}
 use Rattle.disk_model.proofs.MomentLemmas.{weaken}
-use Rattle.system_io.specs.Files.{holds, IsPart, ReadsPart, WritesPart}
+use Rattle.system_io.specs.Files.{holds, WritesPart}
 
 -- a write of fewer bytes touches no more
 AfterWrite_wider : (at n more : ℕ) (old new : FileState) → n ≤ more → AfterWrite at n old new → AfterWrite at more old new
@@ -36,17 +36,3 @@ written_in_part tells file at most bytes old new (Err e) so = record {
   time = λ told. weaken (Changes file (AfterWrite at (length bytes)) old.now)
       (λ (files : Files) so_far. record { here = AfterWrite_wider at (length (take most bytes)) (length bytes) (old.now file) (files file) (omega (arith, length-take most bytes)) so_far.here; others = so_far.others }) (so.time told);
 }
-
--- what stands in the front of the room stands in the room
-pub read_in_part : (tells : Bool) (file at : ℕ) (room behind : List ℕ) (old new : Moments) (result : Result ℕ Error)
-    → (0 < length (room ++ behind) → 0 < length room) → ReadsPart tells file at room old new result → ReadsPart tells file at (room ++ behind) old new result
-read_in_part tells file at room behind old new (Ok n) some so = record {
-  bound = omega (arith, so.bound, length-append room behind);
-  bytes = λ told. let part = so.bytes told in record {
-    within = part.within;
-    same = take-append-le n room behind so.bound ∙ part.same;
-    ended = λ none has. part.ended none (some has);
-  };
-  time = so.time;
-}
-read_in_part tells file at room behind old new (Err e) some so = record { bound = so.bound; bytes = so.bytes; time = so.time }
