@@ -1,6 +1,6 @@
 //! A port over a net in memory hands on what comes, sends what it is told to, and its net tells both.
 
-ghost use Rattle.std.specs.Prelude.{◌≡◌, length, OnOk};
+ghost use Rattle.std.specs.Prelude.{◌≡◌, ◌<◌, length, OnOk};
 ghost use Rattle.byte_io.specs.declared.port.TheConstants.{POLL_ROOM};
 ghost use Rattle.byte_io.specs.Port.{IsBound};
 
@@ -39,6 +39,28 @@ struct Exchange {
     replied: What,
 }
 
+/// The exchange with the client of that address.
+fn of_a_datagram() -> Exchange {
+    let client = CLIENT;
+    Exchange {
+        came: What::Came(address_of_client()),
+        brought: Polled::Query { client, len: 3 },
+        went: What::Gave(address_of_client()),
+        replied: What::Replied(client, true),
+    }
+}
+
+/// The exchange over the first connection.
+fn of_a_piece() -> Exchange {
+    let client = 1;
+    Exchange {
+        came: What::Received(Peer::Client(client)),
+        brought: Polled::Stream { client, len: 3 },
+        went: What::Sent(Peer::Client(client)),
+        replied: What::StreamReplied(client, true),
+    }
+}
+
 fn binds<P: Port>(port: &mut P) -> Result<(), Failed>
     ensures { OnOk result (IsBound (P.seen port.new)) }
 {
@@ -48,6 +70,7 @@ fn binds<P: Port>(port: &mut P) -> Result<(), Failed>
 /// Replies to who asked. Whether it was sent.
 fn replies<P: Port>(port: &mut P, polled: Polled) -> bool
     requires { IsBound (P.seen port.old) }
+    ensures { IsBound (P.seen port.new) }
 {
     match polled {
         Polled::Query { client, .. } => port.reply(client, REPLY).is_ok(),
@@ -60,6 +83,8 @@ fn replies<P: Port>(port: &mut P, polled: Polled) -> bool
 fn answers<P: Port>(rt: &impl Abort, port: &mut P, buffer: &mut [u8], brought: Polled)
     requires bound { IsBound (P.seen port.old) }
     requires room { length buffer.old ≡ POLL_ROOM }
+    ensures bound { IsBound (P.seen port.new) }
+    ensures room { length buffer.new ≡ POLL_ROOM }
 {
     let polled = port.poll(buffer);
     assert_eq!(rt; polled, brought);
@@ -75,36 +100,32 @@ fn tells(rt: &impl Abort, told: &Told, place: usize, what: What, bytes: &[u8]) {
     }
 }
 
-/// It tells of three addresses, the query with the note of its poll, the reply with its note, and nothing else.
-fn tells_all(rt: &impl Abort, told: &Told, exchange: Exchange) {
+/// From this place on it tells of the query with the note of its poll, and of the reply with its note.
+fn tells_of(rt: &impl Abort, told: &Told, place: usize, exchange: Exchange)
+    requires { place < 100 }
+{
+    tells(rt, told, place, exchange.came, QUERY);
+    tells(rt, told, place + 1, What::Polled(exchange.brought), QUERY);
+    tells(rt, told, place + 2, exchange.went, REPLY);
+    tells(rt, told, place + 3, exchange.replied, REPLY);
+}
+
+/// It tells of three addresses, of both exchanges, and of nothing else.
+fn tells_all(rt: &impl Abort, told: &Told) {
     for place in 0..3 {
         tells(rt, told, place, What::Asked(any_here()), &[]);
     }
-    tells(rt, told, 3, exchange.came, QUERY);
-    tells(rt, told, 4, What::Polled(exchange.brought), QUERY);
-    tells(rt, told, 5, exchange.went, REPLY);
-    tells(rt, told, 6, exchange.replied, REPLY);
-    assert!(rt; told.at(7).is_none());
+    tells_of(rt, told, 3, of_a_datagram());
+    tells_of(rt, told, 7, of_a_piece());
+    assert!(rt; told.at(11).is_none());
 }
 
-#[test]
-fn a_datagram_is_handed_on_and_answered(rt: HostRuntime) -> Result<(), Fail> {
-    let people = People::of(&rt);
-    let mut net = MemoryNet::new(&rt);
+/// A net to which the query comes as a datagram and over a connection.
+fn net_of(rt: &HostRuntime) -> Result<MemoryNet<'_>, Fail> {
+    let mut net = MemoryNet::new(rt);
     net.add_datagram(address_of_client(), QUERY)?;
-    let mut buffer = poll_buffer(rt.alloc())?;
-    let mut port = PortOf::over(net, &rt, &people);
-    binds(&mut port)?;
-    let (client, len) = (CLIENT, 3);
-    let exchange = Exchange {
-        came: What::Came(address_of_client()),
-        brought: Polled::Query { client, len },
-        went: What::Gave(address_of_client()),
-        replied: What::Replied(client, true),
-    };
-    answers(&rt, &mut port, &mut buffer, exchange.brought);
-    tells_all(&rt, port.net().told(), exchange);
-    Ok(())
+    net.add_piece(QUERY)?;
+    Ok(net)
 }
 
 /// A connection of the system's to the listener of clients, over which a byte goes that wakes the port.
@@ -117,23 +138,24 @@ fn connected(rt: &HostRuntime, net: &MemoryNet<'_>) -> io::Result<TcpStream> {
     Ok(stream)
 }
 
-#[test]
-fn a_piece_is_handed_on_and_answered(rt: HostRuntime) -> Result<(), Fail> {
-    let people = People::of(&rt);
-    let mut net = MemoryNet::new(&rt);
-    net.add_piece(QUERY)?;
+/// Both exchanges, and what the net tells of them. The runtime is a handle to stop by as well.
+fn exchanges(
+    rt: &HostRuntime,
+    handle: &impl Abort,
+    port: &mut PortOf<'_, MemoryNet<'_>>,
+) -> Result<(), Fail> {
     let mut buffer = poll_buffer(rt.alloc())?;
-    let mut port = PortOf::over(net, &rt, &people);
-    binds(&mut port)?;
-    let _stream = connected(&rt, port.net())?;
-    let (client, len) = (1, 3);
-    let exchange = Exchange {
-        came: What::Received(Peer::Client(client)),
-        brought: Polled::Stream { client, len },
-        went: What::Sent(Peer::Client(client)),
-        replied: What::StreamReplied(client, true),
-    };
-    answers(&rt, &mut port, &mut buffer, exchange.brought);
-    tells_all(&rt, port.net().told(), exchange);
+    binds(port)?;
+    let _stream = connected(rt, port.net())?;
+    answers(handle, port, &mut buffer, of_a_datagram().brought);
+    answers(handle, port, &mut buffer, of_a_piece().brought);
+    tells_all(handle, port.net().told());
     Ok(())
+}
+
+#[test]
+fn what_comes_is_handed_on_and_answered(rt: HostRuntime) -> Result<(), Fail> {
+    let people = People::of(&rt);
+    let mut port = PortOf::over(net_of(&rt)?, &rt, &people);
+    exchanges(&rt, &rt, &mut port)
 }
