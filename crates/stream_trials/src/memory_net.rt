@@ -46,7 +46,12 @@ fn put(bytes: &[u8], buf: &mut [u8]) -> usize
 }
 
 impl<'a> MemoryNet<'a> {
-    pub fn new(rt: &'a HostRuntime) -> MemoryNet<'a> {
+    ghost use Rattle.std.specs.Prelude.{[], Some};
+    ghost use Rattle.stream_trials.specs.Told.{told_of};
+
+    pub fn new(rt: &'a HostRuntime) -> MemoryNet<'a>
+        ensures { told_of result.told ≡ Some [] }
+    {
         let alloc = rt.alloc();
         MemoryNet {
             alloc,

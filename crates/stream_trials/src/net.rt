@@ -96,7 +96,7 @@ fn answers<P: Port>(rt: &impl Abort, port: &mut P, buffer: &mut [u8], brought: P
 fn tells(rt: &impl Abort, told: &Told, place: usize, what: What, bytes: &[u8]) {
     match told.at(place) {
         Some((happened, with)) => assert!(rt; happened == what && with.starts_with(bytes)),
-        None => assert!(rt; !told.is_whole()),
+        None => panic!(rt; "nothing happened at {place}"),
     }
 }
 
@@ -117,7 +117,7 @@ fn tells_all(rt: &impl Abort, told: &Told) {
     }
     tells_of(rt, told, 3, of_a_datagram());
     tells_of(rt, told, 7, of_a_piece());
-    assert!(rt; told.at(11).is_none());
+    assert!(rt; told.is_whole() && told.at(11).is_none());
 }
 
 /// A net to which the query comes as a datagram and over a connection.
