@@ -12,7 +12,7 @@ use std::process::Abort;
 use std::test::Fail;
 
 /// A buffer that a poll may be lent.
-fn poll_buffer(alloc: Global) -> Result<Vec<u8>, Fail>
+pub(crate) fn poll_buffer(alloc: Global) -> Result<Vec<u8>, Fail>
     ensures { IfOk result (λ buffer. length buffer.items ≡ POLL_ROOM) }
 {
     Ok(vec![in alloc; 0u8; POLL_ROOM]?)

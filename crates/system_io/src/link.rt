@@ -1,5 +1,7 @@
 //! A connection, and whose it is.
 
+ghost use Rattle.std.specs.Prelude.{◌≡◌};
+
 use std::net::TcpStream;
 
 /// Whose connection it is.
@@ -16,4 +18,13 @@ pub enum Peer {
 pub struct Link {
     pub(crate) peer: Peer,
     pub(crate) socket: TcpStream,
+}
+
+impl Link {
+    /// Whose it is.
+    pub fn peer(&self) -> Peer
+        ensures { result ≡ self.now.peer }
+    {
+        self.peer
+    }
 }

@@ -41,13 +41,7 @@ pub type SocketPort<'a> = PortOf<'a, System<'a>>;
 impl<'a> PortOf<'a, System<'a>> {
     /// No socket is opened yet.
     pub fn new(rt: &'a HostRuntime, people: &'a People<'a>) -> Self {
-        PortOf {
-            net: System::of(rt),
-            rt,
-            people,
-            bound: None,
-            tally: Tally::new(),
-        }
+        PortOf::over(System::of(rt), rt, people)
     }
 
     /// Closes the clients' connections, and lets the feed's go: its peer gets the replies that it is still to take, within five seconds. Whether the port
@@ -64,12 +58,33 @@ impl<'a> PortOf<'a, System<'a>> {
 }
 
 impl<'a, N: Net> PortOf<'a, N> {
-    ghost use Rattle.std.specs.Prelude.{◌≡◌, length};
+    ghost use Rattle.std.specs.Prelude.{◌≡◌, None, length};
     ghost use Rattle.byte_io.specs.Port.{IsBound};
     ghost use Rattle.byte_io.specs.declared.port.TheConstants.{POLL_ROOM};
     ghost use Rattle.fault_counts.specs.Counts.{counted};
     ghost use Rattle.system_io.specs.Net.{Hears, handed};
     ghost use Rattle.system_io.specs.SocketPort.{IsBrought, numbers_of, port_seen};
+
+    /// Over the sockets of this net, of which none is opened yet.
+    pub fn over(net: N, rt: &'a HostRuntime, people: &'a People<'a>) -> Self
+        ensures net { result.net ≡ net }
+        ensures bound { numbers_of result.bound ≡ None }
+    {
+        PortOf {
+            net,
+            rt,
+            people,
+            bound: None,
+            tally: Tally::new(),
+        }
+    }
+
+    /// The net that it is over.
+    pub fn net(&self) -> &N
+        ensures { result.now ≡ self.now.net }
+    {
+        &self.net
+    }
 
     /// What the sockets bring.
     #[tactic(auto, using(crate::proofs::PortLemmas::Brought_done, crate::proofs::PortLemmas::Handed_done, crate::proofs::PortLemmas::Handed_fault))]
