@@ -9,7 +9,7 @@ use Rattle.serde_json.specs.Data.{Members}
 use Rattle.import_expand.specs.Sources.{Live, sources_of, child_of}
 use Rattle.import_expand.specs.Books as books
 use Rattle.import_expand.specs.Books.{objects, IsAt, Shows, Grows}
-use Rattle.import_expand.specs.Rooms.{objects_in, held, nodes_in, numbers_of, IsNodeAt, IsNode, GivesUp, GrowsBy, IsFull, IsPlain, IsShown, IsChild, IsTop, IsSound, Keeps, LacksEntry, Later}
+use Rattle.import_expand.specs.Rooms.{objects_in, held, nodes_in, numbers_of, IsNodeAt, IsNode, GivesUp, GrowsBy, IsPlain, IsShown, IsChild, IsTop, IsSound, Keeps, LacksEntry, Later}
 use Rattle.import_expand.specs.Rooms.IsFull.{by_book, by_asking}
 use Rattle.import_expand.specs.declared.exhausted.Exhausted.{Exhausted}
 use Rattle.import_expand.specs.declared.limits.TheConstants.{MOST_HELD}
