@@ -1,8 +1,9 @@
-use Rattle.std.proofs.Common.{◌≡◌, refl, sym, subst}
+use Rattle.std.proofs.Common.{◌≡◌, ◌+◌, ◌≤◌, refl, sym, subst}
 use Rattle.std.specs.Prelude.{IsTrue}
 use Rattle.chain_state.specs.Chain.{Indexed}
 use Rattle.chain_commands.specs.Event.{Connect, Do}
 use Rattle.name_lister.specs.Answers.{AnswersList}
+use Rattle.sliced_save.specs.Costs.{forth_cost}
 use Rattle.name_lister.specs.Costs.{IsCheapListed}
 use Rattle.name_lister.specs.Event.{Plain}
 use Rattle.name_lister.specs.Kept.{IsMirrorBefore, IsMirrorNow}
@@ -42,7 +43,8 @@ returns-in-On-clause-cost g c = λ is_zero.
     (record { cheap = c.in-On.ensures.cost is_zero })
 
 pub returns-in-On-clause-mirror : goal.returns-in-On-clause-mirror
-returns-in-On-clause-mirror g c = rw (← c.chain.ensures) c.behind_connect-mirror.ensures.cost
+returns-in-On-clause-mirror g c =
+    subst (λ (i : Indexed). c.behind_connect-mirror.new.steps ≤ c.args.mirror_steps.now + forth_cost i.undos) c.chain.ensures c.behind_connect-mirror.ensures.cost
 
 pub invariant_of-result : goal.invariant_of-result
 invariant_of-result g c = (

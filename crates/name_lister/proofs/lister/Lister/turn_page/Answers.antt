@@ -1,4 +1,4 @@
-use Rattle.std.proofs.Common.{subst, sym}
+use Rattle.std.proofs.Common.{◌+◌, ◌≤◌, subst, sym}
 use Rattle.std.specs.Prelude.{IsTrue}
 use Rattle.name_lister.specs.Answers.{AnswersList}
 use Rattle.name_lister.specs.Event.{Page}
@@ -17,3 +17,6 @@ returns-clause-answers g c =
     let on : IsTrue tells → IsListOn old (seen disk).moments.now = subst (λ (o : Listed). IsTrue tells → IsListOn o (seen disk).moments.now) (sym c.lister.view_is) c.requires.on_disk in
     subst (λ (o : Listed). AnswersList tells seen o disk (Page c.args.number) c.page.new.reply (On new) disk) c.lister.view_is
     (paged tells seen old disk on c.page.new.reply c.page.new.self c.args.number c.page.ensures.step)
+
+pub returns-clause-mirror : goal.returns-clause-mirror
+returns-clause-mirror g c = subst (λ (o : Listed). c.page.new.steps ≤ c.args.mirror_steps.now + o.page) c.lister.view_is c.page.ensures.cost
