@@ -51,7 +51,8 @@ fn tells(
 }
 
 /// This and the next have one hash in the map of the shelf.
-const ONE: &[u8] = b"{\"iXoq8BLqdLKTwlQZj\":1,\"txt\":\"  EaYMcW6IEiihQBYE....aaaaaaaaaaaaaaaaaaaa\"}";
+const ONE: &[u8] =
+    b"{\"iXoq8BLqdLKTwlQZj\":1,\"txt\":\"  EaYMcW6IEiihQBYE....aaaaaaaaaaaaaaaaaaaa\"}";
 
 const OTHER: &[u8] =
     b"{\"iXoq8BLqdLKTwlQZj\":1,\"txt\":\"  p6zpt`&kp>JUFuIg....aaaaaaaaaaaaaaaaaaaa\"}";
