@@ -12,7 +12,8 @@ PORTS = range(20_000, 32_768)
 
 def free_port(*kinds):
     """A number that is free on this machine as a port of each of the kinds, `socket.SOCK_DGRAM` and `socket.SOCK_STREAM`."""
-    for number in random.sample(PORTS, len(PORTS)):
+    # Drawn from the system: processes that were forked have one generator's state, and would draw the same numbers at once.
+    for number in random.SystemRandom().sample(PORTS, len(PORTS)):
         with contextlib.suppress(OSError), contextlib.ExitStack() as taken:
             for kind in kinds:
                 taken.enter_context(socket.socket(socket.AF_INET, kind)).bind((HERE, number))
