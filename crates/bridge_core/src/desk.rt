@@ -67,14 +67,14 @@ impl Desk {
     )
         ensures { AnswersQuery (bridged store.now self.old) (carrier_of transport) message.now reply.new (bridged store.now self.new) }
     {
-        let text = &mut self.room.bytes;
+        let room = &mut self.room.bytes;
         answer_in(
             alloc,
             &mut self.answers,
             store,
             transport,
             message,
-            text,
+            room,
             reply,
         );
     }

@@ -58,14 +58,16 @@ impl Model for Leavings {
     ghost invariant = { λ l. MOST_LEAVINGS ≤ vec_capacity l.kept };
 }
 
-fn coins_leaving(waste: Option<MapWaste<OutPoint, Coin>>) -> Option<Leaving> {
+pub(crate) fn coins_leaving(waste: Option<MapWaste<OutPoint, Coin>>) -> Option<Leaving> {
     match waste {
         None => None,
         Some(waste) => Some(Leaving::Coins(waste)),
     }
 }
 
-fn names_leaving(waste: Option<MapWaste<NameKey, SharedStack<Item>>>) -> Option<Leaving> {
+pub(crate) fn names_leaving(
+    waste: Option<MapWaste<NameKey, SharedStack<Item>>>,
+) -> Option<Leaving> {
     match waste {
         None => None,
         Some(waste) => Some(Leaving::Names(waste)),

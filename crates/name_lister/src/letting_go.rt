@@ -1,19 +1,27 @@
 //! What is dear to let go of is let go of here alone: each place of it would be proved anew.
 
 use crate::answering::Running;
-use crate::leavings::{Leaving, Leavings};
+use crate::leavings::{Leaving, Leavings, coins_leaving, names_leaving};
 use crate::lister::{ListTurned, Lister};
 use crate::saving::Saving;
-use bridge_core::Bridge;
 use listing_sessions::Sessions;
-use sliced_save::{Mirror, Slices};
+use sliced_save::{Mirror, MirrorWaste, Slices};
 use std::sync::ledger::Ledger;
 
-pub(crate) fn let_bridge_go(_bridge: Bridge) {}
-
-pub(crate) fn let_slices_go(_slices: Slices) {}
-
 pub(crate) fn let_leaving_go(_leaving: Leaving) {}
+
+fn let_some_go(leaving: Option<Leaving>) {
+    if let Some(leaving) = leaving {
+        let_leaving_go(leaving);
+    }
+}
+
+/// What a text of slices was pinned over.
+pub(crate) fn let_slices_go(slices: Slices) {
+    let MirrorWaste { coins, names } = slices.into_waste();
+    let_some_go(coins_leaving(coins));
+    let_some_go(names_leaving(names));
+}
 
 pub(crate) fn let_leavings_go(_leavings: Leavings) {}
 
@@ -40,7 +48,7 @@ fn let_lister_go(lister: Lister) {
         page: _,
         saving,
     } = lister;
-    let_bridge_go(bridge);
+    bridge.let_go();
     let_rest_go(mirror, sessions, saving);
 }
 

@@ -26,7 +26,7 @@ ghost use Rattle.listing_sessions.specs.declared.page.TheConstants.{LARGEST_PAGE
 
 use crate::event::ListEvent;
 use crate::leavings::Leavings;
-use crate::letting_go::{let_bridge_go, let_rest_go};
+use crate::letting_go::let_rest_go;
 use crate::mirroring::{behind_connect, behind_disconnect};
 use crate::replies::refuse_running;
 use crate::saving::Saving;
@@ -128,7 +128,7 @@ impl Lister {
         let sessions = match Sessions::new(alloc) {
             Ok(sessions) => sessions,
             Err(NoMemory) => {
-                let_bridge_go(bridge);
+                bridge.let_go();
                 return Err(NoMemory);
             }
         };
@@ -141,7 +141,7 @@ impl Lister {
                 saving: None,
             }),
             Err(NoMemory) => {
-                let_bridge_go(bridge);
+                bridge.let_go();
                 Err(NoMemory)
             }
         }

@@ -38,24 +38,25 @@ fn pinned_now(mirror: Option<&Mirror>) -> Result<Slices, NoMemory>
     }
 }
 
-/// Writes the next slice of a save, of at most as many bytes as the buffer has. Gives back what is left to give out.
+/// Writes the next slice of a save, of at most so many bytes, by a buffer of as many. Gives back what is left to give out.
 fn write_by<D: Disk, M: Ledger>(
     bridge: Bridge,
     disk: &mut D,
     saving: Saving,
     buf: &mut [u8],
+    most: usize,
     steps: &mut Steps<M>,
 ) -> (SliceTurned, Slices)
     requires on_disk { IsTrue D.tells → IsOn bridge.store (D.seen disk.old).moments.now }
     requires is_draft { IsDraftOf bridge.store saving.draft }
     requires given { IsGiven saving }
-    requires some { 1 ≤ length buf.old }
-    requires few { length buf.old ≤ LONGEST_SLICE }
+    requires some { 1 ≤ most }
+    requires few { most ≤ LONGEST_SLICE }
+    requires room { length buf.old ≡ most }
     requires drafted { IsTrue D.tells → IsDraftOn bridge.store saving.draft saving.slices.text (D.seen disk.old).moments.now }
-    ensures writes { WritesSlice D.tells D.seen bridge saving (length buf.old) disk.old disk.new result.0 result.1 }
-    ensures cost { steps.new ≤ steps.old + 2 * (length buf.old + 1) }
+    ensures writes { WritesSlice D.tells D.seen bridge saving most disk.old disk.new result.0 result.1 }
+    ensures cost { steps.new ≤ steps.old + 2 * (most + 1) }
 {
-    let most = buf.len();
     let Saving { draft, slices } = saving;
     let mut slices = slices;
     let count = slices.next(buf, steps);
@@ -81,7 +82,7 @@ fn write_slice<D: Disk, M: Ledger>(
     ensures cost { steps.new ≤ steps.old + 2 * (most + 1) }
 {
     let mut buffer = [0; LONGEST_SLICE];
-    write_by(bridge, disk, saving, &mut buffer[..most], steps)
+    write_by(bridge, disk, saving, &mut buffer[..most], most, steps)
 }
 
 /// Tells what came of a slice. Gives the bridge back, with the save where that goes on; None behind a fault of the disk. Where the save

@@ -143,7 +143,7 @@ impl Snapshot {
         let Snapshot { alloc, reading, .. } = self;
         match fault {
             Some(fault) => {
-                reading.let_go();
+                reading.let_go(alloc);
                 Err(fault)
             }
             None => Ok(reading.split(alloc)),
@@ -152,7 +152,7 @@ impl Snapshot {
 
     /// Lets go of what was read. Call it where a snapshot isn't finished: each place that drops one itself is dear to prove.
     pub fn let_go(self) {
-        let Snapshot { reading, .. } = self;
-        reading.let_go();
+        let Snapshot { alloc, reading, .. } = self;
+        reading.let_go(alloc);
     }
 }

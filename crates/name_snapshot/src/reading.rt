@@ -68,5 +68,7 @@ impl Reading {
     }
 
     /// Lets go of what was read.
-    pub(crate) fn let_go(self) {}
+    pub(crate) fn let_go(self, alloc: Global) {
+        self.split(alloc).let_go();
+    }
 }

@@ -32,36 +32,44 @@ module _ {K V : Type 0} {cmp : K → K → Ordering} (o : IsTotalOrder cmp) wher
   around items front p more before behind e =
       e ∙ ap (λ z. before ++ z) (append_assoc front (p ∷ more) behind) ∙ sym (append_assoc before front (p ∷ (more ++ behind)))
 
-  pub go_left : (items front : List (K × V)) (p : K × V) (more : List (K × V)) (key : K) (low : ℕ) → AreInOrder cmp items → cmp key p.0 ≡ Less
-      → Between cmp items key (front ++ p ∷ more) low → Between cmp items key front low
-  go_left items front p more key low s e b =
-      let a = around items front p more b.before b.behind b.split in
-      record {
-        before = b.before;
-        behind = p ∷ (more ++ b.behind);
-        split = a ∙ append_assoc b.before front (p ∷ (more ++ b.behind));
-        place = b.place;
-        lower = b.lower;
-        higher = higher_back o key p (more ++ b.behind) (order_back cmp (b.before ++ front) (p ∷ (more ++ b.behind)) (subst (AreInOrder cmp) a s)) e;
-      }
+  -- what is left is cut in front of a pair
+  module _ (rest front : List (K × V)) (p : K × V) (more : List (K × V)) (cut_is : rest ≡ front ++ p ∷ more) where
+    between_cut : (items : List (K × V)) (key : K) (low : ℕ) → Between cmp items key rest low → Between cmp items key (front ++ p ∷ more) low
+    between_cut items key low between = subst (λ (z : List (K × V)). Between cmp items key z low) cut_is between
 
-  pub go_right : (items front : List (K × V)) (p : K × V) (more : List (K × V)) (key : K) (low : ℕ) → AreInOrder cmp items → cmp key p.0 ≡ Greater
-      → Between cmp items key (front ++ p ∷ more) low → Between cmp items key more (low + length front + 1)
-  go_right items front p more key low s e b =
-      let a = around items front p more b.before b.behind b.split in
-      record {
-        before = (b.before ++ front) ++ p ∷ [];
-        behind = b.behind;
-        split = a ∙ sym (append_assoc (b.before ++ front) (p ∷ []) (more ++ b.behind));
-        place = omega (arith, length-append (b.before ++ front) (p ∷ []), length-append b.before front, b.place);
-        lower = all_append _ (b.before ++ front) (p ∷ []) (lower_front o key (b.before ++ front) p (more ++ b.behind) (subst (AreInOrder cmp) a s) (above_from_greater o key p.0 e)) (e, tt);
-        higher = b.higher;
-      }
+    pub go_left : (items : List (K × V)) (key : K) (low : ℕ) → AreInOrder cmp items → Less ≡ cmp key p.0 → Between cmp items key rest low → Between cmp items key front low
+    go_left items key low s less between =
+        let e = sym less in
+        let b = between_cut items key low between in
+        let a = around items front p more b.before b.behind b.split in
+        record {
+          before = b.before;
+          behind = p ∷ (more ++ b.behind);
+          split = a ∙ append_assoc b.before front (p ∷ (more ++ b.behind));
+          place = b.place;
+          lower = b.lower;
+          higher = higher_back o key p (more ++ b.behind) (order_back cmp (b.before ++ front) (p ∷ (more ++ b.behind)) (subst (AreInOrder cmp) a s)) e;
+        }
 
-  pub stop_at : (items front : List (K × V)) (p : K × V) (more : List (K × V)) (key : K) (low : ℕ) → AreInOrder cmp items → cmp key p.0 ≡ Equal
-      → Between cmp items key (front ++ p ∷ more) low → IsAt cmp items key (low + length front)
-  stop_at items front p more key low s e b =
-      let a = around items front p more b.before b.behind b.split in
-      let there = at_middle o (b.before ++ front) p (more ++ b.behind) key (subst (AreInOrder cmp) a s) e in
-      let count : length (b.before ++ front) ≡ low + length front = omega (arith, length-append b.before front, b.place) in
-      subst (λ (z : ℕ). IsAt cmp items key z) count (subst (λ (z : List (K × V)). IsAt cmp z key (length (b.before ++ front))) (sym a) there)
+    pub go_right : (items : List (K × V)) (key : K) (low : ℕ) → AreInOrder cmp items → Greater ≡ cmp key p.0 → Between cmp items key rest low → Between cmp items key more (low + length front + 1)
+    go_right items key low s greater between =
+        let e = sym greater in
+        let b = between_cut items key low between in
+        let a = around items front p more b.before b.behind b.split in
+        record {
+          before = (b.before ++ front) ++ p ∷ [];
+          behind = b.behind;
+          split = a ∙ sym (append_assoc (b.before ++ front) (p ∷ []) (more ++ b.behind));
+          place = omega (arith, length-append (b.before ++ front) (p ∷ []), length-append b.before front, b.place);
+          lower = all_append _ (b.before ++ front) (p ∷ []) (lower_front o key (b.before ++ front) p (more ++ b.behind) (subst (AreInOrder cmp) a s) (above_from_greater o key p.0 e)) (e, tt);
+          higher = b.higher;
+        }
+
+    pub stop_at : (items : List (K × V)) (key : K) (low : ℕ) → AreInOrder cmp items → Equal ≡ cmp key p.0 → Between cmp items key rest low → IsAt cmp items key (low + length front)
+    stop_at items key low s equal between =
+        let e = sym equal in
+        let b = between_cut items key low between in
+        let a = around items front p more b.before b.behind b.split in
+        let there = at_middle o (b.before ++ front) p (more ++ b.behind) key (subst (AreInOrder cmp) a s) e in
+        let count : length (b.before ++ front) ≡ low + length front = omega (arith, length-append b.before front, b.place) in
+        subst (λ (z : ℕ). IsAt cmp items key z) count (subst (λ (z : List (K × V)). IsAt cmp z key (length (b.before ++ front))) (sym a) there)

@@ -1,5 +1,5 @@
 -- What a map is at the place that a search found.
-use Rattle.std.proofs.Common.{◌≡◌, ℕ, List, set, Some, None, sym, ◌∙◌}
+use Rattle.std.proofs.Common.{◌≡◌, ℕ, List, set, Some, None, sym, subst, ◌∙◌}
 use Rattle.std.proofs.lemmas.List.{set_at}
 use Rattle.std.specs.Cmp.{IsTotalOrder}
 use Rattle.std.specs.List.{insert, remove, slice_get}
@@ -30,6 +30,15 @@ module _ {K V : Type 0} {cmp : K → K → Ordering} where
 
   pub gap_set : (items : List (K × V)) (key : K) (i : ℕ) (value : V) → IsGap cmp items key i → insert items i (key, value) ≡ with_pair cmp items key value
   gap_set items key i value g = rw g.split (insert_at g.before g.behind (key, value) i g.place ∙ sym (with_pair-gap cmp key g.before g.behind value g.lower g.higher))
+
+  -- the same, where the place was found in an equal list by an equal key
+  module _ (seen items : List (K × V)) (k key : K) (same : seen ≡ items) (same_key : k ≡ key) (i : ℕ) (value : V) where
+    pub at_set_there : IsAt cmp seen k i → set items i (key, value) ≡ with_pair cmp items key value
+    at_set_there g = at_set items key i value (subst (λ (z : K). IsAt cmp items z i) same_key (subst (λ (z : List (K × V)). IsAt cmp z k i) same g))
+
+    pub gap_set_there : (new : List (K × V)) → IsGap cmp seen k i → new ≡ insert items i (key, value) → new ≡ with_pair cmp items key value
+    gap_set_there new g is =
+        is ∙ gap_set items key i value (subst (λ (z : K). IsGap cmp items z i) same_key (subst (λ (z : List (K × V)). IsGap cmp z k i) same g))
 
   pub at_unset : (items : List (K × V)) (key : K) (i : ℕ) → IsAt cmp items key i → remove items i ≡ without_key cmp items key
   at_unset items key i g = rw g.split (remove_at g.before g.pair g.behind i g.place ∙ sym (without_key-at cmp key g.before g.pair g.behind g.lower g.equal))

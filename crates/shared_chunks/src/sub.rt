@@ -1,6 +1,6 @@
 //! A part behind a shared pointer, copied where it is changed while somebody else holds it.
 
-ghost use Rattle.std.specs.Prelude.{◌≡◌, ◌+◌, ◌^◌, ◌<◌, ◌≤◌, ◌++◌, ◌∷◌, [], List, length, cond, Some, IfOk, IfSome, OnOk, OnErr, slice_get};
+ghost use Rattle.std.specs.Prelude.{◌≡◌, ◌+◌, ◌^◌, ◌<◌, ◌≤◌, ◌++◌, ◌∷◌, [], List, length, cond, Some, Ok, IfOk, IfSome, OnOk, OnErr, slice_get};
 ghost use Rattle.std.specs.Option.{is_some, option_copied};
 ghost use Rattle.shared_chunks.specs.Pairs.{AreInOrder, value_at, with_pair, without_key};
 
@@ -84,13 +84,14 @@ impl<K: Hinted + Drop, V: Drop, T: Part<K, V> + Drop> Sub<K, V, T> {
     fn of_part(alloc: Global, part: T) -> Result<Sub<K, V, T>, NoMemory>
         ensures { IfOk result (λ s. s ≡ T.pairs part) }
     {
-        let count = part.count()?;
-        let low = match part.at(0) {
-            None => return Err(NoMemory),
-            Some(entry) => entry.copy()?,
-        };
         let part = Rc::new(alloc, part)?;
-        Ok(Sub { low, count, part })
+        match head_of(part.as_ref()) {
+            Ok((low, count)) => Ok(Sub { low, count, part }),
+            Err(NoMemory) => {
+                drop(part);
+                Err(NoMemory)
+            }
+        }
     }
 
     /// The same part.
@@ -115,9 +116,9 @@ impl<K: Hinted + Drop, V: Drop, T: Part<K, V> + Drop> Sub<K, V, T> {
         ensures { IfOk result (λ p. p.0 ++ p.1 ≡ self.now) }
     {
         let (front, back) = self.part.as_ref().halves(alloc)?;
-        let front = Sub::of_part(alloc, front)?;
-        let back = Sub::of_part(alloc, back)?;
-        Ok((front, back))
+        let front = Sub::of_part(alloc, front);
+        let back = Sub::of_part(alloc, back);
+        both(front, back)
     }
 
     pub fn set(&mut self, alloc: Global, entry: &Entry<K, V>) -> Result<bool, NoMemory>
@@ -128,10 +129,17 @@ impl<K: Hinted + Drop, V: Drop, T: Part<K, V> + Drop> Sub<K, V, T> {
         ensures err { OnErr result (self.new ≡ self.old) }
     {
         let low = first_with(&self.low, entry)?;
-        let was = set_in(&mut self.part, alloc, entry)?;
-        self.count = grown(self.count, was);
-        self.low = low;
-        Ok(was)
+        match set_in(&mut self.part, alloc, entry) {
+            Ok(was) => {
+                self.count = grown(self.count, was);
+                put_low(&mut self.low, low);
+                Ok(was)
+            }
+            Err(NoMemory) => {
+                drop(low);
+                Err(NoMemory)
+            }
+        }
     }
 
     /// Of a part that has two pairs and more.
@@ -145,11 +153,59 @@ impl<K: Hinted + Drop, V: Drop, T: Part<K, V> + Drop> Sub<K, V, T> {
         ensures err { OnErr result (self.new ≡ self.old) }
     {
         let low = first_without(&self.low, self.part.as_ref(), hint, key)?;
-        let found = unset_in(&mut self.part, alloc, hint, key)?;
-        self.count = shrunk(self.count, found);
-        self.low = low;
-        Ok(found)
+        match unset_in(&mut self.part, alloc, hint, key) {
+            Ok(found) => {
+                self.count = shrunk(self.count, found);
+                put_low(&mut self.low, low);
+                Ok(found)
+            }
+            Err(NoMemory) => {
+                drop(low);
+                Err(NoMemory)
+            }
+        }
     }
+}
+
+// The first pair of a part, and the number of its pairs; it is refused where there is none.
+fn head_of<K: Hinted + Drop, V: Drop, T: Part<K, V>>(
+    part: &T,
+) -> Result<(Entry<K, V>, usize), NoMemory>
+    ensures low { IfOk result (λ p. slice_get (T.pairs part.now) 0 ≡ Some p.0) }
+    ensures count { IfOk result (λ p. p.1 ≡ length (T.pairs part.now)) }
+{
+    let count = part.count()?;
+    match part.at(0) {
+        None => Err(NoMemory),
+        Some(entry) => Ok((entry.copy()?, count)),
+    }
+}
+
+// Both, or neither.
+fn both<A: Drop>(front: Result<A, NoMemory>, back: Result<A, NoMemory>) -> Result<(A, A), NoMemory>
+    ensures front { IfOk result (λ p. front ≡ Ok p.0) }
+    ensures back { IfOk result (λ p. back ≡ Ok p.1) }
+{
+    match front {
+        Ok(front) => match back {
+            Ok(back) => Ok((front, back)),
+            Err(NoMemory) => {
+                drop(front);
+                Err(NoMemory)
+            }
+        },
+        Err(NoMemory) => {
+            drop(back);
+            Err(NoMemory)
+        }
+    }
+}
+
+// The pair takes the place of another, which is let go of here alone: that is dear to prove.
+fn put_low<K: Hinted + Drop, V: Drop>(place: &mut Entry<K, V>, low: Entry<K, V>)
+    ensures { place.new ≡ low }
+{
+    *place = low;
 }
 
 fn grown(count: usize, was: bool) -> usize
@@ -217,9 +273,8 @@ fn set_in<K: Hinted + Drop, V: Drop, T: Part<K, V> + Drop>(
         return own.set(alloc, entry);
     }
     let mut own = copy_of(part, alloc)?;
-    let was = own.set(alloc, entry)?;
-    *part = Rc::new(alloc, own)?;
-    Ok(was)
+    let was = own.set(alloc, entry);
+    replace(part, alloc, own, was)
 }
 
 fn unset_in<K: Hinted + Drop, V: Drop, T: Part<K, V> + Drop>(
@@ -239,9 +294,31 @@ fn unset_in<K: Hinted + Drop, V: Drop, T: Part<K, V> + Drop>(
         return own.unset(alloc, hint, key);
     }
     let mut own = copy_of(part, alloc)?;
-    let found = own.unset(alloc, hint, key)?;
-    *part = Rc::new(alloc, own)?;
-    Ok(found)
+    let found = own.unset(alloc, hint, key);
+    replace(part, alloc, own, found)
+}
+
+// A changed copy takes the part's place, where the change was made.
+fn replace<T: Drop>(
+    part: &mut Rc<T>,
+    alloc: Global,
+    own: T,
+    changed: Result<bool, NoMemory>,
+) -> Result<bool, NoMemory>
+    ensures same { IfOk result (λ x. changed ≡ Ok x) }
+    ensures ok { OnOk result (part.new.value ≡ own) }
+    ensures err { OnErr result (part.new.value ≡ part.old.value) }
+{
+    match changed {
+        Ok(changed) => {
+            *part = Rc::new(alloc, own)?;
+            Ok(changed)
+        }
+        Err(NoMemory) => {
+            drop(own);
+            Err(NoMemory)
+        }
+    }
 }
 
 fn copy_of<K: Hinted, V, T: Part<K, V>>(part: &Rc<T>, alloc: Global) -> Result<T, NoMemory>

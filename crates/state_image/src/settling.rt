@@ -67,7 +67,9 @@ fn judge(alloc: Global, version: Version, base: &Base, parts: &mut Parts) -> Res
 }
 
 /// Lets go of parts. Call it where the parts of an image are of no use: each place that drops them itself is dear to prove.
-pub fn let_go(_parts: Parts) {}
+pub fn let_go(parts: Parts) {
+    parts.let_go();
+}
 
 impl Reading {
     /// The base and the parts.
