@@ -1,5 +1,5 @@
 -- What answers are kept under, and when two keys are one.
-use Rattle.std.specs.Prelude.{ℕ, ◌+◌, ◌*◌, ◌%◌, Bool, ◌==◌, ◌&&◌, if◌then◌else◌, [], ◌∷◌, ◌++◌}
+use Rattle.std.specs.Prelude.{ℕ, ◌+◌, ◌*◌, ◌%◌, Bool, ◌==◌, ◌&&◌, if◌then◌else◌, bit_xor}
 use Rattle.std.specs.Bool.{beq}
 use Rattle.std.specs.Hash as fed
 use Rattle.std.specs.Str.{bytes_eq}
@@ -18,6 +18,6 @@ same_key a b = (a.mark == b.mark) && ((a.accepted == b.accepted) && ((a.kind == 
 abbrev pub key_number : CacheKey → ℕ
 key_number key = key.accepted % 0x8000_0000 + key.kind * 0x8000_0000 + key.limit * 0x8000_0000_0000 + (if key.edns then 0x8000_0000_0000_0000 else 0)
 
--- what a key feeds to a hasher: that number, and the name in one write
+-- what a key feeds to a hasher: that number and the mark of its name, in one
 abbrev pub key_writes : CacheKey → fed.HashWrites
-key_writes key = fed.u64 (key_number key) ++ (key.name ∷ [])
+key_writes key = fed.u64 (bit_xor (key_number key) key.mark)

@@ -1,6 +1,6 @@
 //! What is asked, as a key that an answer can be looked for by without a copy.
 
-ghost use Rattle.std.specs.Prelude.{◌≡◌, ◌++◌, ◌∷◌, [], if◌then◌else◌};
+ghost use Rattle.std.specs.Prelude.{◌≡◌, if◌then◌else◌};
 ghost use Rattle.std.specs.Cmp.{on_per, on_equiv};
 ghost use Rattle.answer_cache.specs.Keys.{key_of, key_number, same_key, key_writes};
 ghost use Rattle.answer_cache.specs.KeyLaws.{same_key-equivalence, same_key-partial_equivalence, same_writes};
@@ -82,8 +82,7 @@ impl Hash for AskedKey<'_> {
     ghost respects_eq = { λ a b. same_writes (key_of a) (key_of b) };
 
     fn hash<H: Hasher>(&self, state: &mut H) {
-        self.number().hash(state);
-        state.write(self.name);
+        (self.number() ^ self.mark).hash(state);
     }
 }
 

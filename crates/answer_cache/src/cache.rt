@@ -10,11 +10,11 @@ ghost use Rattle.answer_cache.specs.Lend.{ends_as};
 use crate::asked_key::AskedKey;
 use crate::cache_key::CacheKey;
 use crate::entry::Entry;
+use crate::held::HeldText;
 use lru::LruCache;
-use nmc_base::{Bytes, NoMemory};
+use nmc_base::NoMemory;
 use std::alloc::Global;
 use std::marker::Model;
-use std::mem;
 use std::num::NonZeroUsize;
 
 /// The memory of a text with more bytes isn't kept for the next.
@@ -28,12 +28,12 @@ const LONGEST_SPARE: usize = 512;
 /// three times, at most thrice as many, each by 32 bytes of its name or by the mark of a longer one.
 ///
 /// What gives way leaves its memory to the next answer, where its text isn't long: a full cache takes memory for a put only where
-/// that is too little.
+/// that is too little. The text of an answer stands in memory of its own: the map moves a pointer to it.
 #[derive(Drop)]
 pub struct Cache {
-    kept: LruCache<CacheKey, Bytes>,
+    kept: LruCache<CacheKey, HeldText>,
     // what gave way last: its memory serves the next answer
-    spare: Entry,
+    spare: Option<Entry>,
     hits: u64,
     missed: u64,
 }
@@ -57,7 +57,7 @@ impl Cache {
         };
         Ok(Cache {
             kept: LruCache::new(alloc, capacity)?,
-            spare: Entry::empty(alloc),
+            spare: None,
             hits: 0,
             missed: 0,
         })
@@ -115,20 +115,31 @@ impl Cache {
         ensures ok { OnOk result (self.new ≡ behind_put (key_of key.entry) (front.now ++ rest.now) self.old) }
         ensures err { OnErr result (self.new ≡ self.old) }
     {
-        self.spare.fill(key, front, rest)?;
-        let Entry { key, text } = mem::replace(&mut self.spare, Entry::empty(alloc));
+        let mut entry = self.room(alloc)?;
+        entry.fill(key, front, rest)?;
+        let Entry { key, text } = entry;
         if let Some((key, text)) = self.kept.push(key, text)? {
             self.spare_short(key, text);
         }
         Ok(())
     }
 
+    /// What gave way, or memory that is new.
+    fn room(&mut self, alloc: Global) -> Result<Entry, NoMemory>
+        ensures { self.new ≡ self.old }
+    {
+        match self.spare.take() {
+            Some(entry) => Ok(entry),
+            None => Entry::empty(alloc),
+        }
+    }
+
     /// Keeps the memory of what gave way, where that is little.
-    fn spare_short(&mut self, key: CacheKey, text: Bytes)
+    fn spare_short(&mut self, key: CacheKey, text: HeldText)
         ensures { self.new ≡ self.old }
     {
         if text.as_slice().len() <= LONGEST_SPARE {
-            self.spare = Entry { key, text };
+            self.spare = Some(Entry { key, text });
         }
     }
 

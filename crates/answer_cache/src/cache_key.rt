@@ -9,6 +9,9 @@ use nmc_base::{Bytes, NoMemory};
 use std::alloc::Global;
 use std::hash::{Hash, Hasher};
 
+/// Names with as many bytes stand in the memory that a key takes at once. So a key whose name gives way to a longer one seldom needs more.
+const NAME_ROOM: usize = 64;
+
 /// What an answer is kept under.
 #[derive(Drop)]
 pub struct CacheKey {
@@ -27,16 +30,19 @@ pub struct CacheKey {
 }
 
 impl CacheKey {
-    /// The key with nothing in its fields. It takes no memory.
-    pub(crate) fn empty(alloc: Global) -> CacheKey {
-        CacheKey {
+    /// The key with nothing in its fields, and with room for most names.
+    pub(crate) fn empty(alloc: Global) -> Result<CacheKey, NoMemory> {
+        let mut name = Bytes::new(alloc);
+        name.zeros(NAME_ROOM)?;
+        name.clear();
+        Ok(CacheKey {
             accepted: 0,
-            name: Bytes::new(alloc),
+            name,
             mark: 0,
             kind: 0,
             limit: 0,
             edns: false,
-        }
+        })
     }
 
     /// Makes it the key that the other stands for.

@@ -5,23 +5,24 @@ ghost use Rattle.answer_cache.specs.Keys.{key_of};
 
 use crate::asked_key::AskedKey;
 use crate::cache_key::CacheKey;
-use nmc_base::{Bytes, NoMemory};
+use crate::held::HeldText;
+use nmc_base::NoMemory;
 use std::alloc::Global;
 
 /// An answer with its key.
 #[derive(Drop)]
 pub(crate) struct Entry {
     pub(crate) key: CacheKey,
-    pub(crate) text: Bytes,
+    pub(crate) text: HeldText,
 }
 
 impl Entry {
-    /// No answer. It takes no memory.
-    pub(crate) fn empty(alloc: Global) -> Entry {
-        Entry {
-            key: CacheKey::empty(alloc),
-            text: Bytes::new(alloc),
-        }
+    /// No answer.
+    pub(crate) fn empty(alloc: Global) -> Result<Entry, NoMemory> {
+        Ok(Entry {
+            key: CacheKey::empty(alloc)?,
+            text: HeldText::empty(alloc)?,
+        })
     }
 
     /// Makes it the answer of these two pieces. It takes memory where it has too little.
@@ -35,8 +36,6 @@ impl Entry {
         ensures text { OnOk result (self.new.text ≡ front.now ++ rest.now) }
     {
         self.key.set(key)?;
-        self.text.clear();
-        self.text.extend(front)?;
-        self.text.extend(rest)
+        self.text.set(front, rest)
     }
 }

@@ -5,6 +5,7 @@ mod asked_key;
 mod cache;
 mod cache_key;
 mod entry;
+mod held;
 mod law;
 mod mark;
 

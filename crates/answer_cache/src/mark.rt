@@ -1,21 +1,31 @@
-//! The number by which long names are told apart before their bytes are compared.
+//! The number that stands for a name: by it a key is hashed, and names are told apart before their bytes are compared.
 
 ghost use Rattle.std.specs.Prelude.{◌≡◌};
+ghost use Rattle.std.specs.Hash.FoldHasher as folding;
 ghost use Rattle.answer_cache.specs.Marks as marks;
 
 use std::collections::hash_map::DefaultHasher;
-use std::hash::Hasher;
+use std::hash::{FoldHasher, Hasher};
 
-/// A name of at most so many bytes has the mark 0: its bytes are compared as quickly as a number.
-const LONGEST_UNMARKED: usize = 32;
+/// The mark of a name of at most so many bytes is made quickly: where two names have one, their bytes are compared as quickly as numbers.
+const LONGEST_SHORT: usize = 32;
 
-/// The mark of a name: 0 of a short one, and else its SipHash-1-3 with both keys 0. Whoever chooses names can choose many whose keys have
-/// one hash in the map; that as many have one mark as well isn't known to be feasible.
+/// That of a short name: by the kit's quick hash, of which whoever chooses names can have as many of one number as they like.
+fn quick_mark(name: &[u8]) -> u64
+    ensures { result ≡ folding.finish (folding.write folding.initial name.now) }
+{
+    let mut hasher = FoldHasher::default();
+    hasher.write(name);
+    hasher.finish()
+}
+
+/// The mark of a name: of a short one by the kit's quick hash, and else its SipHash-1-3 with both keys 0. That as many long names have
+/// one mark isn't known to be feasible.
 pub fn mark_of(name: &[u8]) -> u64
     ensures { result ≡ marks.mark_of name.now }
 {
-    if name.len() <= LONGEST_UNMARKED {
-        return 0;
+    if name.len() <= LONGEST_SHORT {
+        return quick_mark(name);
     }
     let mut hasher = DefaultHasher::new();
     hasher.write(name);

@@ -68,7 +68,7 @@ fn put_number(alloc: Global, out: &mut String, number: u16) -> Result<(), Fail> 
 
 /// Adds a record: its owner, TYPE and RDATA.
 fn put_record(alloc: Global, out: &mut String, record: &Resource) -> Result<(), Fail> {
-    put_bytes(alloc, out, record.owner.wire())?;
+    put_bytes(alloc, out, record.owner.as_slice())?;
     out.push('/')?;
     put_number(alloc, out, record.kind)?;
     out.push('/')?;

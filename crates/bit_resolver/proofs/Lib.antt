@@ -3,5 +3,6 @@ pub mod WayLemmas
 pub mod ChaseLemmas
 pub mod AnswerForms
 pub mod AnswerLaws
+pub mod SimpleLemmas
 pub mod WritingLemmas
 pub mod ReplyLaws

@@ -52,9 +52,6 @@ too_long w h = let t : nat_le (length w) LONGEST_WIRE ≡ false = grind (arith, 
 pub short_enough : (w : List ℕ) → length w ≤ LONGEST_WIRE → if_fits w ≡ Some w
 short_enough w h = let t : nat_le (length w) LONGEST_WIRE ≡ true = grind (arith, nat_tests) in rw t refl
 
-pub apex_is_name : IsName apex_name
-apex_is_name = record { labels = bit ∷ []; are = ((omega arith, omega arith), tt); text = refl; fits = omega arith }
-
 -- a node above a name has no longer name
 pub joined_to-drop : (k : ℕ) (labels : List (List ℕ)) (end : List ℕ) → length (joined_to (drop k labels) end) ≤ length (joined_to labels end)
 joined_to-drop zero labels end = omega arith

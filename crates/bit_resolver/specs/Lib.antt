@@ -1,9 +1,11 @@
 pub mod Answers
 pub mod Ends
 pub mod Held
+pub mod HostsAt
 pub mod Laws
 pub mod Nodes
 pub mod Places
 pub mod Rdata
+pub mod ShortBytes
 pub mod Way
 pub mod Replies

@@ -24,6 +24,10 @@ pub record Node : Type 0 where
 abbrev pub node_at : Live → Members → Below → List (List ℕ) → Node
 node_at live o b at = record { own = own_of b at; top = top_of b; of = node live o at }
 
+-- the node of a name right below the zone whose object gives itself alone as a source
+abbrev pub lone : Below → Members → Node
+lone b o = record { own = top_of b; top = top_of b; of = o ∷ [] }
+
 -- the RDATA of each element of an item that isn't skipped at the node
 abbrev pub rdata_at : Key → Node → List (List ℕ)
 rdata_at k n = flat_map (λ e. alone (rdata_of (host_name n.own n.top) e)) (elements_at k n.of)

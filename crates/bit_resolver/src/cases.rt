@@ -153,7 +153,12 @@ fn matching_any(
 }
 
 /// A CNAME record, and the name that is asked next unless the record itself is asked for.
-fn by_cname(alloc: Global, kind: u16, own: &Name, target: Name) -> Result<Asked, NoMemory>
+pub(crate) fn by_cname(
+    alloc: Global,
+    kind: u16,
+    own: &[u8],
+    target: Name,
+) -> Result<Asked, NoMemory>
     ensures { IfOk result (λ a. seen_asked a ≡ by_cname_of kind own.now target) }
 {
     let record = Resource::new(alloc, own, rr_type::CNAME, target.wire())?;
@@ -180,7 +185,7 @@ fn in_zone(
             Ok(Asked::Done(or_no_data(alloc, zone, found)?))
         }
         Some(target) => {
-            let asked = by_cname(alloc, kind, &node.own, target)?;
+            let asked = by_cname(alloc, kind, node.own.wire(), target)?;
             Ok(asked)
         }
     }
@@ -240,7 +245,7 @@ fn by_dname(
             aa: true,
         })),
         Some(target) => {
-            let record = Resource::new(alloc, own, rr_type::CNAME, target.wire())?;
+            let record = Resource::new(alloc, own.wire(), rr_type::CNAME, target.wire())?;
             add(&mut found, record)?;
             Ok(Asked::Renamed(found, target))
         }
@@ -263,7 +268,7 @@ fn moved(
 {
     let own = name.own_at(alloc, node.top, 0)?;
     let renamed = name_before(alloc, &name.path[..left], target)?;
-    let dname = Resource::new(alloc, &node.own, rr_type::DNAME, target.wire())?;
+    let dname = Resource::new(alloc, node.own.wire(), rr_type::DNAME, target.wire())?;
     by_dname(alloc, dname, &own, renamed)
 }
 

@@ -1,7 +1,8 @@
 //! What the node of a name gives.
 
 ghost use Rattle.std.specs.Prelude.{◌≡◌, not, IfOk, OnOk, ◌++◌};
-ghost use Rattle.bit_resolver.specs.Nodes.{rdata_at, target_at, host_in as host_of, is_nil, type_of as type_number};
+ghost use Rattle.std.specs.Option.{option_and_then};
+ghost use Rattle.bit_resolver.specs.Nodes.{first, rdata_at, target_at, host_in as host_of, is_nil, type_of as type_number};
 ghost use Rattle.std.specs.List.{flat_map};
 ghost use Rattle.domain_text.specs.Host.{host_name as host_name_of};
 ghost use Rattle.ifa_value.specs.Elements.{alone};
@@ -11,7 +12,7 @@ ghost use Rattle.bit_resolver.specs.Nodes.{Node as NodeOf};
 ghost use Rattle.bit_resolver.specs.Ends.{ShowsNode};
 ghost use Rattle.ifa_value.specs.declared.item.Key.TheVariants.{Ns};
 
-use crate::rdata::{host_name, rdata};
+use crate::rdata::{HostsAt, host_name, rdata};
 use crate::resource::{Resource, Resources, add};
 use crate::rr_type;
 use domain_text::Name;
@@ -50,6 +51,16 @@ pub(crate) fn type_of(key: Key) -> u16
 }
 
 impl<'a> Node<'a> {
+    /// Where its host texts have their names.
+    fn hosts(&self) -> HostsAt<'_>
+        ensures { (result.own.now ≡ self.now.own) × (result.top.now ≡ self.now.top.now) }
+    {
+        HostsAt {
+            own: &self.own,
+            top: self.top,
+        }
+    }
+
     /// The name of a host element.
     fn host_in(&self, element: &Element) -> Option<Name>
         ensures { (n : NodeOf) → n.own ≡ self.now.own → n.top ≡ self.now.top.now → result ≡ host_of n element.now }
@@ -57,6 +68,16 @@ impl<'a> Node<'a> {
         match element {
             Element::Host(text) => host_name(&self.own, self.top, text.as_slice()),
             _ => None,
+        }
+    }
+
+    /// The name of the first of these elements.
+    fn target_in(&self, elements: &[Element]) -> Option<Name>
+        ensures { (n : NodeOf) → n.own ≡ self.now.own → n.top ≡ self.now.top.now → result ≡ option_and_then (host_of n) (first elements.now) }
+    {
+        match elements.first() {
+            None => None,
+            Some(element) => self.host_in(element),
         }
     }
 
@@ -71,13 +92,13 @@ impl<'a> Node<'a> {
     {
         match room.first_with(self.of, key) {
             None => Ok(None),
-            Some(object) => {
-                let elements = object.elements(alloc, key)?;
-                match elements.as_slice().first() {
-                    None => Ok(None),
-                    Some(element) => Ok(self.host_in(element)),
+            Some(object) => match object.made(key) {
+                Some(elements) => Ok(self.target_in(elements)),
+                None => {
+                    let elements = object.elements(alloc, key)?;
+                    Ok(self.target_in(elements.as_slice()))
                 }
-            }
+            },
         }
     }
 
@@ -91,16 +112,9 @@ impl<'a> Node<'a> {
     ) -> Result<(), NoMemory>
         ensures { OnOk result (into.new.items ≡ into.old.items ++ records_of self.now.own kind (alone (rdata_of (host_name_of self.now.own self.now.top.now) element.now))) }
     {
-        match rdata(alloc, &self.own, self.top, element)? {
+        match rdata(alloc, Some(self.hosts()), element)? {
             None => Ok(()),
-            Some(rdata) => add(
-                into,
-                Resource {
-                    owner: self.own.copy(),
-                    kind,
-                    rdata,
-                },
-            ),
+            Some(rdata) => add(into, Resource::with(alloc, self.own.wire(), kind, rdata)?),
         }
     }
 
@@ -133,11 +147,14 @@ impl<'a> Node<'a> {
     {
         match room.first_with(self.of, key) {
             None => Ok(()),
-            Some(object) => {
-                let elements = object.elements(alloc, key)?;
-                self.add_elements(alloc, type_of(key), elements.as_slice(), into)?;
-                Ok(())
-            }
+            Some(object) => match object.made(key) {
+                Some(elements) => self.add_elements(alloc, type_of(key), elements, into),
+                None => {
+                    let elements = object.elements(alloc, key)?;
+                    self.add_elements(alloc, type_of(key), elements.as_slice(), into)?;
+                    Ok(())
+                }
+            },
         }
     }
 

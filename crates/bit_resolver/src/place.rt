@@ -7,12 +7,13 @@ ghost use Rattle.bit_resolver.specs.Places.{apex_name as apex_wire, next_of, pla
 ghost use Rattle.bit_resolver.specs.Ends.{seen_place, seen_below};
 ghost use Rattle.bit_resolver.specs.declared.place.TheConstants.{ROOM};
 
+use crate::short_bytes::ShortBytes;
 use domain_text::{LONGEST_WIRE, Name};
 use nmc_base::{Bytes, NoMemory};
 use std::alloc::Global;
 
 /// The name `bit.` on the wire.
-const APEX: &[u8] = b"\x03bit\0";
+pub(crate) const APEX: &[u8] = b"\x03bit\0";
 
 /// Room for a label, its length and `bit.`, or for a label behind `d/`.
 const ROOM: usize = 69;
@@ -20,8 +21,8 @@ const ROOM: usize = 69;
 /// A name below `bit.`, in lower case: the label right below `bit`, and the labels below that, the lowest first.
 #[derive(Drop)]
 pub(crate) struct Below {
-    pub(crate) x: Bytes,
-    pub(crate) path: Vec<Bytes>,
+    pub(crate) x: ShortBytes,
+    pub(crate) path: Vec<ShortBytes>,
 }
 
 /// Where a name stands.
@@ -56,15 +57,6 @@ fn is_apex(wire: &[u8]) -> bool
     wire.eq_ignore_ascii_case(APEX)
 }
 
-/// A label in lower case.
-fn lower_label(alloc: Global, label: &[u8]) -> Result<Bytes, NoMemory>
-    ensures { IfOk result (λ b. b ≡ lower label.now) }
-{
-    let mut found = Bytes::copy_of(alloc, label)?;
-    found.as_mut_slice().make_ascii_lowercase();
-    Ok(found)
-}
-
 /// The place of a name, in one walk over its labels.
 fn place_in(alloc: Global, wire: &[u8]) -> Result<Place, NoMemory>
     requires { IsName wire.now }
@@ -76,7 +68,7 @@ fn place_in(alloc: Global, wire: &[u8]) -> Result<Place, NoMemory>
     let mut path = Vec::new(alloc);
     let mut rest = wire;
     while let Some((label, more)) = next_label(rest) {
-        let label = lower_label(alloc, label)?;
+        let label = ShortBytes::lower(alloc, label)?;
         if is_apex(more) {
             return Ok(Place::Below(Below { x: label, path }));
         }
@@ -119,7 +111,7 @@ fn add_label(label: &[u8], into: &mut Bytes) -> Result<(), NoMemory>
 }
 
 /// Labels, the lowest first, before the name that they stand below.
-fn joined(alloc: Global, labels: &[Bytes], end: &[u8]) -> Result<Bytes, NoMemory>
+fn joined(alloc: Global, labels: &[ShortBytes], end: &[u8]) -> Result<Bytes, NoMemory>
     requires { AllByRecursion IsWireLabel labels.now }
     ensures { IfOk result (λ b. b ≡ joined_to labels.now end.now) }
 {
@@ -135,7 +127,7 @@ fn joined(alloc: Global, labels: &[Bytes], end: &[u8]) -> Result<Bytes, NoMemory
 #[tactic(auto, using(crate::proofs::PlaceLemmas::fits_is_name, crate::proofs::PlaceLemmas::too_long, crate::proofs::PlaceLemmas::short_enough))]
 pub(crate) fn name_before(
     alloc: Global,
-    labels: &[Bytes],
+    labels: &[ShortBytes],
     end: &Name,
 ) -> Result<Option<Name>, NoMemory>
     requires { AllByRecursion IsWireLabel labels.now }
@@ -192,6 +184,16 @@ impl Below {
             Some(name) => name,
             None => unreachable!(),
         }
+    }
+
+    /// That name as the owner of a record.
+    pub(crate) fn owner(&self, alloc: Global) -> Result<ShortBytes, NoMemory>
+        requires { IsBelow (seen_below self.now) }
+        ensures { IfOk result (λ o. o ≡ top_of (seen_below self.now)) }
+    {
+        let x = self.x.as_slice();
+        let wire = top_wire(x);
+        ShortBytes::copy_of(alloc, &wire[..1 + x.len() + APEX.len()])
     }
 
     /// The domain name of the node so many labels above this name.

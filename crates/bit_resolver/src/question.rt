@@ -12,11 +12,12 @@ ghost use Rattle.bit_resolver.specs.Laws.{IsLawful};
 ghost use Rattle.bit_resolver.specs.Ends.{seen_place, seen_sections, seen_asked};
 ghost use Rattle.bit_resolver.specs.declared.limits.TheConstants.{MOST_CNAMES as GREATEST};
 
-use crate::cases::{answered, apex_records, by_object, negative, or_no_data};
+use crate::cases::{answered, apex_records, negative, or_no_data};
 use crate::limits::{CLASS_IN, MOST_CNAMES};
 use crate::place::{Place, find_place, is_domain_label, value_name};
 use crate::resource::{Asked, Resources, Sections, append};
 use crate::rr_type;
+use crate::simple::by_number;
 use crate::zone::Zone;
 use dns_message::{Question, rcode};
 use domain_text::Name;
@@ -73,7 +74,7 @@ fn ask<N: Names>(
         Place::Below(name) => match value(alloc, names, name.x.as_slice(), room)? {
             None => Ok(Asked::Done(negative(alloc, zone, rcode::NXDOMAIN)?)),
             Some(at) => {
-                let asked = by_object(alloc, names, zone, name, at, kind, room)?;
+                let asked = by_number(alloc, names, zone, name, at, kind, room)?;
                 Ok(asked)
             }
         },

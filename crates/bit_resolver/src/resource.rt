@@ -2,19 +2,20 @@
 
 ghost use Rattle.std.specs.Prelude.{◌≡◌, ◌++◌, ◌∷◌, [], OnOk, IfOk};
 
+use crate::short_bytes::ShortBytes;
 use domain_text::Name;
-use nmc_base::{Bytes, NoMemory};
+use nmc_base::NoMemory;
 use std::alloc::Global;
 
 /// A record of class IN (RFC 1035, 3.2.1).
 #[derive(Drop)]
 pub struct Resource {
-    /// NAME, in lower case.
-    pub owner: Name,
+    /// NAME in its wire form, in lower case.
+    pub owner: ShortBytes,
     /// TYPE.
     pub kind: u16,
     /// RDATA, whose numbers have their high byte first and whose names are written out.
-    pub rdata: Bytes,
+    pub rdata: ShortBytes,
 }
 
 /// A list of records.
@@ -41,21 +42,29 @@ pub(crate) enum Asked {
 }
 
 impl Resource {
+    /// A record of this owner, with this RDATA.
+    pub(crate) fn with(
+        alloc: Global,
+        owner: &[u8],
+        kind: u16,
+        rdata: ShortBytes,
+    ) -> Result<Resource, NoMemory>
+        ensures { IfOk result (λ r. r ≡ record { owner = owner.now; kind = kind; rdata = rdata }) }
+    {
+        let owner = ShortBytes::copy_of(alloc, owner)?;
+        Ok(Resource { owner, kind, rdata })
+    }
+
     /// A record of this owner and RDATA.
     pub(crate) fn new(
         alloc: Global,
-        owner: &Name,
+        owner: &[u8],
         kind: u16,
         rdata: &[u8],
     ) -> Result<Resource, NoMemory>
         ensures { IfOk result (λ r. r ≡ record { owner = owner.now; kind = kind; rdata = rdata.now }) }
     {
-        let rdata = Bytes::copy_of(alloc, rdata)?;
-        Ok(Resource {
-            owner: owner.copy(),
-            kind,
-            rdata,
-        })
+        Resource::with(alloc, owner, kind, ShortBytes::copy_of(alloc, rdata)?)
     }
 }
 

@@ -20,10 +20,10 @@ fn add_records(reply: &mut Reply, buffer: &mut [u8], section: Section, records: 
     ensures limit { reply.new.limit ≡ reply.old.limit }
 {
     for record in records {
-        reply.add(
+        reply.add_wire(
             buffer,
             section,
-            &record.owner,
+            record.owner.as_slice(),
             record.kind,
             record.rdata.as_slice(),
         );

@@ -4,15 +4,16 @@ ghost use Rattle.std.specs.Prelude.{◌≡◌, ◌+◌, ◌≤◌, ◌++◌, len
 ghost use Rattle.std.specs.Int.{w32, to_be_bytes};
 ghost use Rattle.domain_text.specs.declared.limits.TheConstants.{LONGEST_WIRE};
 ghost use Rattle.bit_resolver.specs.declared.zone.TheConstants.{LONGEST_SOA};
-ghost use Rattle.bit_resolver.specs.Places.{apex_name as apex_wire};
 ghost use Rattle.bit_resolver.specs.Rdata.{soa_rdata as soa_rdata_of};
 ghost use Rattle.bit_resolver.specs.Answers.{soa_of, ns_of};
 
 use crate::limits::{EXPIRE, MINIMUM, REFRESH, RETRY};
+use crate::place::APEX;
 use crate::resource::Resource;
 use crate::rr_type;
+use crate::short_bytes::ShortBytes;
 use domain_text::{LONGEST_WIRE, Name};
-use nmc_base::{Bytes, NoMemory};
+use nmc_base::NoMemory;
 use std::alloc::Global;
 
 /// The zone `bit.`: the name of its name server, and the SERIAL of its SOA (RFC 1035, 3.3.13).
@@ -20,17 +21,6 @@ use std::alloc::Global;
 pub struct Zone {
     pub host: Name,
     pub serial: u32,
-}
-
-/// The name `bit.`
-#[tactic(auto, using(crate::proofs::PlaceLemmas::apex_is_name))]
-pub(crate) fn apex_name() -> Name
-    ensures { result ≡ apex_wire }
-{
-    match Name::from_wire(b"\x03bit\0") {
-        Some(name) => name,
-        None => unreachable!(),
-    }
 }
 
 /// The most bytes of an SOA's RDATA: two names, the label before the second, and five numbers.
@@ -58,7 +48,7 @@ fn put_number(room: &mut [u8; LONGEST_SOA], at: usize, number: u32) -> usize
 
 /// RDATA of the zone's SOA: its host, `hostmaster` before its host, the serial and the four times. It is written in one place and
 /// copied once, so it takes memory once.
-fn soa_rdata(alloc: Global, host: &[u8], serial: u32) -> Result<Bytes, NoMemory>
+fn soa_rdata(alloc: Global, host: &[u8], serial: u32) -> Result<ShortBytes, NoMemory>
     requires { length host.now ≤ LONGEST_WIRE }
     ensures { IfOk result (λ b. b ≡ soa_rdata_of host.now serial) }
 {
@@ -71,7 +61,7 @@ fn soa_rdata(alloc: Global, host: &[u8], serial: u32) -> Result<Bytes, NoMemory>
     let end = put_number(&mut room, end, RETRY);
     let end = put_number(&mut room, end, EXPIRE);
     let end = put_number(&mut room, end, MINIMUM);
-    Bytes::copy_of(alloc, &room[..end])
+    ShortBytes::copy_of(alloc, &room[..end])
 }
 
 impl Zone {
@@ -81,7 +71,7 @@ impl Zone {
     {
         let rdata = soa_rdata(alloc, self.host.wire(), self.serial)?;
         Ok(Resource {
-            owner: apex_name(),
+            owner: ShortBytes::few(APEX),
             kind: rr_type::SOA,
             rdata,
         })
@@ -91,9 +81,9 @@ impl Zone {
     pub(crate) fn ns(&self, alloc: Global) -> Result<Resource, NoMemory>
         ensures { IfOk result (λ r. r ≡ ns_of self.now) }
     {
-        let rdata = Bytes::copy_of(alloc, self.host.wire())?;
+        let rdata = ShortBytes::copy_of(alloc, self.host.wire())?;
         Ok(Resource {
-            owner: apex_name(),
+            owner: ShortBytes::few(APEX),
             kind: rr_type::NS,
             rdata,
         })

@@ -72,7 +72,14 @@ impl Reply {
     }
 
     /// The same, of an owner in its wire form.
-    fn add_wire(&mut self, buf: &mut [u8], section: Section, owner: &[u8], kind: u16, rdata: &[u8])
+    pub fn add_wire(
+        &mut self,
+        buf: &mut [u8],
+        section: Section,
+        owner: &[u8],
+        kind: u16,
+        rdata: &[u8],
+    )
         requires holds { (t : Contents) × Holds t self.old buf.old × MayAdd section t }
         ensures holds { (t : Contents) → Holds t self.old buf.old → MayAdd section t
             → Holds (with_record section (record_of owner.now kind rdata.now) t) self.new buf.new }

@@ -7,3 +7,4 @@ pub mod Filling
 pub mod Answering
 pub mod Transcript
 pub mod Determined
+pub mod Rooms

@@ -4,6 +4,7 @@ ghost use Rattle.frame_loop.specs.Transcript.{Streams, Transcript};
 ghost use Rattle.frame_loop.specs.Determined.{IsDetermined, IsComplete};
 ghost use Rattle.frame_loop.specs.declared.answerer.TheConstants.{QUERY, STREAM_QUERY};
 ghost use Rattle.frame_loop.specs.declared.following.Ending.{Ending};
+ghost use Rattle.frame_loop.specs.declared.reply.TheConstants.{LONGEST_REPLY, REPLY_HEAD, REPLY_ROOM};
 ghost use Rattle.feed_frames.specs.Frames.{Frame};
 ghost use Rattle.feed_frames.specs.Replies.{Reply};
 ghost use Rattle.std.specs.Prelude.{◌≡◌, List, ℕ};
@@ -20,7 +21,7 @@ pub fn one_ending<W, T: Answerer<W>>()
 {}
 
 /// The numbers that definitions cite by their names: the kind of a frame with a message of DNS, and what stands in its place for a
-/// message of a client's stream, which is no kind of the feed.
+/// message of a client's stream, which is no kind of the feed; and how many bytes the payload of a reply has at most, its head, and both.
 pub fn numbers_of_queries()
-    ensures { (QUERY ≡ 3) × (STREAM_QUERY ≡ 0) }
+    ensures { (QUERY ≡ 3) × (STREAM_QUERY ≡ 0) × (LONGEST_REPLY ≡ 65535) × (REPLY_HEAD ≡ 5) × (REPLY_ROOM ≡ 65540) }
 {}

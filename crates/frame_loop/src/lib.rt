@@ -17,4 +17,4 @@ pub use filling::Buffers;
 pub use following::{Ending, follow};
 pub use law::{numbers_of_queries, one_ending};
 pub use outlet::{Outlet, ToSink};
-pub use reply::{LONGEST_REPLY, ReplyBuf};
+pub use reply::{LONGEST_REPLY, REPLY_HEAD, REPLY_ROOM, ReplyBuf};

@@ -1,55 +1,80 @@
 //! The reply to one frame, as text.
 
-ghost use Rattle.std.specs.Prelude.{◌≡◌, ◌≤◌, ◌+◌, ◌++◌, ◌<◌, ◌^◌, length, vec_capacity, [], IfOk};
+ghost use Rattle.std.specs.Prelude.{◌≡◌, ◌≤◌, ◌+◌, ◌++◌, ◌∷◌, ◌<◌, ◌^◌, length, take, drop, [], IfOk};
+ghost use Rattle.std.specs.Int.{w32, to_le_bytes};
 ghost use Rattle.feed_frames.specs.Replies.{reply_text};
-ghost use Rattle.frame_loop.specs.declared.reply.TheConstants.{LONGEST_REPLY};
+ghost use Rattle.frame_loop.specs.declared.reply.TheConstants.{LONGEST_REPLY, REPLY_HEAD, REPLY_ROOM};
 
 use nmc_base::NoMemory;
 use std::alloc::Global;
 use std::marker::Model;
+use std::mem;
 
 /// The longest payload of a reply.
 pub const LONGEST_REPLY: usize = 65_535;
 
 /// A reply's code byte and its length.
-const HEAD: usize = 5;
+pub const REPLY_HEAD: usize = 5;
+
+/// The bytes of the longest reply.
+pub const REPLY_ROOM: usize = REPLY_HEAD + LONGEST_REPLY;
 
 /// The one reply of the frame that was dealt with last: a code byte, the payload's length in 4 bytes,
 /// low byte first, and the payload. Contracts see its code and its payload.
 #[derive(Drop)]
 pub struct ReplyBuf {
     code: u8,
+    size: usize,
+    /// The reply, and what is left of the room.
     text: Vec<u8>,
 }
 
 impl Model for ReplyBuf {
-    ghost use Rattle.std.specs.Prelude.{◌≡◌, ◌≤◌, ◌+◌, drop, length, vec_capacity};
-    ghost use Rattle.feed_frames.specs.Replies.{Reply, reply_text};
-    ghost use Rattle.frame_loop.specs.declared.reply.TheConstants.{LONGEST_REPLY};
+    ghost use Rattle.std.specs.Prelude.{take, drop};
+    ghost use Rattle.feed_frames.specs.Replies.{Reply};
+    ghost use Rattle.frame_loop.specs.Rooms.{IsReplyIn};
 
     ghost Value = { Reply };
 
-    ghost view = { λ r. record { code = r.code; payload = drop 5 r.text.items } };
+    ghost view = { λ r. record { code = r.code; payload = take r.size (drop 5 r.text.items) } };
 
-    ghost invariant = { λ r. (r.text.items ≡ reply_text (record { code = r.code; payload = drop 5 r.text.items }))
-        × (length (drop 5 r.text.items) ≤ LONGEST_REPLY) × (5 + LONGEST_REPLY ≤ vec_capacity r.text) };
+    ghost invariant = { λ r. IsReplyIn r.code r.size r.text.items };
 }
 
-/// Writes a reply whose payload is two pieces in place of the text.
-fn write_reply(text: &mut Vec<u8>, code: u8, first: &[u8], second: &[u8])
-    requires room { 5 + length first.now + length second.now ≤ vec_capacity text.old }
-    requires short { length first.now + length second.now < 2 ^ 32 }
-    ensures text { text.new.items ≡ reply_text (record { code = code; payload = first.now ++ second.now }) }
-    ensures capacity { vec_capacity text.old ≤ vec_capacity text.new }
+/// Writes a piece at a place, and gives the place behind it.
+fn put(text: &mut [u8], at: usize, piece: &[u8]) -> usize
+    requires { at + length piece.now ≤ length text.old }
+    ensures end { result ≡ at + length piece.now }
+    ensures text { text.new ≡ take at text.old ++ (piece.now ++ drop (at + length piece.now) text.old) }
 {
-    let length = (first.len() + second.len()) as u32;
-    text.clear();
-    let pushed = text.push(code);
-    prove!(pushed.is_ok());
-    let _ = pushed;
-    let _ = text.extend_from_slice(&length.to_le_bytes());
-    let _ = text.extend_from_slice(first);
-    let _ = text.extend_from_slice(second);
+    let end = at + piece.len();
+    text[at..end].copy_from_slice(piece);
+    end
+}
+
+/// Writes the head of a reply: its code and how many bytes its payload has.
+fn put_head(text: &mut [u8], code: u8, size: usize)
+    requires room { REPLY_HEAD ≤ length text.old }
+    requires short { size < 2 ^ 32 }
+    ensures { text.new ≡ (code ∷ to_le_bytes w32 size) ++ drop REPLY_HEAD text.old }
+{
+    let [first, second, third, fourth] = (size as u32).to_le_bytes();
+    put(text, 0, &[code, first, second, third, fourth]);
+}
+
+/// Writes a reply whose payload is two pieces at the front, and gives how many bytes these have.
+fn write_reply(text: &mut [u8], code: u8, first: &[u8], second: &[u8]) -> usize
+    requires room { length text.old ≡ REPLY_ROOM }
+    requires short { length first.now + length second.now ≤ LONGEST_REPLY }
+    ensures size { result ≡ length first.now + length second.now }
+    ensures head { take REPLY_HEAD text.new ≡ code ∷ to_le_bytes w32 result }
+    ensures payload { take result (drop REPLY_HEAD text.new) ≡ first.now ++ second.now }
+{
+    let end = put(text, REPLY_HEAD, first);
+    let end = put(text, end, second);
+    let size = end - REPLY_HEAD;
+    put_head(text, code, size);
+    size
 }
 
 impl ReplyBuf {
@@ -57,9 +82,12 @@ impl ReplyBuf {
     pub fn new(alloc: Global) -> Result<ReplyBuf, NoMemory>
         ensures { IfOk result (λ reply. reply ≡ record { code = 0; payload = [] }) }
     {
-        let mut text = Vec::with_capacity(alloc, HEAD + LONGEST_REPLY)?;
-        write_reply(&mut text, 0, &[], &[]);
-        Ok(ReplyBuf { code: 0, text })
+        let text = vec![in alloc; 0; REPLY_ROOM]?;
+        Ok(ReplyBuf {
+            code: 0,
+            size: 0,
+            text,
+        })
     }
 
     /// The code byte.
@@ -74,14 +102,14 @@ impl ReplyBuf {
         ensures value { result.now ≡ self.now.payload }
         ensures short { length result.now ≤ LONGEST_REPLY }
     {
-        &self.text[HEAD..]
+        &self.text[REPLY_HEAD..REPLY_HEAD + self.size]
     }
 
     /// The whole reply, as it is written.
     pub fn text(&self) -> &[u8]
         ensures { result.now ≡ reply_text self.now }
     {
-        &self.text
+        &self.text[..REPLY_HEAD + self.size]
     }
 
     /// Sets the reply to a code and a payload of two pieces.
@@ -89,7 +117,21 @@ impl ReplyBuf {
         requires { length first.now + length second.now ≤ LONGEST_REPLY }
         ensures { self.new ≡ record { code = code; payload = first.now ++ second.now } }
     {
-        write_reply(&mut self.text, code, first, second);
+        self.size = write_reply(&mut self.text, code, first, second);
         self.code = code;
+    }
+
+    /// Sets the reply to a code and as many of the bytes that a room has behind its first five. The room of the reply before is left in its
+    /// place.
+    pub fn exchange(&mut self, code: u8, room: &mut Vec<u8>, size: usize)
+        requires room { length room.old.items ≡ REPLY_ROOM }
+        requires size { size ≤ LONGEST_REPLY }
+        ensures reply { self.new ≡ record { code = code; payload = take size (drop REPLY_HEAD room.old.items) } }
+        ensures room { length room.new.items ≡ REPLY_ROOM }
+    {
+        mem::swap(&mut self.text, room);
+        self.size = size;
+        self.code = code;
+        put_head(&mut self.text, code, size);
     }
 }

@@ -1,5 +1,6 @@
 pub mod Elements
 pub mod Labels
+pub mod Made
 pub mod Object
 pub mod Shapes
 pub mod Sizes

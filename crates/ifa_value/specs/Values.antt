@@ -1,6 +1,6 @@
 -- The object that a value is, its items and the entries of its map (IFA-0001). JSON is as `serde_json` reads it: of equal
 -- keys the last stays, and texts that nest too deep or hold a number that it can't are not read.
-use Rattle.std.specs.Prelude.{ℕ, if◌then◌else◌, List, codes, Option, Some, None}
+use Rattle.std.specs.Prelude.{◌≡◌, ℕ, if◌then◌else◌, List, [], codes, Option, Some, None, is_some, false}
 use Rattle.std.specs.Option.{option_and_then}
 use Rattle.std.specs.Str.{is_utf8}
 use Rattle.serde_json.specs.Data.{Data, null, boolean, number, string, array, object, Members, no_members}
@@ -49,3 +49,9 @@ item_of k ms = get_member (key_text k) ms
 -- the object under a label in `map`
 abbrev pub entry_of : List ℕ → Members → Option Members
 entry_of label ms = if is_entry_label label then option_and_then as_object (option_and_then (get label) (item_of key.Map ms)) else None
+
+-- an object that gives itself alone as a source, and is no cut: without `ns`, an import and an entry under the empty text
+pub record IsSimple (o : Members) : Type 0 where
+  pub ns : is_some (item_of key.Ns o) ≡ false
+  pub import : is_some (item_of key.Import o) ≡ false
+  pub below : is_some (entry_of [] o) ≡ false

@@ -5,11 +5,14 @@ mod elements;
 mod import;
 mod item;
 mod labels;
+mod made;
 mod object;
+mod reading;
 mod shape;
 mod size;
 mod text;
 
 pub use item::{Element, Elements, Key};
 pub use labels::label_number;
-pub use object::{IfaObject, read_value};
+pub use object::IfaObject;
+pub use reading::read_value;

@@ -4,10 +4,9 @@ use Rattle.serde_json.specs.Data.{Members}
 use Rattle.std.proofs.Common.{false}
 use Rattle.std.specs.Prelude.{is_some}
 use Rattle.std.specs.List.{AllByRecursion}
-use Rattle.domain_text.specs.Label.{is_entry_label}
 use Rattle.ifa_value.specs.declared.item.Key.{Key}
 use Rattle.ifa_value.specs.declared.item.Key.TheVariants as key
-use Rattle.ifa_value.specs.Values.{entry_of, item_of}
+use Rattle.ifa_value.specs.Values.{item_of}
 use Rattle.import_expand.specs.Sources.{Live, entries, child_of, first_of, EndsNoWay}
 use Rattle.import_expand.specs.Books.{IsAt, Shows}
 use Rattle.import_expand.specs.Rooms.{IsPlain}
@@ -19,20 +18,12 @@ AllAre P os numbers n = (k : ℕ) → k < n → (o : Members) → IsAt os (get_o
 pub one_more : (P : Members → Type 0) (os : List Members) (numbers : List ℕ) (n at : ℕ) → get_or numbers n 0 ≡ at → ((o : Members) → IsAt os at o → P o) → AllAre P os numbers n → AllAre P os numbers (n + 1)
 one_more P os numbers n at e so have = below_more _ _ have (λ o here. so o (rw e at here))
 
--- an object has no entry under a label
-abbrev pub HasNone : List ℕ → Members → Type 0
-HasNone label o = entry_of label o ≡ None
-
 -- what is so of all is so of the objects that they show
 all_shown : (P : Members → Type 0) (os : List Members) (is : List ℕ) (ns : List Members) → Shows os is ns → AllAre P os is (length is) → AllByRecursion P ns
 all_shown P os [] [] h so = tt
 all_shown P os (i ∷ is) (n ∷ ns) h so = (so 0 (omega arith) n h.0, all_shown P os is ns h.1 (λ k l o here. so (suc k) (omega arith) o here))
 all_shown P os [] (n ∷ ns) h so = absurd h
 all_shown P os (i ∷ is) [] h so = absurd h
-
-none_of : (label : List ℕ) (ns : List Members) → AllByRecursion (HasNone label) ns → entries label ns ≡ []
-none_of label [] none = refl
-none_of label (n ∷ ns) none = rw none.0 (none_of label ns none.1)
 
 first_none : (key : Key) (ns : List Members) → AllByRecursion (λ o. is_some (item_of key o) ≡ false) ns → first_of key ns ≡ None
 first_none key [] none = refl
@@ -42,9 +33,6 @@ only : (P Q : Members → Type 0) (ns : List Members) → ((o : Members) → P o
 only P Q [] weaker so = tt
 only P Q (n ∷ ns) weaker so = (weaker n so.0, only P Q ns weaker so.1)
 
-pub all_none : (os : List Members) (label numbers : List ℕ) (n : ℕ) (ns : List Members) → length numbers ≤ n → AllAre (HasNone label) os numbers n → Shows os numbers ns → entries label ns ≡ []
-all_none os label numbers n ns over so shown = none_of label ns (all_shown (HasNone label) os numbers ns shown (λ k l. so k (omega arith)))
-
 pub all_plain : (os : List Members) (numbers : List ℕ) (n : ℕ) (ns : List Members) → length numbers ≤ n → AllAre EndsNoWay os numbers n → Shows os numbers ns → IsPlain ns
 all_plain os numbers n ns over so shown =
     let none : AllByRecursion EndsNoWay ns = all_shown EndsNoWay os numbers ns shown (λ k l. so k (omega arith)) in
@@ -52,11 +40,6 @@ all_plain os numbers n ns over so shown =
       ns = first_none key.Ns ns (only EndsNoWay (λ o. is_some (item_of key.Ns o) ≡ false) ns (λ o e. e.ns) none);
       translate = first_none key.Translate ns (only EndsNoWay (λ o. is_some (item_of key.Translate o) ≡ false) ns (λ o e. e.translate) none);
     }
-
--- a label that no map has
-pub no_label : (label : List ℕ) (ns : List Members) → is_entry_label label ≡ false → entries label ns ≡ []
-no_label label [] e = refl
-no_label label (o ∷ ns) e = rw e (no_label label ns e)
 
 -- where no source has an entry under a label, the child is that under `*`
 pub child_of_any : (live : Live) (ns : List Members) (label : List ℕ) → entries label ns ≡ [] → child_of live ns (42 ∷ []) ≡ child_of live ns label

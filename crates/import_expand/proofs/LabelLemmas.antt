@@ -1,5 +1,5 @@
 -- Labels that aren't among those of an object's map.
-use Rattle.std.proofs.Common.{◌≡◌, ℕ, ◌<◌, ◌≤◌, ◌==◌, List, length, get_or, Bool, true, false, Option, Some, None, is_some, not, refl, sym, ap, subst, ◌∙◌, arith, nat_lt}
+use Rattle.std.proofs.Common.{◌≡◌, ℕ, suc, ◌+◌, ◌<◌, ◌≤◌, ◌==◌, List, length, set, get_or, below_more, Bool, true, false, Option, Some, None, is_some, not, refl, sym, ap, subst, ◌∙◌, arith, nat_lt}
 use Rattle.std.specs.declared.cmp.Ordering.{Ordering}
 use Rattle.std.specs.declared.cmp.Ordering.TheVariants.{Less, Equal, Greater}
 use Rattle.std.specs.Ordering.{nat_cmp, match_ordering}
@@ -9,7 +9,8 @@ use Rattle.std.specs.List.{All}
 use Rattle.std.specs.List.Sorted.{IsNonDecreasing}
 use Rattle.std.proofs.lemmas.Bool.{or_parts}
 use Rattle.std.proofs.lemmas.Bool.Decides.{nat_tests}
-use Rattle.std.proofs.lemmas.List.Elements.{All-from_get_or, All-weaker}
+use Rattle.std.proofs.lemmas.List.{get_or-set_same, get_or-set_other}
+use Rattle.std.proofs.lemmas.List.Elements.{All-from_get_or}
 use Rattle.std.proofs.lemmas.List.Folds.{list_any_none}
 use Rattle.std.proofs.lemmas.Map.Lookups.{exact_bytes}
 use Rattle.serde_json.specs.Data.{Data, null, boolean, number, string, array, object, Members, no_members, member}
@@ -18,7 +19,7 @@ use Rattle.domain_text.specs.Label.{is_entry_label}
 use Rattle.ifa_value.specs.declared.item.Key.TheVariants as key
 use Rattle.ifa_value.specs.Labels.{key_of_object, keys_of, keys_in, map_labels, label_number, label_numbers}
 use Rattle.ifa_value.specs.Values.{entry_of, item_of}
-use Rattle.import_expand.specs.Labels.{is_among, mark_at, AreMarked}
+use Rattle.import_expand.specs.Labels.{is_among, mark_at, IsMark, AreMarked}
 use Rattle.import_expand.proofs.ExpandLemmas.{get_same}
 
 differ : (x y : ℕ) → x ≡ y → (x == y) ≡ false → ⊥
@@ -92,20 +93,47 @@ above_at s xs x i v same high is other_number within =
 pub absent_at : (s xs : List ℕ) (x i : ℕ) (label : List ℕ) → s ≡ xs → label_number label ≡ x → IsNonDecreasing xs → ((k : ℕ) → k < i → get_or s k 0 < x) → (i < length xs → x < get_or xs i 0) → is_among xs label ≡ false
 absent_at s xs x i label same e rise low above = not_among xs x label e (not_found xs x i rise (subst (λ (l : List ℕ). (k : ℕ) → k < i → get_or l k 0 < x) same low) above)
 
--- numbers of which one has its mark, and the other hasn't
-other_mark : (marks : List Bool) (n x : ℕ) → get_or marks (mark_at n) false ≡ true → get_or marks (mark_at x) false ≡ false → (n == x) ≡ false
-other_mark marks n x its none = by_test (n == x) refl
+-- one number more, whose mark takes the place of the one that stood there
+pub marks_more : (factor : ℕ) (marks numbers : List ℕ) (n mark new : ℕ) → mark < length marks → mark ≡ mark_at factor (get_or numbers n 0) → IsMark n new → ((k : ℕ) → IsMark k (get_or marks mark 0) → new ≡ 255)
+    → ((k : ℕ) → k < n → IsMark k (get_or marks (mark_at factor (get_or numbers k 0)) 0)) → (k : ℕ) → k < n + 1 → IsMark k (get_or (set marks mark new) (mark_at factor (get_or numbers k 0)) 0)
+marks_more factor marks numbers n mark new within at its shared before =
+    below_more _ _ (λ k low. older k (before k low) (mark_at factor (get_or numbers k 0) == mark) refl) (subst (IsMark n) (sym (ap (λ i. get_or (set marks mark new) i 0) (sym at) ∙ get_or-set_same marks mark new 0 within)) its)
   where
-    by_test : (b : Bool) → (n == x) ≡ b → (n == x) ≡ false
-    by_test false e = e
-    by_test true e =
-        let same : n ≡ x = grind (arith, nat_tests, e) in
-        let both : true ≡ false = sym its ∙ ap (λ k. get_or marks (mark_at k) false) same ∙ none in
-        absurd (cc)
+    older : (k : ℕ) → IsMark k (get_or marks (mark_at factor (get_or numbers k 0)) 0) → (b : Bool) → (mark_at factor (get_or numbers k 0) == mark) ≡ b → IsMark k (get_or (set marks mark new) (mark_at factor (get_or numbers k 0)) 0)
+    older k had true e =
+        let same : mark_at factor (get_or numbers k 0) ≡ mark = grind (arith, nat_tests, e) in
+        let all : new ≡ 255 = shared k (subst (IsMark k) (ap (λ i. get_or marks i 0) same) had) in
+        λ other. ap (λ i. get_or (set marks mark new) i 0) same ∙ get_or-set_same marks mark new 0 within ∙ all
+    older k had false e = subst (IsMark k) (sym (get_or-set_other marks mark (mark_at factor (get_or numbers k 0)) new 0 (λ d. differ _ _ d e))) had
+
+-- no number at these places is this one
+pub unmarked : (xs : List ℕ) (x : ℕ) (label : List ℕ) → label_number label ≡ x → ((k : ℕ) → k < length xs → get_or xs k 0 ≡ x → ⊥) → is_among xs label ≡ false
+unmarked xs x label e none = not_among xs x label e (All-from_get_or (λ n. (n == x) ≡ false) xs 0 (λ k w. by_test k w (get_or xs k 0 == x) refl))
+  where
+    by_test : (k : ℕ) → k < length xs → (b : Bool) → (get_or xs k 0 == x) ≡ b → (get_or xs k 0 == x) ≡ false
+    by_test k w false is = is
+    by_test k w true is = absurd (none k w (grind (arith, nat_tests, is)))
+
+-- a number whose mark stands at its place
+its_mark : (factor : ℕ) (marks xs : List ℕ) (x k mark : ℕ) → AreMarked factor marks xs → get_or marks (mark_at factor x) 0 ≡ mark → k < length xs → get_or xs k 0 ≡ x → IsMark k mark
+its_mark factor marks xs x k mark all is within same = subst (IsMark k) (ap (λ n. get_or marks (mark_at factor n) 0) same ∙ is) (all k within)
 
 -- a number without a mark isn't among those that have theirs
-pub unmarked : (marks : List Bool) (xs : List ℕ) (x : ℕ) (label : List ℕ) → AreMarked marks xs → get_or marks (mark_at x) false ≡ false → label_number label ≡ x → is_among xs label ≡ false
-unmarked marks xs x label all none e = not_among xs x label e (All-weaker (λ n. get_or marks (mark_at n) false ≡ true) (λ n. (n == x) ≡ false) (λ n its. other_mark marks n x its none) xs all)
+pub no_mark : (factor : ℕ) (marks xs : List ℕ) (x : ℕ) (label : List ℕ) → AreMarked factor marks xs → get_or marks (mark_at factor x) 0 ≡ 0 → label_number label ≡ x → is_among xs label ≡ false
+no_mark factor marks xs x label all none e =
+    unmarked xs x label e (λ k within same. let h : 0 ≡ 255 = its_mark factor marks xs x k 0 all none within same (λ d. absurd (omega (arith, d))) in absurd (omega (arith, h)))
+
+-- a number with the mark of another's place, which no third one has, isn't among them
+pub other_place : (factor : ℕ) (marks xs : List ℕ) (x at : ℕ) (label : List ℕ) → AreMarked factor marks xs → get_or marks (mark_at factor x) 0 ≡ suc at → at < 254 → (at < length xs → get_or xs at 0 ≡ x → ⊥) → label_number label ≡ x → is_among xs label ≡ false
+other_place factor marks xs x at label all mark low other_number e = unmarked xs x label e (λ k within same. by_place k within same (k == at) refl)
+  where
+    by_place : (k : ℕ) → k < length xs → get_or xs k 0 ≡ x → (b : Bool) → (k == at) ≡ b → ⊥
+    by_place k within same true is =
+        let here : k ≡ at = grind (arith, nat_tests, is) in
+        other_number (omega (arith, within, here)) (ap (λ n. get_or xs n 0) (sym here) ∙ same)
+    by_place k within same false is =
+        let h : suc at ≡ 255 = its_mark factor marks xs x k (suc at) all mark within same (λ d. let here : k ≡ at = omega (arith, d) in differ k at here is) in
+        absurd (omega (arith, h, low))
 
 pub not_true : (b : Bool) → not b ≡ true → b ≡ false
 not_true false h = refl

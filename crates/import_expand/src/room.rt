@@ -3,7 +3,7 @@
 ghost use Rattle.std.specs.Prelude.{◌≡◌, ◌+◌, ◌≤◌, ◌∷◌, [], true, List, length, OnOk, IfOk, IfErr, IfSome};
 ghost use Rattle.std.specs.Option.{option_map};
 ghost use Rattle.ifa_value.specs.Object.{members};
-ghost use Rattle.ifa_value.specs.Values.{object_of};
+ghost use Rattle.ifa_value.specs.Values.{object_of, IsSimple};
 ghost use Rattle.serde_json.specs.Data.{Members};
 ghost use Rattle.import_expand.specs.Sources.{Live, sources_of, child_of, first_of, entries};
 ghost use Rattle.import_expand.specs.Books.{IsAt, IsCounted, Finds, Shows};
@@ -11,8 +11,9 @@ ghost use Rattle.import_expand.specs.Rooms.{objects_in, nodes_in, held, CountsAs
 ghost use Rattle.import_expand.specs.declared.limits.TheConstants.{MOST_HELD as GREATEST};
 
 use crate::book::Book;
+use crate::children::{child, child_by_label};
 use crate::exhausted::Exhausted;
-use crate::expansion::{are_absent, are_plain, first_with, listed_child, listed_sources};
+use crate::expansion::{are_plain, first_with, top_sources};
 use crate::held::Held;
 use crate::limits::{FEW_SOURCES, LITTLE_HELD};
 use crate::names::Names;
@@ -156,6 +157,22 @@ impl Room {
         first_with(self.sources(of), key, &self.book)
     }
 
+    /// The object of a number, where it gives itself alone as a source, and is no cut.
+    pub fn simple(&self, at: usize) -> Option<&IfaObject>
+        ensures { IfSome result (λ s. (o : Members) → IsAt (objects_in self.now) at o → (members s.now ≡ o) × IsSimple o) }
+    {
+        match self.book.object(at) {
+            Some(object) => {
+                if object.is_simple() {
+                    Some(object)
+                } else {
+                    None
+                }
+            }
+            None => None,
+        }
+    }
+
     /// Whether the way down leads through a node in any case: no source has `ns` or `translate`, whatever its shape.
     pub fn is_plain(&self, of: usize) -> bool
         ensures { (live : Live) (ns : List Members) → IsSound live self.now → IsNode self.now of ns → result ≡ true → IsPlain ns }
@@ -285,7 +302,7 @@ impl Room {
                 if of >= self.book.len() {
                     return Ok(0);
                 }
-                let found = listed_sources(alloc, names, of, &mut self.book)?;
+                let found = top_sources(alloc, names, of, &mut self.book)?;
                 let at = self.put(found)?;
                 self.keep_top(of, at)?;
                 Ok(at)
@@ -348,16 +365,6 @@ impl Room {
         Ok(())
     }
 
-    /// Whether no source of a node has an entry under a label.
-    fn is_absent(&self, of: usize, label: &[u8]) -> bool
-        ensures { result ≡ true → (live : Live) → IsSound live self.now → LacksEntry self.now of label.now }
-    {
-        match self.nodes.get(of) {
-            Some(sources) => are_absent(sources.numbers.as_slice(), label, &self.book),
-            None => false,
-        }
-    }
-
     /// The number of a node's child, which is found by its sources where it wasn't before.
     fn child_under<N: Names>(
         &mut self,
@@ -377,7 +384,7 @@ impl Room {
                 let Some(sources) = self.nodes.get(of) else {
                     return Ok(of);
                 };
-                let found = listed_child(
+                let found = child(
                     alloc,
                     names,
                     sources.numbers.as_slice(),
@@ -406,6 +413,38 @@ impl Room {
         ensures refused { IfErr result (GivesUp (N.served names.now) self.new) }
     {
         let at = self.child_under(alloc, names, of, b"*")?;
+        self.keep_child(alloc, of, label, at)?;
+        Ok(at)
+    }
+
+    /// The number of the child of a node with many sources under a label: each source is asked once for that, and only where none has an
+    /// entry for `*`.
+    fn child_of_many<N: Names>(
+        &mut self,
+        alloc: Global,
+        names: &N,
+        of: usize,
+        label: &[u8],
+    ) -> Result<usize, Exhausted>
+        requires sound { IsSound (N.served names.now) self.old }
+        ensures found { IfOk result (λ k. (ns : List Members) → IsNode self.old of ns → IsNode self.new k (child_of (N.served names.now) ns label.now)) }
+        ensures later { OnOk result (Later (N.served names.now) self.old self.new) }
+        ensures refused { IfErr result (GivesUp (N.served names.now) self.new) }
+    {
+        let Some(sources) = self.nodes.get(of) else {
+            return Ok(of);
+        };
+        let found = child_by_label(
+            alloc,
+            names,
+            sources.numbers.as_slice(),
+            label,
+            &mut self.book,
+        )?;
+        if found.len() == 0 {
+            return self.child_by_any(alloc, names, of, label);
+        }
+        let at = self.put_under(of, label, found)?;
         self.keep_child(alloc, of, label, at)?;
         Ok(at)
     }
@@ -440,15 +479,9 @@ impl Room {
         ensures refused { IfErr result (GivesUp (N.served names.now) self.new) }
     {
         if self.len(of) <= FEW_SOURCES {
-            let at = self.child_under(alloc, names, of, label)?;
-            return Ok(at);
+            return self.child_under(alloc, names, of, label);
         }
-        if self.is_absent(of, label) {
-            let at = self.child_by_any(alloc, names, of, label)?;
-            return Ok(at);
-        }
-        let at = self.child_under(alloc, names, of, label)?;
-        Ok(at)
+        self.child_of_many(alloc, names, of, label)
     }
 
     /// The number of a node's child under a label: its sources are those of the entries under the label, or, where no source has

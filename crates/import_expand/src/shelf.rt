@@ -86,7 +86,9 @@ impl Shelf {
         match self.find(value) {
             Some(object) => Ok(object),
             None => {
-                let object = SharedObject::to_share(alloc, read_value(alloc, value)?);
+                let mut object = read_value(alloc, value)?;
+                object.make(alloc);
+                let object = SharedObject::to_share(alloc, object);
                 if let Some(copy) = object.share() {
                     let _kept = self.keep(alloc, value, copy);
                 }

@@ -8,7 +8,7 @@ ghost use Rattle.dns_message.specs.Query.Reading.{Asks};
 ghost use Rattle.dns_message.specs.Reading.{reading_of};
 ghost use Rattle.dns_message.specs.declared.numbers.TheConstants.{LEAST_LIMIT, GREATEST_LIMIT};
 ghost use Rattle.import_expand.specs.declared.limits.TheConstants.{MOST_HELD};
-ghost use Rattle.bit_resolver.specs.Replies.{told, IsWithin};
+ghost use Rattle.bit_resolver.specs.Replies.{told, IsReplied, IsWithin, MayReply, replied_size};
 ghost use Rattle.answer_cache.specs.Cached.{held};
 ghost use Rattle.answer_cache.specs.Keys.{key_of};
 ghost use Rattle.kept_answers.specs.Kept.{Kept, IsKept, reply_with};
@@ -18,12 +18,12 @@ use crate::answers::Answers;
 use crate::giving::give;
 use crate::keeping::keep;
 use crate::limits::LONGEST_KEPT;
-use crate::lower::lower_in;
+use crate::lower::{ROOM, lower_in};
 use answer_cache::{AskedKey, mark_of};
 use bit_resolver::{Answered, CLASS_IN, Replied, Zone, reply_to_question};
 use dns_message::{Asked, Question, Transport, read_query};
-use domain_text::{LONGEST_WIRE, Name};
-use import_expand::Names;
+use domain_text::Name;
+use import_expand::{Names, Room};
 use std::alloc::Global;
 
 /// The zone of a host. It is made for what isn't kept alone, since it takes a copy of the host.
@@ -34,6 +34,50 @@ fn zone_of(host: &Name, serial: u32) -> Zone
         host: host.copy(),
         serial,
     }
+}
+
+/// Writes the reply to a question by the names that are served. What is kept has no need of the zone, whose room is cleared first.
+fn reply_by_names<N: Names>(
+    alloc: Global,
+    names: &N,
+    host: &Name,
+    serial: u32,
+    asked: &Question<'_>,
+    limit: usize,
+    buffer: &mut [u8],
+    room: &mut Room,
+    spent: &mut usize,
+) -> Replied
+    requires within { limit ≤ length buffer.old }
+    requires least { LEAST_LIMIT ≤ limit }
+    requires greatest { limit ≤ GREATEST_LIMIT }
+    requires name { IsName asked.now.name.now }
+    ensures text { IsReplied (N.served names.now) (zone_at host.now serial) limit (query_of asked.now) result buffer.new }
+    ensures within { replied_size result ≤ limit }
+    ensures bound { spent.new ≤ MOST_HELD }
+{
+    let zone = zone_of(host, serial);
+    reply_to_question(alloc, names, &zone, asked, limit, buffer, room, spent)
+}
+
+/// Writes the reply to a message by the names that are served.
+fn answer_by_names<N: Names>(
+    alloc: Global,
+    names: &N,
+    host: &Name,
+    serial: u32,
+    message: &[u8],
+    transport: Transport,
+    buffer: &mut [u8],
+    spent: &mut usize,
+) -> Answered
+    requires { most_of transport ≤ length buffer.old }
+    ensures reply { MayReply (N.served names.now) (zone_at host.now serial) transport message.now (told result buffer.new) }
+    ensures most { IsWithin (most_of transport) result }
+    ensures bound { spent.new ≤ MOST_HELD }
+{
+    let zone = zone_of(host, serial);
+    bit_resolver::answer(alloc, names, &zone, message, transport, buffer, spent)
 }
 
 impl Answers {
@@ -65,12 +109,7 @@ impl Answers {
     }
 
     /// What the answer to a question is kept under, in a reply of at most so many bytes. The name lies in the room.
-    fn key<'a>(
-        &self,
-        asked: &Question<'_>,
-        limit: usize,
-        room: &'a mut [u8; LONGEST_WIRE],
-    ) -> AskedKey<'a>
+    fn key<'a>(&self, asked: &Question<'_>, limit: usize, room: &'a mut [u8; ROOM]) -> AskedKey<'a>
         requires name { IsName asked.now.name.now }
         requires greatest { limit ≤ GREATEST_LIMIT }
         ensures key { key_of result ≡ key_for self.now.accepted limit (query_of asked.now) }
@@ -143,15 +182,16 @@ impl Answers {
         ensures bound { spent.new ≤ MOST_HELD }
     {
         *spent = 0;
-        let mut name = [0; LONGEST_WIRE];
+        let mut name = [0; ROOM];
         let key = self.key(asked, limit, &mut name);
         if let Some(size) = self.give_kept(key, asked, buffer) {
             return size;
         }
-        match reply_to_question(
+        match reply_by_names(
             alloc,
             names,
-            &zone_of(host, serial),
+            host,
+            serial,
             asked,
             limit,
             buffer,
@@ -195,7 +235,8 @@ impl Answers {
                 alloc, names, host, serial, &asked, limit, buffer, spent,
             ));
         }
-        let zone = zone_of(host, serial);
-        bit_resolver::answer(alloc, names, &zone, message, transport, buffer, spent)
+        answer_by_names(
+            alloc, names, host, serial, message, transport, buffer, spent,
+        )
     }
 }

@@ -11,7 +11,7 @@ pub returns-in_ok-keep_child-in-None-clause-found : goal.returns-in_ok-keep_chil
 returns-in_ok-keep_child-in-None-clause-found g c ns node =
     let live = g.N.Names.served c.args.names.now in
     let a = c.args.self.now in
-    let b : Room = record a { book = c.listed_child.new.book } in
+    let b : Room = record a { book = c.child.new.book } in
     let s = c.in-Some-get.sources.now in
     let w = found_at a.nodes.items c.deref.result.now c.args.of s c.deref.ensures.value c.in-Some-get.ensures.lookup.0 c.in-Some-get.ensures.lookup.1 in
     let shown = c.in_ok-found-in-None.ensures.found ns (shows_by (objects_in a) s.numbers.items c.as_slice.result.now ns (sym c.as_slice.ensures.value) (node_shown a c.args.of (numbers_of s) ns (node_numbers a.nodes.items c.args.of s w.0 w.1) node)) in
@@ -23,7 +23,7 @@ pub returns-in_ok-keep_child-in-None-clause-later : goal.returns-in_ok-keep_chil
 returns-in_ok-keep_child-in-None-clause-later g c =
     let live = g.N.Names.served c.args.names.now in
     let a = c.args.self.now in
-    let b : Room = record a { book = c.listed_child.new.book } in
+    let b : Room = record a { book = c.child.new.book } in
     let s = c.in-Some-get.sources.now in
     let w = found_at a.nodes.items c.deref.result.now c.args.of s c.deref.ensures.value c.in-Some-get.ensures.lookup.0 c.in-Some-get.ensures.lookup.1 in
     let e = node_exists live a c.args.of s c.requires.sound w.0 w.1 in

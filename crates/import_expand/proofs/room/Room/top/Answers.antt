@@ -12,7 +12,7 @@ pub returns-in_ok-keep_top-in-None-clause-found : goal.returns-in_ok-keep_top-in
 returns-in_ok-keep_top-in-None-clause-found g c o here =
     let live = g.N.Names.served c.args.names.now in
     let a = c.args.self.now in
-    let b : Room = record a { book = c.listed_sources.new.book } in
+    let b : Room = record a { book = c.top_sources.new.book } in
     let shown = c.in_ok-found-in-None.ensures.found o here in
     let new = placed live a b c.put.new.self c.in_ok-at-in-None.at (sources_of live 0 o) (book_later live a b c.in_ok-found-in-None.ensures.later refl refl refl c.requires.sound) (c.in_ok-at-in-None.ensures.keeps (sources_of live 0 o) shown) (c.in_ok-at-in-None.ensures.at (sources_of live 0 o) shown) in
     (top_new live a c.put.new.self c.keep_top.new.self c.args.of c.in_ok-at-in-None.at o here new c.in_ok-keep_top-in-None.ensures.later).node
@@ -21,7 +21,7 @@ pub returns-in_ok-keep_top-in-None-clause-later : goal.returns-in_ok-keep_top-in
 returns-in_ok-keep_top-in-None-clause-later g c =
     let live = g.N.Names.served c.args.names.now in
     let a = c.args.self.now in
-    let b : Room = record a { book = c.listed_sources.new.book } in
+    let b : Room = record a { book = c.top_sources.new.book } in
     let o = get_or (objects_in a) c.args.of no_members in
     let here = slice_get-get_or (objects_in a) c.args.of no_members (omega arith) in
     let shown = c.in_ok-found-in-None.ensures.found o here in

@@ -1,7 +1,7 @@
 use Rattle.std.proofs.Common.{Some, take, subst}
 use Rattle.dns_message.specs.Query.{query_of}
 use Rattle.dns_message.specs.Reading.{reading_of}
-use Rattle.bit_resolver.specs.Replies.{told, MayReply}
+use Rattle.bit_resolver.specs.Replies.{told}
 use Rattle.kept_answers.specs.Answering.{AnswersQuestion, zone_at}
 use Rattle.kept_answers.proofs.HoldingLemmas.{held_or_missed}
 use Rattle.kept_answers.proofs.MessageLemmas.{by_question, by_names}
@@ -17,8 +17,8 @@ returns-in-Some-clause-message g c =
 
 pub returns-clause-message : goal.returns-clause-message
 returns-clause-message g c =
-    by_names (g.N.Names.served c.args.names.now) (zone_at c.args.host.now c.args.serial) c.args.transport c.args.message.now (told c.answer.result c.answer.new.buffer) c.args.self.now c.in_default.ensures.none
-    (subst (λ zone. MayReply (g.N.Names.served c.args.names.now) zone c.args.transport c.args.message.now (told c.answer.result c.answer.new.buffer)) c.zone_of-zone.ensures c.answer.ensures.reply)
+    by_names (g.N.Names.served c.args.names.now) (zone_at c.args.host.now c.args.serial) c.args.transport c.args.message.now (told c.answer_by_names.result c.answer_by_names.new.buffer) c.args.self.now c.in_default.ensures.none
+    c.answer_by_names.ensures.reply
 
 pub returns-in-Some-clause-held : goal.returns-in-Some-clause-held
 returns-in-Some-clause-held g c =
@@ -28,4 +28,4 @@ returns-in-Some-clause-held g c =
 pub returns-clause-held : goal.returns-clause-held
 returns-clause-held g c =
     held_or_missed c.args.self.now c.args.self.now (g.N.Names.served c.args.names.now) (zone_at c.args.host.now c.args.serial) c.args.transport (reading_of c.args.message.now)
-    (told c.answer.result c.answer.new.buffer) (returns-clause-message g c).keeps
+    (told c.answer_by_names.result c.answer_by_names.new.buffer) (returns-clause-message g c).keeps

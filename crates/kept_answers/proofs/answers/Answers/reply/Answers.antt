@@ -1,7 +1,5 @@
 use Rattle.std.proofs.Common.{◌≡◌, take, None, subst, ◌∙◌}
 use Rattle.dns_message.specs.Query.{query_of}
-use Rattle.bit_resolver.specs.Answers.{answer_to}
-use Rattle.bit_resolver.specs.Replies.{answer_text}
 use Rattle.answer_cache.specs.Cached.{held}
 use Rattle.answer_cache.specs.declared.cache_key.CacheKey.{CacheKey}
 use Rattle.kept_answers.specs.Answering.{Answering, GivesKept, Stores, key_for, kept_answer, zone_at}
@@ -14,7 +12,7 @@ keep-requires-clause-kept g c =
     let live = g.N.Names.served c.args.names.now in
     let zone = zone_at c.args.host.now c.args.serial in
     let q = query_of c.args.asked.now in
-    let text = subst (λ z. take c.in-Answer.size c.reply_to_question.new.buffer ≡ answer_text c.args.limit q (answer_to live z q)) c.zone_of.ensures c.in-Answer.ensures.text in
+    let text = c.in-Answer.ensures.text in
     (kept_answer live zone c.args.limit q, answer_fits live zone c.args.limit q c.requires.greatest, text ∙ answer_kept live zone c.args.limit q)
 
 pub returns-in-Some-clause-answers : goal.returns-in-Some-clause-answers
@@ -30,12 +28,12 @@ returns-in-Answer-clause-answers g c =
     let zone = zone_at c.args.host.now c.args.serial in
     let q = query_of c.args.asked.now in
     let old = c.args.self.now in
-    let text = subst (λ z. take c.in-Answer.size c.reply_to_question.new.buffer ≡ answer_text c.args.limit q (answer_to live z q)) c.zone_of.ensures c.in-Answer.ensures.text in
+    let text = c.in-Answer.ensures.text in
     let kept = kept_answer live zone c.args.limit q in
     let none = c.in_default.ensures.none in
     let fits = answer_fits live zone c.args.limit q c.requires.greatest in
     let stores = c.keep.ensures kept fits (text ∙ answer_kept live zone c.args.limit q) in
-    by_answer live zone c.args.limit q old c.requires.looked_for (take c.in-Answer.size c.reply_to_question.new.buffer) c.keep.new.self
+    by_answer live zone c.args.limit q old c.requires.looked_for (take c.in-Answer.size c.reply_by_names.new.buffer) c.keep.new.self
     (subst (λ (key : CacheKey). held key old.cache ≡ None) c.key-key.ensures.key none.0) text
     (subst (λ (before : Answering). Stores (key_for old.accepted c.args.limit q) kept before c.keep.new.self) (c.self.view_is ∙ none.1) (subst (λ (key : CacheKey). Stores key kept (record { cache = c.self.inside.cache; accepted = c.self.inside.accepted }) c.keep.new.self) c.key-key.ensures.key stores))
 
@@ -43,5 +41,5 @@ pub returns-in-Failure-clause-answers : goal.returns-in-Failure-clause-answers
 returns-in-Failure-clause-answers g c =
     let none = c.in_default.ensures.none in
     by_failure (g.N.Names.served c.args.names.now) (zone_at c.args.host.now c.args.serial) c.args.limit (query_of c.args.asked.now) c.args.self.now c.requires.looked_for
-    (take c.in-Failure.size c.reply_to_question.new.buffer) (record { cache = c.self.inside.cache; accepted = c.self.inside.accepted })
+    (take c.in-Failure.size c.reply_by_names.new.buffer) (record { cache = c.self.inside.cache; accepted = c.self.inside.accepted })
     (subst (λ (key : CacheKey). held key c.args.self.now.cache ≡ None) c.key-key.ensures.key none.0) c.in-Failure.ensures.text (c.self.view_is ∙ none.1)

@@ -1,0 +1,7 @@
+use Rattle.std.proofs.Common.{sym, []}
+use Rattle.import_expand.specs.Books.{objects}
+use Rattle.import_expand.proofs.ExpandLemmas.{shows_by}
+use Rattle.import_expand.proofs.expansion.top_sources.Goals as goal
+
+pub returns-clause-found : goal.returns-clause-found
+returns-clause-found g c o here = c.in_ok-expand.ensures.added o [] here (shows_by (objects c.args.book.now) [] c.new-found.result.items [] (sym c.new-found.ensures.items) tt)
