@@ -4,14 +4,19 @@
 each label; `d/x` imports it, and is asked for under many labels. The others are that in other forms, and values of the greatest
 length that say little.
 """
+import collections
 import itertools
 import json
 import random
 import string
 import typing
 
+import fallen_names
+
 A, TXT = 1, 16
 LONGEST_VALUE = 1023
+# So many values that were read stand on the shelf, of so many bytes at most, and so many of one message use it.
+SHELVED, LONGEST_SHELVED, FROM_SHELF = 320, 256, 16
 # So many bytes are held for one message: of the values that are read, and of the entries that are taken out of them, and one for each
 # source that is asked for a label.
 MOST_HELD = 65_536
@@ -254,9 +259,9 @@ def labels_by_chance(chance, room):
 def alike(entries, asked, hops=8):
     """A node of 256 objects that differ, each with a map of such entries: each is asked for each of these labels, on each of so many hops."""
     _, outer, inner, leaves = tree()
-    found = {leaf: {"map": entries()} for leaf in leaves}
+    found = {leaf: {"map": entries(leaf)} for leaf in leaves}
     for name, below_it in {**inner, **outer}.items():
-        found[name] = {"import": [[it] for it in below_it], "map": entries()}
+        found[name] = {"import": [[it] for it in below_it], "map": entries(name)}
     tops = [[name] for name in outer]
     for hop in range(hops):
         more = {"import": [[f"d/x{hop}"], *tops[:7]], "alias": asked(f"x{hop + 1}.bit.")}
@@ -267,13 +272,13 @@ def alike(entries, asked, hops=8):
 def by_size(size, hops=8):
     """The maps have so many bytes, and no label that is asked."""
     chance, *_ = tree()
-    return alike(lambda: labels_by_chance(chance, size), different, hops)
+    return alike(lambda _: labels_by_chance(chance, size), different, hops)
 
 
 def hollow(labels=32):
     """The maps have so many of the labels that are asked, and no object under any."""
     asked = different("").split(".")[:labels]
-    return alike(lambda: dict.fromkeys(asked, 0), different)
+    return alike(lambda _: dict.fromkeys(asked, 0), different)
 
 
 # Labels that begin by these, and go on alike, have one number.
@@ -289,18 +294,60 @@ def mistaken(labels=10):
     """The maps have labels with the numbers of so many of those that are asked."""
     held, asked = ONE_NUMBER
     there = of_one_number(held, labels=labels).split(".")[:-1]
-    return alike(lambda: {label: {} for label in there}, lambda top: of_one_number(asked, top))
+    return alike(lambda _: {label: {} for label in there}, lambda top: of_one_number(asked, top))
 
 
-# What a label's number is made of, and so many remainders it may leave: by these an object tells at once of most labels that it lacks them.
-WRAP, BASE, REMAINDERS = 1 << 55, 257, 251
+# What a label's number is made of; and the mark of a number, of which a map has 256: by these an object tells at once of most labels that
+# it lacks them. Each map has a factor of its own, by how many labels were listed before its own.
+WRAP, BASE, SPREAD = 1 << 55, 257, 0xFF51_AFD7_ED55_8CCD
 
 
-def remainder_of(label):
+def number_of(label):
     number = 0
     for byte in label.encode():
         number = number % WRAP * BASE + byte + 1
-    return number % REMAINDERS
+    return number
+
+
+def mark_of(number, listed):
+    spread = (listed + 1) * SPREAD % 2**64
+    factor = (spread ^ spread >> 32) * SPREAD % 2**64 | 1
+    return number * factor % 2**64 >> 56
+
+
+def in_order():
+    """The names of those objects, each behind those that imports lead to before."""
+    _, outer, inner, _ = tree()
+    for name, below_it in outer.items():
+        yield name
+        for it in below_it:
+            yield from (it, *inner[it])
+
+
+def with_marks(times, count=20):
+    """The maps have at most so many labels of three letters, none of which is asked, so many of them under each of the marks that most of
+    the labels have that are asked."""
+    others = ["".join(it) for it in itertools.product(string.ascii_lowercase, repeat=3)]
+    random.Random(4).shuffle(others)
+    found, listed, numbers = {}, 1, [number_of(label) for label in different("").split(".")[:MOST_DIFFERENT]]
+    for name in in_order():
+        marks = collections.Counter(mark_of(number, listed) for number in numbers)
+        wanted = {mark: times for mark, _ in marks.most_common(count // times)}
+        found[name] = {}
+        for text in others:
+            if wanted.get(mark := mark_of(number_of(text), listed)):
+                wanted[mark] -= 1
+                found[name][text] = {}
+        listed += len(found[name])
+    return alike(lambda name: found[name], different)
+
+
+# So many remainders may the number of a label leave. Labels that leave few of them are dear where a map tells by these that it lacks them.
+REMAINDERS = 251
+
+
+def remainder_of(label):
+    return number_of(label) % REMAINDERS
 
 
 def by_remainder(texts):
@@ -326,7 +373,7 @@ def left_alike(room, count, length=2):
     others = [it for it in by_remainder(labels_of(length + 1)) if remainder_of(it[0]) in set(map(remainder_of, asked))]
     chance = random.Random(4)
 
-    def entries():
+    def entries(_):
         each = itertools.cycle(others)
         return {chance.choice(next(each)): {} for _ in range(room // (length + 7))}
 
@@ -392,6 +439,8 @@ def many():
     for count, length in ((80, 2), (61, 3)):
         asked = ".".join(of_few_remainders(count, length))
         yield Row(f"labels of {length} letters of few remainders in {MANY}", left_alike(200, count, length), f"{asked}.x0.bit.", 2)
+    yield Row(f"labels with the marks of others in {MANY}", with_marks(1), different("x0.bit."), 2)
+    yield Row(f"labels with marks that others share in {MANY}", with_marks(2), different("x0.bit."), 2)
     yield Row(f"each label in {MANY}", joined(), joined_name(0), 0)
     yield Row(f"each label in {MANY}, an entry in each", spread(), joined_name(0), 2)
     yield Row(f"each label in {MANY}, an entry in each, names of each hop", apart(), joined_name(0), 2)
@@ -436,6 +485,27 @@ def bounds():
     yield Row("an entry a byte too large", whole(ENTRY_SIZE + SOURCES - 1, 1, asked.items()), "a.x.bit.", 2)
     yield Row("sources that take the last of it", whole(SOURCES, 1), "a.x.bit.", 3)
     yield Row("a source too many", whole(SOURCES - 1, 1), "a.x.bit.", 2)
+
+
+def shelved():
+    """A name for each value that the shelf has room for, which are made for memory: maps in one another."""
+    for number in range(SHELVED):
+        head = f'{{"k{number:03}":'
+        levels = (LONGEST_SHELVED - len(head) - 2) // 5
+        yield f"d/s{number}", (head + '{"":' * levels + "0" + "}" * (levels + 1)).ljust(LONGEST_SHELVED).encode()
+
+
+def texts_of_one_hash(count):
+    """So many texts for the shelf whose hashes are one: they say nothing, and their first 208 bytes are the same."""
+    return [fallen_names.FRONT + name for name in itertools.islice(fallen_names.of_one_mark(), count)]
+
+
+def fallen_values():
+    """Names whose values have one hash: as many as stand on the shelf; and two names that bring as many more as one message may look for
+    there, with their own."""
+    names = {f"d/s{number}": text for number, text in enumerate(texts_of_one_hash(SHELVED + FROM_SHELF - 2))}
+    more = [[name] for name in list(names)[SHELVED:]]
+    return {**names, "d/b": {"import": more[7:]}, "d/x": {"import": [["d/b"], *more[:7]]}}
 
 
 def wide():
