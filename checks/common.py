@@ -14,7 +14,7 @@ HERE = "127.0.0.1"
 sys.path.insert(0, str(TOP / "bench"))
 
 from blocks import pieces
-from ports import free_port, server_ports
+from ports import free_port, kept_port, server_ports
 from stores import PROGRAM, empty_folder, knows_starts, made_folder
 
 BAD_WORDS = 2

@@ -19,7 +19,7 @@ import time
 
 from .chains import FIRST, MATURITY, NEW, Chains, first_out, hash160, name_script, named, outpoint
 
-from common import free_port
+from common import kept_port
 
 FIRST_SIGHT = "user:word"
 
@@ -100,7 +100,7 @@ class FakeNode:
 
     def __init__(self, chains, tip, port=None, cookie=None):
         self.chains, self.tip, self.cookie = chains, tip, cookie
-        self.port, self.listener, self.best = port or free_port(socket.SOCK_STREAM), None, []
+        self.port, self.listener, self.best = port or kept_port(), None, []
         self.before, self.asked, self.lock = None, [], threading.RLock()
         # What the node doesn't know (any more); what it has rejected; and what a block's work is above that of one block.
         self.forgotten, self.rejected, self.heavy = set(), set(), {}

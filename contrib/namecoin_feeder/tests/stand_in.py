@@ -12,7 +12,7 @@ import threading
 from . import TOP  # noqa: F401  (puts the model on the path)
 
 from blocks import CONNECT, DISCONNECT, QUERY, SAVE, block_hash
-from common import free_port, reply
+from common import kept_port, reply
 from images_model import Reader
 from model import Model
 from stores import PROGRAM, files_of, gates_of, journals_of
@@ -85,7 +85,7 @@ class StandIn:
     """`before` is called with each frame before it is answered; what it gives, where it isn't None, is the answer."""
 
     def __init__(self, chain):
-        self.chain, self.port, self.before = chain, free_port(socket.SOCK_STREAM), None
+        self.chain, self.port, self.before = chain, kept_port(), None
         self.frames, self.codes, self.tip, self.connections = 0, [], chain_tip(chain), 0
         # The kinds that are read, and the codes of the replies to saves, which aren't among the others.
         self.kinds, self.saves = dict(KINDS), []
