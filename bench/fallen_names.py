@@ -8,6 +8,7 @@ Where b ^ M is 2^21 that product is s ^ a turned by 21 bits: then 8 bytes more c
 the same for all. So such names have one mark, and their bytes are compared. The mark of a longer one is its SipHash-1-3, with both keys
 0: of those each has a mark of its own, and a type is looked for with which its key falls into the row.
 """
+import functools
 import itertools
 import random
 
@@ -20,6 +21,9 @@ A, LIMIT = 1, 512
 KINDS = range(256, 65280)
 # The bits of a hash, of which the map keeps 32, that tell the group of 128 where a look-up begins, and what it compares there.
 ROW = 0xFF00007F
+# The same of the map of the index's names, with 64 groups; and how long those names are.
+TABLE_ROW, TABLE_NAME = 0xFF00003F, 11
+LETTERS = b"abcdefghijklmnopqrstuvwxyz0123456789"
 # What is the same in all of them: it may be anything that leaves enough names.
 SAME = 0x8182838485868788
 # Four labels of 51 bytes; a label of 26, and what follows it in the wire form of a name (RFC 1035, 3.1).
@@ -48,9 +52,8 @@ def of_one_mark(seed=0):
 def spread(front=FRONT, seed=0):
     """As many names of that length, behind this front, whose keys have hashes of their own."""
     chance = random.Random(seed)
-    letters = b"abcdefghijklmnopqrstuvwxyz0123456789"
     for number in itertools.count():
-        yield front + bytes([LENGTH]) + b"%015d" % number + bytes(chance.choices(letters, k=8)) + BEHIND
+        yield front + bytes([LENGTH]) + b"%015d" % number + bytes(chance.choices(LETTERS, k=8)) + BEHIND
 
 
 def sip_round(v):
@@ -74,6 +77,30 @@ def sip(text):
     for _ in range(3):
         v = sip_round(v)
     return v[0] ^ v[1] ^ v[2] ^ v[3]
+
+
+def in_table_row(count, seed=0):
+    """Names of the index whose keys fall into one row of the map that has them, as long as that has at most 64 rows, which are of nine
+    names; as many as are asked for, none twice. A name is hashed behind its length, byte for byte."""
+    chance, factor, found = random.Random(seed), M ^ 2, {}
+
+    def behind(state, byte):
+        product = (state ^ byte * 0x10101) * factor
+        return product % WORD ^ product >> 64
+
+    product = (STATE ^ TABLE_NAME) * (M ^ 16)
+    begin = product % WORD ^ product >> 64
+    while len(found) < count:
+        front = b"d/" + bytes(chance.choices(LETTERS, k=TABLE_NAME - 4))
+        state = functools.reduce(behind, front, begin)
+        for byte in LETTERS:
+            last = behind(state, byte)
+            for other in LETTERS:
+                product = (last ^ other * 0x10101) * factor
+                half = product % WORD ^ product >> 64
+                if (half ^ half >> 32) & TABLE_ROW == 0:
+                    found[front + bytes((byte, other))] = None
+    return list(found)[:count]
 
 
 def types_in_row(mark, row):
